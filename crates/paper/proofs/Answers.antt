@@ -1,0 +1,133 @@
+-- Laws of `Answer`: the paper's numbers give each answer back, so two different answers never have the same numbers.
+-- Assumes nothing.
+use Prim.Native.Nat.{ℕ, _-_}
+use mathlib.Core.Path.{_≡_, refl, sym, ap, _∙_}
+use mathlib.Core.List.{List, [], _∷_}
+use lib.ListN.{getD}
+use Rattle.paper.specs.Answer.{Answer, reportAsPaper, checkedAsPaper, sizedAsPaper, joinedAsPaper}
+use Rattle.paper.specs.declared.Report.{Report}
+use Rattle.paper.specs.declared.Report.the-variants.{Length, Opening, HeaderLength, Sections, Strings, RecordCut, UnknownKind, ManyTypes, SlicesShort, Head, Named, Tail, Reference, Endless, Layout}
+use Rattle.paper.specs.declared.Checked.{Checked}
+use Rattle.paper.specs.declared.Checked.the-variants.{Accepted, Refused}
+use Rattle.paper.specs.declared.Sized.{Sized}
+use Rattle.paper.specs.declared.Sized.the-variants.{Exact, NoSize, Overflow, Lost, TooFar}
+use Rattle.paper.specs.declared.Joined.{Joined}
+use Rattle.paper.specs.declared.Joined.the-variants.{Whole, FirstRefused, SecondRefused, TooMany, TooLong, OutputShort}
+
+-- a map that another undoes sends no two things to one
+module _ {A : Type 0} (f : A → Answer) (back : Answer → A) (undoes : (a : A) → back (f a) ≡ a) where
+  one-to-one : (a b : A) → f a ≡ f b → a ≡ b
+  one-to-one a b e = sym (undoes a) ∙ ap back e ∙ undoes b
+
+-- ── a check's answer ──
+
+-- what number n and type t mean: 0 the count, else the report
+checkedOf : ℕ → ℕ → Checked
+checkedOf n t =
+    getD
+    (Accepted t
+    ∷ Refused Length
+    ∷ Refused Opening
+    ∷ Refused HeaderLength
+    ∷ Refused Sections
+    ∷ Refused Strings
+    ∷ Refused (RecordCut (record { 0 = t }))
+    ∷ Refused (UnknownKind (record { 0 = t }))
+    ∷ Refused ManyTypes
+    ∷ Refused SlicesShort
+    ∷ Refused (Head (record { 0 = t }))
+    ∷ Refused (Named (record { 0 = t }))
+    ∷ Refused (Tail (record { 0 = t }))
+    ∷ Refused (Reference (record { 0 = t }))
+    ∷ Refused (Endless (record { 0 = t }))
+    ∷ Refused (Layout (record { 0 = t }))
+    ∷ [])
+    n (Accepted t)
+
+checkedBack : Answer → Checked
+checkedBack a = checkedOf (a .number) (a .t)
+
+refused-back : (r : Report) → checkedBack (reportAsPaper r) ≡ Refused r
+unfolding reportAsPaper checkedBack checkedOf
+refused-back Length = refl
+refused-back Opening = refl
+refused-back HeaderLength = refl
+refused-back Sections = refl
+refused-back Strings = refl
+refused-back (RecordCut t) = refl
+refused-back (UnknownKind t) = refl
+refused-back ManyTypes = refl
+refused-back SlicesShort = refl
+refused-back (Head t) = refl
+refused-back (Named t) = refl
+refused-back (Tail t) = refl
+refused-back (Reference t) = refl
+refused-back (Endless t) = refl
+refused-back (Layout t) = refl
+
+checked-back : (c : Checked) → checkedBack (checkedAsPaper c) ≡ c
+unfolding checkedAsPaper checkedBack checkedOf
+checked-back (Accepted n) = refl
+checked-back (Refused r) = refused-back r
+
+-- ── a report ──
+
+abbrev reportIn : Checked → Report
+reportIn (Accepted n) = Length
+reportIn (Refused r) = r
+
+reportBack : Answer → Report
+reportBack a = reportIn (checkedBack a)
+
+report-back : (r : Report) → reportBack (reportAsPaper r) ≡ r
+unfolding reportBack
+report-back r = ap reportIn (refused-back r)
+
+-- ── a size ──
+
+sizedBack : Answer → Sized
+sizedBack a = getD (Exact (a .p) ∷ NoSize ∷ Overflow ∷ []) (a .number) (getD (Lost ∷ []) (a .number - 21) TooFar)
+
+sized-back : (s : Sized) → sizedBack (sizedAsPaper s) ≡ s
+unfolding sizedAsPaper sizedBack
+sized-back (Exact n) = refl
+sized-back NoSize = refl
+sized-back Overflow = refl
+sized-back Lost = refl
+sized-back TooFar = refl
+
+-- ── a join ──
+
+-- the report inside, from the inner number and the type
+reportInside : Answer → Report
+reportInside a = reportIn (checkedOf (a .inner) (a .t))
+
+joinedBack : Answer → Joined
+joinedBack a =
+    getD (Whole (a .p) ∷ []) (a .number)
+    (getD
+    (FirstRefused (reportInside a) ∷ SecondRefused (reportInside a) ∷ TooMany ∷ TooLong ∷ [])
+    (a .number - 16) OutputShort)
+
+joined-back : (j : Joined) → joinedBack (joinedAsPaper j) ≡ j
+unfolding joinedAsPaper joinedBack reportInside reportBack checkedBack
+joined-back (Whole n) = refl
+joined-back (FirstRefused r) = ap FirstRefused (report-back r)
+joined-back (SecondRefused r) = ap SecondRefused (report-back r)
+joined-back TooMany = refl
+joined-back TooLong = refl
+joined-back OutputShort = refl
+
+-- ── two answers with the same numbers are one ──
+
+pub report-one : (a b : Report) → reportAsPaper a ≡ reportAsPaper b → a ≡ b
+report-one = one-to-one reportAsPaper reportBack report-back
+
+pub checked-one : (a b : Checked) → checkedAsPaper a ≡ checkedAsPaper b → a ≡ b
+checked-one = one-to-one checkedAsPaper checkedBack checked-back
+
+pub sized-one : (a b : Sized) → sizedAsPaper a ≡ sizedAsPaper b → a ≡ b
+sized-one = one-to-one sizedAsPaper sizedBack sized-back
+
+pub joined-one : (a b : Joined) → joinedAsPaper a ≡ joinedAsPaper b → a ≡ b
+joined-one = one-to-one joinedAsPaper joinedBack joined-back

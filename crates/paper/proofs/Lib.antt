@@ -1,0 +1,4 @@
+pub mod Answers
+pub mod Words
+pub mod Rename
+pub mod Bench

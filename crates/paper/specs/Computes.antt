@@ -1,0 +1,24 @@
+-- All that a computed check has to see through, in one name: a proof that says `unfolding computes` runs the definitions.
+use Rattle.paper.specs.Answer.{reportAsPaper, checkedAsPaper, sizedAsPaper, joinedAsPaper}
+use Rattle.paper.specs.Word.{wordAt, putWord}
+use Rattle.paper.specs.Kind.{rows, rowOf}
+use Rattle.paper.specs.Table.{tailLength, tailRoles}
+use Rattle.paper.specs.Header.{typeOff, typeLen, strOff, strLen, stringsIn, lengthBad, openingBad, headerLengthBad, sectionsBad, stringsBad, headerReport}
+use Rattle.paper.specs.Walk.{walkRecord, typeWords, walk, tableOf, bytesOf, placesOf}
+use Rattle.paper.specs.Name.{nameIn, nameless, nameAt, isDigit, isLetter, isSectionName}
+use Rattle.paper.specs.Heads.{spareZero, headOk, headBad}
+use Rattle.paper.specs.Names.{nameOk, namesOk, nameBad}
+use Rattle.paper.specs.Tails.{intOk, linkageOk, isLast00, tailOk, tailBad}
+use Rattle.paper.specs.References.{isPlain, refOk, refsOk, refBad}
+use Rattle.paper.specs.Chain.{heldBy, endless}
+use Rattle.paper.specs.Size.{stepIn, exactSize, hasSize, smallSize, hasSmallSize, stepAtPlace, stepAt, sizeAsked, sizeOf}
+use Rattle.paper.specs.Span.{baseOf, isRegular, wholeSpan, plainSpan, fieldSpan, spanOf}
+use Rattle.paper.specs.Section.{entryCovers, sectionOk}
+use Rattle.paper.specs.Layout.{memberOk, offsetsOk, membersOk, arrayOk, functionOk, partsOf, tagOk, layoutOk, layoutBad}
+use Rattle.paper.specs.Gate.{phase1, phase2, shortSlices, phase3, phase4, phase5, phase6, overTypes, tableReport, refusal, indexOf, gate}
+use Rattle.paper.specs.Rename.{rename}
+use Rattle.paper.specs.Join.{joinTables, joinedBytes, limitReport, joinRefusal, join}
+
+unfoldable pub computes : Unit {0}
+unfolding reportAsPaper checkedAsPaper sizedAsPaper joinedAsPaper wordAt putWord rows rowOf tailLength tailRoles typeOff typeLen strOff strLen stringsIn lengthBad openingBad headerLengthBad sectionsBad stringsBad headerReport walkRecord typeWords walk tableOf bytesOf placesOf nameIn nameless nameAt isDigit isLetter isSectionName spareZero headOk headBad nameOk namesOk nameBad intOk linkageOk isLast00 tailOk tailBad isPlain refOk refsOk refBad heldBy endless stepIn exactSize hasSize smallSize hasSmallSize stepAtPlace stepAt sizeAsked sizeOf baseOf isRegular wholeSpan plainSpan fieldSpan spanOf entryCovers sectionOk memberOk offsetsOk membersOk arrayOk functionOk partsOf tagOk layoutOk layoutBad phase1 phase2 shortSlices phase3 phase4 phase5 phase6 overTypes tableReport refusal indexOf gate rename joinTables joinedBytes limitReport joinRefusal join
+computes = tt

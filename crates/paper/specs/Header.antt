@@ -1,0 +1,68 @@
+-- Phase 1, reports 1 to 5: the header's numbers and the string section, of any bytes.
+use Prim.Native.Nat.{ℕ, _+_, _-_, _%_}
+use mathlib.Core.Bool.{Bool, not, _||_}
+use mathlib.Core.List.{List, [], _∷_}
+use mathlib.Core.Option.{Option}
+use lib.Dec.{ltb, eqb}
+use lib.ListN.{length, getD, take, drop}
+use Rattle.paper.specs.Choice.{differ, same, _when_, firstDue}
+use Rattle.paper.specs.Limits.{byteLimit}
+use Rattle.paper.specs.Word.{wordAt}
+
+abbrev pub headerLength : ℕ
+headerLength = 24
+
+-- magic 9F EB, version 1, flags 0
+abbrev pub opening : List ℕ
+opening = 0x9f ∷ 0xeb ∷ 1 ∷ 0 ∷ []
+
+module _ (b : List ℕ) where
+  unfoldable pub typeOff : ℕ
+  typeOff = wordAt b 8
+
+  unfoldable pub typeLen : ℕ
+  typeLen = wordAt b 12
+
+  unfoldable pub strOff : ℕ
+  strOff = wordAt b 16
+
+  unfoldable pub strLen : ℕ
+  strLen = wordAt b 20
+
+  unfoldable pub stringsIn : List ℕ
+  stringsIn = drop (headerLength + typeLen) b
+
+  -- 1: "under 24 bytes or over 65,536"
+  unfoldable pub lengthBad : Bool
+  lengthBad = ltb (length b) headerLength || ltb byteLimit (length b)
+
+  -- 2: "first four bytes are not 9F EB 01 00"
+  unfoldable pub openingBad : Bool
+  openingBad = not (same (take 4 b) opening)
+
+  -- 3: "header length is not 24"
+  unfoldable pub headerLengthBad : Bool
+  headerLengthBad = differ (wordAt b 4) headerLength
+
+  -- 4: "type_off not 0, type_len not a multiple of 4, str_off not type_len, or 24 + type_len + str_len (exact sum) not the blob's length"
+  unfoldable pub sectionsBad : Bool
+  sectionsBad =
+      differ typeOff 0
+      || differ (typeLen % 4) 0
+      || differ strOff typeLen
+      || differ (headerLength + typeLen + strLen) (length b)
+
+  -- 5: "string section empty, or its first or last byte not zero"
+  unfoldable pub stringsBad : Bool
+  stringsBad = eqb strLen 0 || differ (getD stringsIn 0 0) 0 || differ (getD stringsIn (strLen - 1) 0) 0
+
+  -- "in phase 1 the smallest number"
+  unfoldable pub headerReport : Option ℕ
+  headerReport =
+      firstDue
+      (1 when lengthBad
+      ∷ 2 when openingBad
+      ∷ 3 when headerLengthBad
+      ∷ 4 when sectionsBad
+      ∷ 5 when stringsBad
+      ∷ [])

@@ -1,0 +1,89 @@
+-- "How a record is laid out", "Head (10)", "Names (11)" and "References (13)": a row for each kind.
+-- What a rule asks of a kind is read off its row, so that no rule goes over the kinds one by one.
+use Prim.Native.Nat.{ℕ}
+use mathlib.Core.List.{List, [], _∷_}
+use lib.ListN.{getD}
+
+-- Names (11)
+pub data NameRule : Type 0 where
+  offset0 anyName offset0OrIdentifier identifier nonEmpty sectionName : NameRule
+
+-- References (13)
+pub data RefRule : Type 0 where
+  voidOrPlain plain anInt aProto aVar taggable : RefRule
+
+-- what a word of a record is: a name offset, a reference that is no by-value one, a by-value reference, or anything else
+pub data Role : Type 0 where
+  names : NameRule → Role
+  refers : RefRule → Role
+  holds : RefRule → Role
+  number : Role
+
+-- which numbers a part of a head may be
+pub data Values : Type 0 where
+  free : Values
+  oneOf : List ℕ → Values
+
+-- where an exact size comes from: 8, the size word, count times element, the referent, or nowhere
+pub data SizeRule : Type 0 where
+  eight sizeWord countTimes referent noSize : SizeRule
+
+pub record Row : Type 0 where
+  pub flag : Values
+  pub vlen : Values
+  pub thirdValues : Values
+  pub thirdRole : Role
+  pub name : NameRule
+  -- the roles of the tail's words that stand once, and of those that stand for each of vlen entries
+  pub once : List Role
+  pub each : List Role
+  pub size : SizeRule
+
+abbrev row : Values → Values → Values → Role → NameRule → List Role → List Role → SizeRule → Row
+row f v t r n o e s =
+    record { flag = f; vlen = v; thirdValues = t; thirdRole = r; name = n; once = o; each = e; size = s }
+
+abbrev nought : Values
+nought = oneOf (0 ∷ [])
+
+-- a kind that the paper does not know, and void: nothing is asked of it and it has no size
+abbrev unknown : Row
+unknown = row nought nought free number offset0 [] [] noSize
+
+abbrev member : List Role
+member = names identifier ∷ holds plain ∷ number ∷ []
+
+abbrev aliasTo : NameRule → Values → Row
+aliasTo n f = row f nought free (holds voidOrPlain) n [] [] referent
+
+unfoldable pub rows : List Row
+rows =
+    unknown
+    --  kind_flag, vlen, third word and its role, name, tail once, tail per entry, size
+    -- INT, PTR, ARRAY, STRUCT, UNION, ENUM
+    ∷ row nought nought (oneOf (1 ∷ 2 ∷ 4 ∷ 8 ∷ 16 ∷ [])) number anyName (number ∷ []) [] sizeWord
+    ∷ row nought nought free (refers voidOrPlain) offset0 [] [] eight
+    ∷ row nought nought nought number offset0 (holds plain ∷ refers anInt ∷ number ∷ []) [] countTimes
+    ∷ row free free free number offset0OrIdentifier [] member sizeWord
+    ∷ row free free free number offset0OrIdentifier [] member sizeWord
+    ∷ row free free (oneOf (1 ∷ 2 ∷ 4 ∷ 8 ∷ [])) number offset0OrIdentifier [] (names identifier ∷ number ∷ []) sizeWord
+    -- FWD, TYPEDEF, VOLATILE, CONST, RESTRICT
+    ∷ row free nought nought number identifier [] [] noSize
+    ∷ aliasTo identifier nought
+    ∷ aliasTo offset0 nought
+    ∷ aliasTo offset0 nought
+    ∷ aliasTo offset0 nought
+    -- FUNC, whose vlen is its linkage; FUNC_PROTO; VAR; DATASEC; FLOAT
+    ∷ row nought (oneOf (0 ∷ 1 ∷ 2 ∷ [])) free (refers aProto) identifier [] [] noSize
+    ∷ row nought free free (refers voidOrPlain) offset0 [] (names offset0OrIdentifier ∷ refers voidOrPlain ∷ []) noSize
+    ∷ row nought nought free (holds plain) identifier (number ∷ []) [] referent
+    ∷ row nought free free number sectionName [] (refers aVar ∷ number ∷ number ∷ []) sizeWord
+    ∷ row nought nought (oneOf (2 ∷ 4 ∷ 8 ∷ 12 ∷ 16 ∷ [])) number anyName [] [] sizeWord
+    -- DECL_TAG, TYPE_TAG, ENUM64
+    ∷ row free nought free (refers taggable) nonEmpty (number ∷ []) [] noSize
+    ∷ aliasTo nonEmpty free
+    ∷ row free free (oneOf (1 ∷ 2 ∷ 4 ∷ 8 ∷ [])) number offset0OrIdentifier [] (names identifier ∷ number ∷ number ∷ []) sizeWord
+    ∷ []
+
+unfoldable pub rowOf : ℕ → Row
+rowOf k = getD rows k unknown

@@ -1,0 +1,65 @@
+-- Report 12: "a tail word breaks the list".
+use Prim.Native.Nat.{ℕ, _+_, _*_}
+use mathlib.Core.Bool.{Bool, true, false, not, cond, _&&_, _||_}
+use mathlib.Core.List.{List, [], _∷_}
+use lib.Dec.{eqb, leb}
+use lib.ListN.{getD}
+use Rattle.paper.specs.Choice.{member, differ, isEmpty}
+use Rattle.paper.specs.KindNo.{INT, VAR, FUNC-PROTO}
+use Rattle.paper.specs.Table.{Record, Table, recordAt, bits, kindOf}
+
+-- the word of an INT: "bits 0 to 7 width, 16 to 23 offset, 24 to 27 encoding, the others 0"
+abbrev pub intWord : Record → ℕ
+intWord r = getD (r .tail) 0 0
+
+abbrev pub widthOf : Record → ℕ
+widthOf r = bits 0 7 (intWord r)
+
+abbrev pub offsetOf : Record → ℕ
+offsetOf r = bits 16 23 (intWord r)
+
+abbrev pub encodingOf : Record → ℕ
+encodingOf r = bits 24 27 (intWord r)
+
+-- "encoding 0, 1, 2 or 4; width at least 1; offset + width at most 8 times size (house)"
+unfoldable pub intOk : Record → Bool
+intOk r =
+    eqb (bits 8 15 (intWord r)) 0
+    && eqb (bits 28 31 (intWord r)) 0
+    && member (encodingOf r) (0 ∷ 1 ∷ 2 ∷ 4 ∷ [])
+    && leb 1 (widthOf r)
+    && leb (offsetOf r + widthOf r) (8 * r .third)
+
+-- "VAR linkage 0, 1, 2"
+unfoldable pub linkageOk : Record → Bool
+linkageOk r = member (getD (r .tail) 0 0) (0 ∷ 1 ∷ 2 ∷ [])
+
+pub record Parameter : Type 0 where
+  pub name : ℕ
+  pub type : ℕ
+
+abbrev pub parametersIn : List ℕ → List Parameter
+parametersIn [] = []
+parametersIn (n ∷ []) = []
+parametersIn (n ∷ t ∷ ws) = record { name = n; type = t } ∷ parametersIn ws
+
+abbrev pub parametersOf : Record → List Parameter
+parametersOf r = parametersIn (r .tail)
+
+-- "a last 0/0": the parameter that stands for any number of others
+unfoldable pub isLast00 : Parameter → List Parameter → Bool
+isLast00 p behind = isEmpty behind && eqb (p .type) 0 && eqb (p .name) 0
+
+-- "A parameter of type 0 must be last and have name 0"
+abbrev pub voidsLast : List Parameter → Bool
+voidsLast [] = true
+voidsLast (p ∷ ps) = (differ (p .type) 0 || isLast00 p ps) && voidsLast ps
+
+unfoldable pub tailOk : Record → Bool
+tailOk r =
+    (differ (kindOf r) INT || intOk r)
+    && (differ (kindOf r) VAR || linkageOk r)
+    && (differ (kindOf r) FUNC-PROTO || voidsLast (parametersOf r))
+
+unfoldable pub tailBad : Table → ℕ → Bool
+tailBad T t = not (tailOk (recordAt T t))

@@ -1,0 +1,84 @@
+-- Phase 2, reports 6 to 8, the places, and how bytes and tables are joined: `tableOf` and `bytesOf`.
+use Prim.Native.Nat.{ℕ, zero, suc, _+_, _*_}
+use mathlib.Core.Bool.{Bool, cond, not, _&&_}
+use mathlib.Core.List.{List, [], _∷_, _++_}
+use lib.Dec.{leb}
+use lib.ListN.{length, take, drop}
+use Rattle.paper.specs.Header.{headerLength, opening, typeLen, stringsIn}
+use Rattle.paper.specs.KindNo.{INT, ENUM64}
+use Rattle.paper.specs.Limits.{typeLimit}
+use Rattle.paper.specs.Table.{Record, Table, kindIn, tailLength, wordsOf}
+use Rattle.paper.specs.Word.{words, bytesOfWords}
+
+-- what a walk of the type section finds: its records, or a report's number and the record that it names
+pub data Walked : Type 0 where
+  records : List Record → Walked
+  stopped : ℕ → ℕ → Walked
+
+-- a record in front of what the rest of the walk finds
+abbrev pub ahead : Record → Walked → Walked
+ahead r (records rs) = records (r ∷ rs)
+ahead r (stopped n t) = stopped n t
+
+abbrev pub known : ℕ → Bool
+known k = leb INT k && leb k ENUM64
+
+-- the record of a head and the words behind it, then the rest; 7: "head fits, kind 0 or 20 to 31"; 6: the tail does not fit
+unfoldable pub walkRecord : (List ℕ → Walked) → ℕ → ℕ → ℕ → ℕ → List ℕ → Walked
+walkRecord rest k n i t ws =
+    cond (known (kindIn i))
+    (cond (leb (tailLength i) (length ws))
+    (ahead (record { nameOff = n; info = i; third = t; tail = take (tailLength i) ws }) (rest (drop (tailLength i) ws)))
+    (stopped 6 k))
+    (stopped 7 k)
+
+-- the walk from record k on, over the words that are left, where so many records more may stand
+-- 8: "bytes remain after record 4,096 (before 6 and 7)"; 6: the 12-byte head does not fit
+abbrev pub walkFrom : ℕ → ℕ → List ℕ → Walked
+walkFrom zero k [] = records []
+walkFrom zero k (n ∷ ws) = stopped 8 k
+walkFrom (suc room) k [] = records []
+walkFrom (suc room) k (n ∷ []) = stopped 6 k
+walkFrom (suc room) k (n ∷ i ∷ []) = stopped 6 k
+walkFrom (suc room) k (n ∷ i ∷ t ∷ ws) = walkRecord (λ (left : List ℕ). walkFrom room (suc k) left) k n i t ws
+
+-- the words of a blob's type section, and its walk
+unfoldable pub typeWords : List ℕ → List ℕ
+typeWords b = words (take (typeLen b) (drop headerLength b))
+
+unfoldable pub walk : List ℕ → Walked
+walk b = walkFrom typeLimit 1 (typeWords b)
+
+abbrev pub recordsIn : Walked → List Record
+recordsIn (records rs) = rs
+recordsIn (stopped n t) = []
+
+-- the table that a blob holds
+unfoldable pub tableOf : List ℕ → Table
+tableOf b = record { records = recordsIn (walk b); strings = stringsIn b }
+
+-- the words of some records, one after the other
+abbrev pub flat : List Record → List ℕ
+flat [] = []
+flat (r ∷ rs) = wordsOf r ++ flat rs
+
+-- the bytes of a section of words
+abbrev pub typeLenOf : List Record → ℕ
+typeLenOf rs = 4 * length (flat rs)
+
+-- the blob that holds a table: header, records, strings
+unfoldable pub bytesOf : Table → List ℕ
+bytesOf T =
+    let n = typeLenOf (T .records) in
+    opening
+    ++ bytesOfWords (headerLength ∷ 0 ∷ n ∷ n ∷ length (T .strings) ∷ [])
+    ++ bytesOfWords (flat (T .records))
+    ++ T .strings
+
+-- "place k the byte place of record k in the blob"
+abbrev pub placesFrom : ℕ → List Record → List ℕ
+placesFrom p [] = []
+placesFrom p (r ∷ rs) = p ∷ placesFrom (p + 4 * length (wordsOf r)) rs
+
+unfoldable pub placesOf : Table → List ℕ
+placesOf T = placesFrom headerLength (T .records)

@@ -1,0 +1,55 @@
+// The paper's three kinds of number, and every answer that an entry point can give.
+// What each case is in the paper's numbers stands in specs/Answer.antt.
+
+// The number of a type: 0 is void, the records are numbered from 1.
+pub struct TypeNo(pub u32);
+
+// An offset into the string section.
+pub struct NameOff(pub u32);
+
+// The place of a byte in a blob.
+pub struct Place(pub u32);
+
+// The gate's reports 1 to 15, in the paper's order.
+pub enum Report {
+    Length,
+    Opening,
+    HeaderLength,
+    Sections,
+    Strings,
+    RecordCut(TypeNo),
+    UnknownKind(TypeNo),
+    ManyTypes,
+    SlicesShort,
+    Head(TypeNo),
+    Named(TypeNo),
+    Tail(TypeNo),
+    Reference(TypeNo),
+    Endless(TypeNo),
+    Layout(TypeNo),
+}
+
+// What a check answers: the count of types, or a report.
+pub enum Checked {
+    Accepted(u32),
+    Refused(Report),
+}
+
+// What the size question answers: the exact size, no size, overflow, 21 and 22.
+pub enum Sized {
+    Exact(u32),
+    NoSize,
+    Overflow,
+    Lost,
+    TooFar,
+}
+
+// What a join answers: the joined length, 16, 17, 18, 19 and 20.
+pub enum Joined {
+    Whole(u32),
+    FirstRefused(Report),
+    SecondRefused(Report),
+    TooMany,
+    TooLong,
+    OutputShort,
+}

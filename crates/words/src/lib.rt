@@ -1,0 +1,65 @@
+// Words of 32 bits at a place of a slice, and the shift of a number by its kind.
+// Total: a word that is not wholly inside reads as 0 and is not written.
+use paper::NameOff;
+use paper::Place;
+use paper::TypeNo;
+ghost use mathlib.Core.Path.{_≡_};
+ghost use Prim.Native.Nat.{_%_};
+ghost use Rattle.paper.specs.Rename.{raise};
+ghost use Rattle.paper.specs.Word.{wordOf, wordAt, putWord};
+
+// The word of four bytes.
+fn compose(a: u8, b: u8, c: u8, d: u8) -> u32
+    ensures { λ r. ⌜ r ≡ wordOf a b c d ⌝ }
+{
+    (a as u32) + (b as u32) * 256 + (c as u32) * 65536 + (d as u32) * 16777216
+}
+
+// The word at a place.
+pub fn read(b: &[u8], at: Place) -> u32
+    ensures { λ r. ⌜ r ≡ wordAt (now (b .entry)) (at .0) ⌝ }
+{
+    let p = at.0 as usize;
+    if b.len() < p + 4 {
+        return 0;
+    }
+    compose(b[p], b[p + 1], b[p + 2], b[p + 3])
+}
+
+// The word is put at a place.
+pub fn write(b: &mut [u8], at: Place, w: u32)
+    ensures { λ r. ⌜ now (b .exit) ≡ putWord (now (b .entry)) (at .0) w ⌝ }
+{
+    let p = at.0 as usize;
+    if b.len() < p + 4 {
+        return;
+    }
+    b[p] = (w % 256) as u8;
+    b[p + 1] = (w / 256 % 256) as u8;
+    b[p + 2] = (w / 65536 % 256) as u8;
+    b[p + 3] = (w / 16777216 % 256) as u8;
+}
+
+// The number raised, in 32 bits; 0 stands.
+fn raised(w: u32, by: u32) -> u32
+    ensures { λ r. ⌜ r ≡ raise by w % 4294967296 ⌝ }
+{
+    if w == 0 {
+        return 0;
+    }
+    std::num::wrapping_add_u32(w, by)
+}
+
+// A type number raised by so many types; void stands.
+pub fn raise_type(t: TypeNo, by: TypeNo) -> TypeNo
+    ensures { λ r. ⌜ r .0 ≡ raise (by .0) (t .0) % 4294967296 ⌝ }
+{
+    TypeNo(raised(t.0, by.0))
+}
+
+// A name offset raised by so many bytes; offset 0 stands.
+pub fn raise_name(n: NameOff, by: NameOff) -> NameOff
+    ensures { λ r. ⌜ r .0 ≡ raise (by .0) (n .0) % 4294967296 ⌝ }
+{
+    NameOff(raised(n.0, by.0))
+}
