@@ -11,8 +11,7 @@ use Rattle.paper.specs.Table.{Record, Table, count, recordAt, rolesOf, w
 abbrev pub heldWord : Role → ℕ → List ℕ → List ℕ
 heldWord (names rule) w us = us
 heldWord (refers rule) w us = us
-heldWord (holds rule) zero us = us
-heldWord (holds rule) (suc u) us = suc u ∷ us
+heldWord (holds rule) w us = cond (eqb w 0) us (w ∷ us)
 heldWord number w us = us
 
 abbrev pub heldIn : List Role → List ℕ → List ℕ

@@ -39,9 +39,10 @@ baseFrom T (suc steps) t = let u = baseFrom T steps (recordAt T t .third) in con
 unfoldable pub baseOf : Table → ℕ → Record
 baseOf T t = recordAt T (baseFrom T (count T) t)
 
--- "regular (offset 0, width 8, 16, 32, 64, 128)"
+-- an INT that is "regular (offset 0, width 8, 16, 32, 64, 128)"
 unfoldable pub isRegular : Record → Bool
-isRegular r = eqb (offsetOf r) 0 && member (widthOf r) (8 ∷ 16 ∷ 32 ∷ 64 ∷ 128 ∷ [])
+isRegular r =
+    eqb (kindOf r) INT && eqb (offsetOf r) 0 && member (widthOf r) (8 ∷ 16 ∷ 32 ∷ 64 ∷ 128 ∷ [])
 
 -- "With kind_flag 1 the top 8 bits of the offset word are the field width w, the low 24 the bit offset"
 abbrev pub bitOffset : ℕ → Member → ℕ

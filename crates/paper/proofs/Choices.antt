@@ -1,0 +1,133 @@
+-- Laws of `Choice`, and of the tests that rules are joined with.
+-- Assumes nothing.
+use Prim.Native.Nat.{ℕ, zero, suc}
+use mathlib.Core.Path.{_≡_, refl, sym, ap, ap₂, _∙_}
+use mathlib.Core.Bool.{Bool, true, false, not, _&&_, _||_, false≢true}
+use mathlib.Core.List.{List, [], _∷_, _++_, map}
+use mathlib.Core.Option.{none}
+use native.Mathlib.Omega.{arith}
+use borrow.Author.Tests.{eqb-true, eq-eqb, not-false}
+use lib.Dec.{eqb}
+use lib.ListN.{getD}
+use Rattle.paper.specs.Choice.{differ, same, every, any, isEmpty, times, Rule, _when_, firstDue}
+
+-- ── both of two tests ──
+
+pub and-left : (a b : Bool) → a && b ≡ true → a ≡ true
+and-left true b e = refl
+and-left false b e = absurd (false≢true e)
+
+pub and-right : (a b : Bool) → a && b ≡ true → b ≡ true
+and-right true b e = e
+and-right false b e = absurd (false≢true e)
+
+pub and-true : {a b : Bool} → a ≡ true → b ≡ true → a && b ≡ true
+and-true p q = ap₂ _&&_ p q
+
+-- the second test matters only where the first passes
+pub and-cong : (a : Bool) {x y : Bool} → (a ≡ true → x ≡ y) → a && x ≡ a && y
+and-cong true h = h refl
+and-cong false h = refl
+
+-- ── one of two tests ──
+
+pub or-left : {a : Bool} (b : Bool) → a ≡ true → a || b ≡ true
+or-left b e = ap (λ (a : Bool). a || b) e
+
+pub or-right : (a : Bool) {b : Bool} → b ≡ true → a || b ≡ true
+or-right true e = refl
+or-right false e = e
+
+pub or-cases : {C : Type 0} (a b : Bool) → a || b ≡ true → (a ≡ true → C) → (b ≡ true → C) → C
+or-cases true b e f g = f refl
+or-cases false b e f g = g e
+
+-- where no test of two passes, the first does not and the second does not
+pub or-false : (a b : Bool) → a || b ≡ false → (a ≡ false) × (b ≡ false)
+or-false true b e = absurd (let z : _≡_ {A = ℕ} 0 1 = cc in omega arith)
+or-false false b e = (refl, e)
+
+-- and the other way
+pub false-or : {a b : Bool} → a ≡ false → b ≡ false → a || b ≡ false
+false-or p q = rw p q
+
+-- a test that is asked of one number only
+pub when-same : (k c : ℕ) {x y : Bool} → (k ≡ c → x ≡ y) → differ k c || x ≡ differ k c || y
+when-same k c {x} {y} h = go (eqb k c) refl
+  where
+    go : (t : Bool) → eqb k c ≡ t → not t || x ≡ not t || y
+    go true e = h (eqb-true k c e)
+    go false e = refl
+
+-- ── equal numbers, equal lists ──
+
+-- numbers that do not differ are equal
+pub differ-false : (m n : ℕ) → differ m n ≡ false → m ≡ n
+differ-false m n e = eqb-true m n (not-false (eqb m n) e)
+
+-- and the other way
+pub differ-equal : (m n : ℕ) → m ≡ n → differ m n ≡ false
+differ-equal m n e = ap not (eq-eqb m n e)
+
+-- lists of numbers that the test calls the same are equal
+pub same-true : (xs ys : List ℕ) → same xs ys ≡ true → xs ≡ ys
+same-true [] [] e = refl
+same-true [] (y ∷ ys) e = absurd (let z : _≡_ {A = ℕ} 0 1 = cc in omega arith)
+same-true (x ∷ xs) [] e = absurd (let z : _≡_ {A = ℕ} 0 1 = cc in omega arith)
+same-true (x ∷ xs) (y ∷ ys) e =
+    let heads : x ≡ y = eqb-true x y (and-left (eqb x y) (same xs ys) e) in
+    let tails : xs ≡ ys = same-true xs ys (and-right (eqb x y) (same xs ys) e) in
+    cc
+
+-- the test calls a list the same as itself
+pub same-refl : (xs : List ℕ) → same xs xs ≡ true
+same-refl [] = refl
+same-refl (x ∷ xs) = rw (eq-eqb x x refl) (same-refl xs)
+
+-- ── rules that are due ──
+
+-- none of some rules is due
+abbrev pub NoneDue : List Rule → Type 0
+NoneDue [] = Unit {0}
+NoneDue (n when due ∷ rules) = (due ≡ false) × NoneDue rules
+
+-- where no number is answered, no rule is due
+pub firstDue-none : (rules : List Rule) → firstDue rules ≡ none → NoneDue rules
+firstDue-none [] e = tt
+firstDue-none (n when true ∷ rules) e = absurd (let z : _≡_ {A = ℕ} 0 1 = cc in omega arith)
+firstDue-none (n when false ∷ rules) e = (refl, firstDue-none rules e)
+
+-- and the other way
+pub none-firstDue : (rules : List Rule) → NoneDue rules → firstDue rules ≡ none
+none-firstDue [] h = refl
+none-firstDue (n when due ∷ rules) h = rw (h .0) (none-firstDue rules (h .1))
+
+-- ── lists ──
+
+module _ {A : Type 0} where
+  pub every-cong : {f g : A → Bool} (xs : List A) → ((x : A) → f x ≡ g x) → every f xs ≡ every g xs
+  every-cong [] h = refl
+  every-cong (x ∷ xs) h = ap₂ _&&_ (h x) (every-cong xs h)
+
+  -- a test that every element passes, passed wherever one looks
+  pub every-getD : (f : A → Bool) (xs : List A) (d : A) → every f xs ≡ true → f d ≡ true → (k : ℕ) → f (getD xs k d) ≡ true
+  every-getD f [] d h e k = e
+  every-getD f (x ∷ xs) d h e zero = and-left (f x) (every f xs) h
+  every-getD f (x ∷ xs) d h e (suc k) = every-getD f xs d (and-right (f x) (every f xs) h) e k
+
+  pub times-nil : (n : ℕ) → times {A = A} n [] ≡ []
+  times-nil zero = refl
+  times-nil (suc n) = times-nil n
+
+module _ {A B : Type 0} where
+  pub every-map : (f : B → Bool) (h : A → B) (xs : List A) → every f (map h xs) ≡ every (λ (x : A). f (h x)) xs
+  every-map f h [] = refl
+  every-map f h (x ∷ xs) = ap (λ (t : Bool). f (h x) && t) (every-map f h xs)
+
+  pub any-map : (f : B → Bool) (h : A → B) (xs : List A) → any f (map h xs) ≡ any (λ (x : A). f (h x)) xs
+  any-map f h [] = refl
+  any-map f h (x ∷ xs) = ap (λ (t : Bool). f (h x) || t) (any-map f h xs)
+
+  pub isEmpty-map : (h : A → B) (xs : List A) → isEmpty (map h xs) ≡ isEmpty xs
+  isEmpty-map h [] = refl
+  isEmpty-map h (x ∷ xs) = refl

@@ -1,0 +1,152 @@
+-- Demand 2's "no by-value chain can be followed for ever": report 14 is given exactly where one can be.
+-- Assumes nothing.
+use Prim.Native.Nat.{ℕ, zero, suc, _+_, _-_, _≤_, _<_, suc-le-suc}
+use mathlib.Core.Path.{_≡_, refl, sym, ap, _∙_, subst}
+use mathlib.Core.Bool.{Bool, true, false, cond, _||_, false≢true}
+use mathlib.Core.List.{List, [], _∷_, List·Memᴰ, List·Memᴰ·head, List·Memᴰ·tail}
+use mathlib.Core.Logic.{_⊎_, inl, inr, ⊎-elim}
+use native.Mathlib.Omega.{arith}
+use borrow.Author.Tests.{eqb-true, eqb-false}
+use lib.Dec.{eqb}
+use Rattle.paper.proofs.Chains.{walks-fewer}
+use Rattle.paper.proofs.Choices.{or-left, or-right, or-cases}
+use Rattle.paper.specs.Chain.{heldBy, walks, endless}
+use Rattle.paper.specs.Choice.{any}
+use Rattle.paper.specs.Fit.{Below}
+use Rattle.paper.specs.Table.{Table, count}
+
+-- a chain that is followed for ever: each type holds the next by value
+pub record Chain (T : Table) (first : ℕ) : Type 0 where
+  pub at : ℕ → ℕ
+  pub starts : at 0 ≡ first
+  pub goes-on : (i : ℕ) → List·Memᴰ (at (suc i)) (heldBy T (at i))
+
+-- ── some element passes, and which ──
+
+pub any-holds : (f : ℕ → Bool) (u : ℕ) {us : List ℕ} → List·Memᴰ u us → f u ≡ true → any f us ≡ true
+any-holds f u (List·Memᴰ·head {xs = xs} e) h = or-left (any f xs) (ap f (sym e) ∙ h)
+any-holds f u (List·Memᴰ·tail {x = x} m) h = or-right (f x) (any-holds f u m h)
+
+any-finds : (f : ℕ → Bool) (us : List ℕ) → any f us ≡ true → (u : ℕ) × List·Memᴰ u us × (f u ≡ true)
+any-finds f [] e = absurd (false≢true e)
+any-finds f (u ∷ us) e =
+    or-cases (f u) (any f us) e (λ p. (u, List·Memᴰ·head refl, p))
+    (λ q. let w = any-finds f us q in (w .0, List·Memᴰ·tail (w .1), w .2))
+
+-- ── a chain gives walks of every length ──
+
+module _ {T : Table} {t : ℕ} (c : Chain T t) where
+  chain-walks-from : (m i : ℕ) → walks T m (c .at i) ≡ true
+  chain-walks-from zero i = refl
+  chain-walks-from (suc m) i = any-holds (walks T m) (c .at (suc i)) (c .goes-on i) (chain-walks-from m (suc i))
+
+  pub chain-endless : endless T t ≡ true
+  unfolding endless
+  chain-endless = ap (walks T (count T)) (sym (c .starts)) ∙ chain-walks-from (count T) 0
+
+-- ── how many of the types 1 to n pass a test ──
+
+abbrev tally : (ℕ → Bool) → ℕ → ℕ
+tally f zero = 0
+tally f (suc n) = cond (f (suc n)) (suc (tally f n)) (tally f n)
+
+tally-le : (f : ℕ → Bool) (n : ℕ) → tally f n ≤ n
+tally-le f zero = omega arith
+tally-le f (suc n) = go (f (suc n)) (tally-le f n)
+  where
+    go : (b : Bool) → tally f n ≤ n → cond b (suc (tally f n)) (tally f n) ≤ suc n
+    go true h = omega arith
+    go false h = omega arith
+
+module _ (f g : ℕ → Bool) (weaker : (t : ℕ) → f t ≡ true → g t ≡ true) where
+  tally-mono : (n : ℕ) → tally f n ≤ tally g n
+  tally-mono zero = omega arith
+  tally-mono (suc n) = go (f (suc n)) (g (suc n)) (weaker (suc n)) (tally-mono n)
+    where
+      go : (a b : Bool) → (a ≡ true → b ≡ true) → tally f n ≤ tally g n → cond a (suc (tally f n)) (tally f n) ≤ cond b (suc (tally g n)) (tally g n)
+      go true true w h = omega arith
+      go true false w h = absurd (false≢true (w refl))
+      go false true w h = omega arith
+      go false false w h = h
+
+  -- where as many pass the one as the other, the same do
+  tally-same : (n t : ℕ) → tally f n ≡ tally g n → 1 ≤ t → t ≤ n → g t ≡ true → f t ≡ true
+  tally-same zero t e low high h = absurd (omega arith)
+  tally-same (suc n) t e low high h =
+      go (f (suc n)) (g (suc n)) refl refl e (eqb t (suc n)) refl (λ p q. tally-same n t p low q h)
+    where
+      go : (a b : Bool) → f (suc n) ≡ a → g (suc n) ≡ b → cond a (suc (tally f n)) (tally f n) ≡ cond b (suc (tally g n)) (tally g n)
+          → (z : Bool) → eqb t (suc n) ≡ z → (tally f n ≡ tally g n → t ≤ n → f t ≡ true) → f t ≡ true
+      go true b p q e true x below = ap f (eqb-true t (suc n) x) ∙ p
+      go false true p q e true x below = let m = tally-mono n in absurd (omega arith)
+      go false false p q e true x below = absurd (false≢true (sym q ∙ ap g (sym (eqb-true t (suc n) x)) ∙ h))
+      go true true p q e false x below = let ne = eqb-false t (suc n) x in below (omega arith) (omega arith)
+      go true false p q e false x below = absurd (false≢true (sym q ∙ weaker (suc n) p))
+      go false true p q e false x below = let m = tally-mono n in absurd (omega arith)
+      go false false p q e false x below = let ne = eqb-false t (suc n) x in below e (omega arith)
+
+-- ── after as many steps as there are types, nothing is lost any more ──
+
+module _ (T : Table) (held-inside : (t u : ℕ) → List·Memᴰ u (heldBy T t) → (1 ≤ u) × (u ≤ count T)) where
+  -- every type with a walk of m steps has one of m + 1
+  abbrev Stable : ℕ → Type 0
+  Stable m = (t : ℕ) → 1 ≤ t → t ≤ count T → walks T m t ≡ true → walks T (suc m) t ≡ true
+
+  stable-on : (m : ℕ) → Stable m → Stable (suc m)
+  stable-on m s t low high e =
+      let w = any-finds (walks T m) (heldBy T t) e in
+      let r = held-inside t (w .0) (w .1) in
+      any-holds (walks T (suc m)) (w .0) (w .1) (s (w .0) (r .0) (r .1) (w .2))
+
+  left : ℕ → ℕ
+  left m = tally (walks T m) (count T)
+
+  stable-or-fewer : (m : ℕ) → Stable m ⊎ (left (suc m) < left m)
+  unfolding left
+  stable-or-fewer m = go (eqb (left (suc m)) (left m)) refl
+    where
+      go : (z : Bool) → eqb (left (suc m)) (left m) ≡ z → Stable m ⊎ (left (suc m) < left m)
+      go true x = inl (λ t low high h. tally-same (walks T (suc m)) (walks T m) (walks-fewer T m) (count T) t (eqb-true _ _ x) low high h)
+      go false x = let ne = eqb-false (left (suc m)) (left m) x in let le = tally-mono (walks T (suc m)) (walks T m) (walks-fewer T m) (count T) in inr (omega arith)
+
+  stable-by : (m : ℕ) → Stable m ⊎ (left m + m ≤ count T)
+  unfolding left
+  stable-by zero = let h = tally-le (walks T 0) (count T) in inr (omega arith)
+  stable-by (suc m) =
+      ⊎-elim (λ s. inl (stable-on m s))
+      (λ h. ⊎-elim (λ s. inl (stable-on m s)) (λ k. inr (omega arith)) (stable-or-fewer m))
+      (stable-by m)
+
+  stable : Stable (count T)
+  unfolding left
+  stable t low high h =
+      ⊎-elim (λ s. s t low high h)
+      (λ k. absurd (false≢true (tally-same (λ u. false) (walks T (count T)) (λ u e. absurd (false≢true e)) (count T) t (none-left k) low high h)))
+      (stable-by (count T))
+    where
+      nobody : (n : ℕ) → tally (λ u. false) n ≡ 0
+      nobody zero = refl
+      nobody (suc n) = nobody n
+
+      none-left : left (count T) + count T ≤ count T → tally (λ u. false) (count T) ≡ left (count T)
+      none-left k = nobody (count T) ∙ omega arith
+
+  -- a type with a walk of n steps, and the one that it goes on to
+  abbrev On : Type 0
+  On = (t : ℕ) × (1 ≤ t) × (t ≤ count T) × (walks T (count T) t ≡ true)
+
+  next : (s : On) → (u : On) × List·Memᴰ (u .0) (heldBy T (s .0))
+  next s =
+      let w = any-finds (walks T (count T)) (heldBy T (s .0)) (stable (s .0) (s .1) (s .2) (s .3)) in
+      let r = held-inside (s .0) (w .0) (w .1) in
+      ((w .0, r .0, r .1, w .2), w .1)
+
+  abbrev after : On → ℕ → On
+  after s zero = s
+  after s (suc i) = next (after s i) .0
+
+  pub endless-chain : (t : ℕ) → 1 ≤ t → t ≤ count T → endless T t ≡ true → Chain T t
+  unfolding endless
+  endless-chain t low high e =
+      let s : On = (t, low, high, e) in
+      record { at = λ i. after s i .0; starts = refl; goes-on = λ i. next (after s i) .1 }

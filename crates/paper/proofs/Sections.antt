@@ -1,0 +1,101 @@
+-- Laws of `Walk`: the walk of some words finds exactly the records whose words they are.
+-- Assumes nothing.
+use Prim.Native.Nat.{ℕ, zero, suc, _≤_}
+use mathlib.Core.Path.{_≡_, refl, ap, _∙_}
+use mathlib.Core.Bool.{Bool, true, false, cond}
+use mathlib.Core.List.{List, [], _∷_, _++_}
+use native.Mathlib.Omega.{arith}
+use borrow.Author.Tests.{leb-true, le-leb}
+use lib.Dec.{leb}
+use lib.ListN.{length, take, drop, length-append, take-append-drop}
+use lib.Seq.{take-at, drop-at, length-take-le}
+use Rattle.paper.specs.Fit.{Whole, EveryWhole}
+use Rattle.paper.specs.Table.{Record, kindIn, tailLength}
+use Rattle.paper.specs.Walk.{Walked, records, stopped, ahead, known, walkRecord, walkFrom, flat}
+
+-- ── one step ──
+
+-- a whole record is found, whatever follows it
+pub walkRecord-whole : (rest : List ℕ → Walked) (k : ℕ) (r : Record) (ws : List ℕ) → Whole r → walkRecord rest k (r .nameOff) (r .info) (r .third) (r .tail ++ ws) ≡ ahead r (rest ws)
+unfolding walkRecord
+walkRecord-whole rest k r ws h =
+    let fits : tailLength (r .info) ≤ length (r .tail ++ ws) = omega (arith, length-append (r .tail) ws, h .whole-tail) in
+    rw (h .known-kind, le-leb _ _ fits, take-at (r .tail) ws (tailLength (r .info)) (h .whole-tail), drop-at (r .tail) ws (tailLength (r .info)) (h .whole-tail)) refl
+
+-- the record of a head and the words behind it
+abbrev pub recordFrom : ℕ → ℕ → ℕ → List ℕ → Record
+recordFrom n i t ws = record { nameOff = n; info = i; third = t; tail = take (tailLength i) ws }
+
+-- what a step that goes through has found: its record is the first, and the rest of the walk finds the others
+pub record Stepped (rest : List ℕ → Walked) (n i t : ℕ) (ws : List ℕ) (rs : List Record) : Type 0 where
+  pub later : List Record
+  pub known-kind : known (kindIn i) ≡ true
+  pub tail-fits : tailLength i ≤ length ws
+  pub goes-on : rest (drop (tailLength i) ws) ≡ records later
+  pub all : rs ≡ recordFrom n i t ws ∷ later
+
+-- both tests of a step pass where it does not stop
+through : (a b : Bool) (w : Walked) (k : ℕ) (rs : List Record) → cond a (cond b w (stopped 6 k)) (stopped 7 k) ≡ records rs → (a ≡ true) × (b ≡ true) × (w ≡ records rs)
+through true true w k rs e = (refl, refl, e)
+through true false w k rs e = absurd (let z : _≡_ {A = ℕ} 0 1 = cc in omega arith)
+through false b w k rs e = absurd (let z : _≡_ {A = ℕ} 0 1 = cc in omega arith)
+
+-- a record ahead of a walk is the first of what is found
+ahead-records : (r : Record) (w : Walked) (rs : List Record) → ahead r w ≡ records rs → (later : List Record) × (w ≡ records later) × (rs ≡ r ∷ later)
+ahead-records r (records later) rs e = (later, refl, cc)
+ahead-records r (stopped n t) rs e = absurd (let z : _≡_ {A = ℕ} 0 1 = cc in omega arith)
+
+-- a step that does not stop has found its record and gone on
+pub walkRecord-stepped : (rest : List ℕ → Walked) (k n i t : ℕ) (ws : List ℕ) (rs : List Record) → walkRecord rest k n i t ws ≡ records rs → Stepped rest n i t ws rs
+unfolding walkRecord
+walkRecord-stepped rest k n i t ws rs e =
+    let p = through (known (kindIn i)) (leb (tailLength i) (length ws)) (ahead (recordFrom n i t ws) (rest (drop (tailLength i) ws))) k rs e in
+    let a = ahead-records (recordFrom n i t ws) (rest (drop (tailLength i) ws)) rs (p .2) in
+    record {
+      later = a .0;
+      known-kind = p .0;
+      tail-fits = leb-true (tailLength i) (length ws) (p .1);
+      goes-on = a .1;
+      all = a .2;
+    }
+
+-- ── the whole walk ──
+
+-- whole records are found again in their words, where there is room for them
+pub walkFrom-flat : (room k : ℕ) (rs : List Record) → EveryWhole rs → length rs ≤ room → walkFrom room k (flat rs) ≡ records rs
+walkFrom-flat zero k [] h few = refl
+walkFrom-flat zero k (r ∷ rs) h few = absurd (omega arith)
+walkFrom-flat (suc room) k [] h few = refl
+walkFrom-flat (suc room) k (r ∷ rs) h few =
+    walkRecord-whole (λ (left : List ℕ). walkFrom room (suc k) left) k r (flat rs) (h .0)
+    ∙ ap (ahead r) (walkFrom-flat room (suc k) rs (h .1) (omega arith))
+
+-- what a walk that goes through has found: whole records, of just these words, and no more of them than there is room for
+pub record Found (room : ℕ) (ws : List ℕ) (rs : List Record) : Type 0 where
+  pub flat-found : flat rs ≡ ws
+  pub whole-found : EveryWhole rs
+  pub few-found : length rs ≤ room
+
+-- no words, no records
+found-none : (room : ℕ) (rs : List Record) → rs ≡ [] → Found room [] rs
+found-none room rs e = rw e (record { flat-found = refl; whole-found = tt; few-found = omega arith })
+
+-- a step in front of what is found later
+found-step : (room n i t : ℕ) (ws : List ℕ) (rest : List ℕ → Walked) (rs : List Record) (s : Stepped rest n i t ws rs) → Found room (drop (tailLength i) ws) (s .later) → Found (suc room) (n ∷ i ∷ t ∷ ws) rs
+found-step room n i t ws rest rs s f =
+    rw (s .all) (record {
+      flat-found = ap (λ (l : List ℕ). n ∷ i ∷ t ∷ l) (ap (λ (l : List ℕ). take (tailLength i) ws ++ l) (f .flat-found) ∙ take-append-drop (tailLength i) ws);
+      whole-found = (record { known-kind = s .known-kind; whole-tail = length-take-le (tailLength i) ws (s .tail-fits) }, f .whole-found);
+      few-found = omega (arith, f .few-found);
+    })
+
+-- where a walk goes through, the words of what it found are the words that it walked
+pub flat-walkFrom : (room k : ℕ) (ws : List ℕ) (rs : List Record) → walkFrom room k ws ≡ records rs → Found room ws rs
+flat-walkFrom zero k [] rs e = found-none zero rs (cc)
+flat-walkFrom zero k (n ∷ ws) rs e = absurd (let z : _≡_ {A = ℕ} 0 1 = cc in omega arith)
+flat-walkFrom (suc room) k [] rs e = found-none (suc room) rs (cc)
+flat-walkFrom (suc room) k (n ∷ []) rs e = absurd (let z : _≡_ {A = ℕ} 0 1 = cc in omega arith)
+flat-walkFrom (suc room) k (n ∷ i ∷ []) rs e = absurd (let z : _≡_ {A = ℕ} 0 1 = cc in omega arith)
+flat-walkFrom (suc room) k (n ∷ i ∷ t ∷ ws) rs e =
+    let s = walkRecord-stepped (λ (left : List ℕ). walkFrom room (suc k) left) k n i t ws rs e in
+    found-step room n i t ws (λ (left : List ℕ). walkFrom room (suc k) left) rs s (flat-walkFrom room (suc k) (drop (tailLength i) ws) (s .later) (s .goes-on))
