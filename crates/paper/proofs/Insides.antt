@@ -101,7 +101,7 @@ unfolding heldBy tailRoles rowOf rows
 heldBy-outside T t e = ap (λ (r : Record). heldIn (rolesOf r) (wordsOf r)) e
 
 module _ (T : Table) (refs : (t : ℕ) → 1 ≤ t → t ≤ count T → refsOk T (recordAt T t) ≡ true) where
-  held-inside : (t u : ℕ) → List·Memᴰ u (heldBy T t) → (1 ≤ t) × (t ≤ count T) × IsType T u
+  pub held-inside : (t u : ℕ) → List·Memᴰ u (heldBy T t) → (1 ≤ t) × (t ≤ count T) × IsType T u
   unfolding refsOk heldBy
   held-inside zero u m = absurd (List·Memᴰ·not-nil (subst (List·Memᴰ u) (heldBy-outside T 0 refl) m))
   held-inside (suc t) u m = go (leb (suc t) (count T)) refl

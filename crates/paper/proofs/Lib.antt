@@ -15,4 +15,5 @@ pub mod Endless
 pub mod Gates
 pub mod Insides
 pub mod Sizes
+pub mod RenamingSizes
 pub mod Bench

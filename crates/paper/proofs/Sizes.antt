@@ -20,7 +20,7 @@ use Rattle.paper.specs.Table.{Table, count, recordAt, kindOf, vlenOf, ta
 -- ── what is found ──
 
 -- 22 and what else may be found, told apart
-abbrev isFar : Found → ℕ
+abbrev pub isFar : Found → ℕ
 isFar (exactly s) = 0
 isFar noneAt = 0
 isFar lostAt = 0
@@ -66,7 +66,7 @@ module _ (step : ℕ → Step) where
 
 -- ── a step goes on to a type that is held by value ──
 
-heldIn-getD : (i : ℕ) (ρs : List Role) (ws : List ℕ) → isHeld (getD ρs i number) ≡ true → (getD ws i 0 ≡ 0 → ⊥) → List·Memᴰ (getD ws i 0) (heldIn ρs ws)
+pub heldIn-getD : (i : ℕ) (ρs : List Role) (ws : List ℕ) → isHeld (getD ρs i number) ≡ true → (getD ws i 0 ≡ 0 → ⊥) → List·Memᴰ (getD ws i 0) (heldIn ρs ws)
 heldIn-getD i [] ws h n = absurd (false≢true h)
 heldIn-getD i (ρ ∷ ρs) [] h n = absurd (n refl)
 heldIn-getD zero (names rule ∷ ρs) (w ∷ ws) h n = absurd (false≢true h)
@@ -86,7 +86,7 @@ heldIn-getD (suc i) (ρ ∷ ρs) (w ∷ ws) h n = later ρ (heldIn-getD i ρs ws
     later number m = m
 
 -- what a step goes on to
-abbrev next : Step → ℕ
+abbrev pub next : Step → ℕ
 next (is s) = 0
 next (manyOf n u) = u
 next sizeless = 0
