@@ -1,0 +1,78 @@
+//! Cases written as text for a checker that computes them by itself.
+
+use crate::vectors::{run, Case, Seen, CHECK, SIZE};
+
+/// What stands before the first list: the names it leans on, and how a case
+/// is held against the definitions.
+const HEADER: &str = include_str!("judge.txt");
+
+const CASES_IN_A_LIST: usize = 25;
+
+/// The whole file: lists of at most 25 cases, cases1, cases2 and so on.
+pub fn file(cases: &[Case]) -> String {
+    let mut text = HEADER.to_string();
+    for (before, group) in cases.chunks(CASES_IN_A_LIST).enumerate() {
+        let lines: Vec<String> = group.iter().map(line).collect();
+        text.push_str(&named_list(before + 1, &lines));
+    }
+    text
+}
+
+/// The surface syntax of a named list, one case on a line, and of the claim
+/// that the definitions agree with all of it.
+fn named_list(which: usize, lines: &[String]) -> String {
+    let mut text = format!("\ncases{which} : List Case\ncases{which} =\n");
+    for line in lines {
+        text.push_str(&format!("    {line} ∷\n"));
+    }
+    text.push_str(&format!(
+        "    []\n\nagree{which} : differing 1 cases{which} ≡ []\n\
+         unfolding computes checked sized named joined cases{which}\nagree{which} = refl\n"
+    ));
+    text
+}
+
+/// The surface syntax of a list of numbers.
+fn numbers(list: &[u32]) -> String {
+    let mut text = String::from("(");
+    for number in list {
+        text.push_str(&format!("{number} ∷ "));
+    }
+    text.push_str("[])");
+    text
+}
+
+/// The surface syntax of a case: head, a, b, index, output.
+fn line(case: &Case) -> String {
+    let parts = parts(case, &run(case)).map(|part| numbers(&part));
+    format!("case {}", parts.join(" "))
+}
+
+/// The five lists of a case. The index is the lent one for a size question,
+/// which is then not written as bytes of b, and the one afterwards for a
+/// check; the output is the one afterwards, or a name's part.
+fn parts(case: &Case, seen: &Seen) -> [Vec<u32>; 5] {
+    let head = vec![
+        case.op,
+        case.index_places,
+        case.work_places,
+        case.output_bytes,
+        case.x,
+        seen.number,
+        seen.inner,
+        seen.t,
+        seen.p,
+    ];
+    let wide = |bytes: &[u8]| {
+        bytes
+            .iter()
+            .map(|byte| u32::from(*byte))
+            .collect::<Vec<u32>>()
+    };
+    let (b, index) = match case.op {
+        SIZE => (Vec::new(), crate::vectors::places(&case.b)),
+        CHECK => (wide(&case.b), seen.index.clone()),
+        _ => (wide(&case.b), Vec::new()),
+    };
+    [head, wide(&case.a), b, index, wide(&seen.output)]
+}

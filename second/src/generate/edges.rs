@@ -1,0 +1,221 @@
+//! The rules one by one at their edges, without chance: every bit of an info
+//! word, every byte of a name, every reference to every kind.
+
+use crate::generate::{edges_layout, edges_names, edges_questions, edges_walks};
+use crate::make::{blob_of, info, int_word, put_word, Make};
+use crate::reference::references;
+use crate::table::{Kind, ALL_KINDS};
+use crate::vectors::{Case, CHECK};
+
+/// All of them, in a fixed order.
+pub fn cases() -> Vec<Case> {
+    let mut found = Vec::new();
+    headers(&mut found);
+    for kind in ALL_KINDS {
+        heads(&mut found, kind);
+        cut_tails(&mut found, kind);
+        edges_names::names(&mut found, kind);
+        turned_references(&mut found, kind);
+    }
+    edges_names::name_bytes(&mut found);
+    edges_names::name_lengths(&mut found);
+    int_tails(&mut found);
+    linkages_and_parameters(&mut found);
+    edges_walks::cases(&mut found);
+    edges_layout::cases(&mut found);
+    edges_questions::cases(&mut found);
+    found
+}
+
+pub fn add(found: &mut Vec<Case>, m: &Make) {
+    add_blob(found, m.blob(), m.count() + 1);
+}
+
+fn add_blob(found: &mut Vec<Case>, a: Vec<u8>, places: u32) {
+    found.push(Case {
+        op: CHECK,
+        index_places: places,
+        work_places: places,
+        a,
+        ..Case::default()
+    });
+}
+
+/// A name at 1 and an empty string at 3.
+fn with_strings() -> Make {
+    let mut m = Make::new();
+    m.string("n");
+    m.string("");
+    m
+}
+
+const NAME: u32 = 1;
+
+/// An accepted table with an INT, a prototype, a VAR and a STRUCT, then a
+/// record of the kind, which is type 5 and the last.
+pub fn one_of(kind: Kind) -> Make {
+    let mut m = with_strings();
+    m.int(4);
+    m.proto(0, &[]);
+    m.var(NAME, 1);
+    m.structure(4, false, &[[NAME, 1, 0]]);
+    add_one(&mut m, kind);
+    m
+}
+
+fn add_one(m: &mut Make, kind: Kind) -> u32 {
+    let member = [NAME, 1, 0];
+    match kind {
+        Kind::Int => m.int(4),
+        Kind::Ptr | Kind::Volatile | Kind::Const | Kind::Restrict => m.bare(kind, 0, 1, &[]),
+        Kind::Array => m.array(1, 1, 3),
+        Kind::Struct | Kind::Union => m.listed(kind, false, NAME, 4, &[member, member]),
+        Kind::Enum => m.listed(kind, false, NAME, 4, &[[NAME, 7]]),
+        Kind::Enum64 => m.listed(kind, false, NAME, 8, &[[NAME, 7, 7]]),
+        Kind::Fwd => m.bare(kind, NAME, 0, &[]),
+        Kind::Typedef | Kind::TypeTag => m.bare(kind, NAME, 1, &[]),
+        Kind::Func => m.func(NAME, 2),
+        Kind::FuncProto => m.proto(1, &[[NAME, 1], [0, 0]]),
+        Kind::Var => m.var(NAME, 1),
+        Kind::Datasec => m.section(NAME, 4, &[[3, 0, 4]]),
+        Kind::Float => m.bare(kind, NAME, 4, &[]),
+        Kind::DeclTag => m.tag(NAME, 4, 0),
+    }
+}
+
+/// Each header word, a little and a lot off; each length up to 25.
+fn headers(found: &mut Vec<Case>) {
+    let blob = one_of(Kind::Ptr).blob();
+    for place in (0..24).step_by(4) {
+        for shift in [1, 2, 4, 1 << 8, 1 << 16, 1 << 24, 1 << 31, u32::MAX] {
+            let mut turned = blob.clone();
+            let word = crate::table::word(&blob, place);
+            put_word(&mut turned, place, word.wrapping_add(shift));
+            add_blob(found, turned, 6);
+        }
+    }
+    for length in 0..=25 {
+        add_blob(found, Make::new().blob()[..length].to_vec(), 1);
+    }
+    for places in 0..8 {
+        let case = Case {
+            op: CHECK,
+            a: blob.clone(),
+            ..Case::default()
+        };
+        found.push(Case {
+            index_places: places,
+            work_places: 7,
+            ..case.clone()
+        });
+        found.push(Case {
+            index_places: 7,
+            work_places: places,
+            ..case
+        });
+    }
+}
+
+/// Every bit of the info word turned, and many third words.
+fn heads(found: &mut Vec<Case>, kind: Kind) {
+    for bit in 0..32 {
+        let mut m = one_of(kind);
+        m.at(5).info ^= 1 << bit;
+        add(found, &m);
+    }
+    for linkage in 0..5 {
+        let mut m = one_of(kind);
+        if kind == Kind::Func {
+            m.at(5).info = info(kind, false, linkage);
+            add(found, &m);
+        }
+    }
+    for third in (0..=17).chain([24, 32, 64, 1 << 31, u32::MAX]) {
+        let mut m = one_of(kind);
+        m.at(5).third = third;
+        add(found, &m);
+    }
+}
+
+/// The type section ends after each word of the last record.
+fn cut_tails(found: &mut Vec<Case>, kind: Kind) {
+    let m = one_of(kind);
+    let words = m.type_words();
+    for cut in 1..=3 + m.records[4].tail.len() {
+        add_blob(found, blob_of(&words[..words.len() - cut], &m.strings), 6);
+    }
+}
+
+/// Every reference of a record, to one type of every kind and past them.
+fn turned_references(found: &mut Vec<Case>, kind: Kind) {
+    let mut zoo = one_of(kind);
+    for other in ALL_KINDS {
+        add_one(&mut zoo, other);
+    }
+    let Some(table) = crate::generate::pieces::table_of(&zoo) else {
+        return;
+    };
+    for reference in references(&table.records[4]) {
+        for to in (0..=zoo.count() + 1).chain([1 << 31, u32::MAX]) {
+            let mut m = zoo.clone();
+            match reference.word {
+                2 => m.at(5).third = to,
+                word => m.at(5).tail[word - 3] = to,
+            }
+            add(found, &m);
+        }
+    }
+}
+
+/// Every bit, every encoding, and offset and width around each limit.
+fn int_tails(found: &mut Vec<Case>) {
+    let mut with = |bytes: u32, word: u32| {
+        let mut m = Make::new();
+        m.bare(Kind::Int, 0, bytes, &[word]);
+        add(found, &m);
+    };
+    for bit in 0..32 {
+        with(4, int_word(0, 0, 32) ^ (1 << bit));
+    }
+    for encoding in 0..16 {
+        with(2, int_word(encoding, 0, 16));
+    }
+    for bytes in [1, 2, 4, 8, 16] {
+        for offset in [0, 1, 4 * bytes, 8 * bytes - 1, 8 * bytes] {
+            let rest: u32 = 8 * bytes - offset;
+            for width in [0, 1, rest.saturating_sub(1), rest, rest + 1, 255] {
+                with(bytes, int_word(1, offset, width));
+            }
+        }
+    }
+}
+
+fn linkages_and_parameters(found: &mut Vec<Case>) {
+    for linkage in [0, 1, 2, 3, 4, 256, 1 << 16, 1 << 31, u32::MAX] {
+        let mut m = one_of(Kind::Var);
+        m.at(5).tail[0] = linkage;
+        add(found, &m);
+    }
+    let choices = [
+        [0, 0],
+        [NAME, 0],
+        [3, 0],
+        [4, 0],
+        [0, 1],
+        [NAME, 1],
+        [9, 0],
+        [0, 9],
+    ];
+    for first in choices {
+        for last in choices {
+            for with_func in [false, true] {
+                let mut m = one_of(Kind::Int);
+                let prototype = m.proto(0, &[first, last]);
+                if with_func {
+                    m.func(NAME, prototype);
+                }
+                add(found, &m);
+            }
+        }
+    }
+}

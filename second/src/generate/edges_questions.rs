@@ -1,0 +1,169 @@
+//! Sizes, names and joins at their edges, without chance.
+
+use crate::generate::edges::one_of;
+use crate::generate::pieces::index_of;
+use crate::make::{put_word, Make};
+use crate::table::{Kind, ALL_KINDS};
+use crate::vectors::{bytes_of, Case, JOIN, NAME, SIZE};
+
+pub fn cases(found: &mut Vec<Case>) {
+    uniform_blobs(found);
+    every_kind_number(found);
+    array_tails(found);
+    index_lengths(found);
+    products(found);
+    name_offsets(found);
+    joins(found);
+}
+
+fn ask_size(found: &mut Vec<Case>, blob: &[u8], index: &[u32], number: u32) {
+    let (a, b) = (blob.to_vec(), bytes_of(index));
+    found.push(Case {
+        op: SIZE,
+        x: number,
+        a,
+        b,
+        ..Case::default()
+    });
+}
+
+/// Blobs of one byte, which read as the same record at every place.
+fn uniform_blobs(found: &mut Vec<Case>) {
+    for byte in [0, 1, 2, 7, 20, 31] {
+        for length in [0, 11, 12, 24, 35, 36, 37, 48] {
+            let end = length as u32;
+            let near_end = [13, 12, 11, 1, 0].map(|back| end.wrapping_sub(back));
+            let fixed = [0, 1, 12, 22, 23, 24, 25, u32::MAX - 11, u32::MAX];
+            for place in fixed.into_iter().chain(near_end) {
+                ask_size(found, &vec![byte; length], &[0, place], 1);
+            }
+        }
+    }
+}
+
+/// Every kind number with and without the other bits of the info word.
+fn every_kind_number(found: &mut Vec<Case>) {
+    for kind in 0..32 {
+        for other_bits in [0, 0xE0FF_FFFF] {
+            for third in [0, 1, 2, 5] {
+                let mut m = Make::new();
+                m.raw(0, (kind << 24) | other_bits, third, &[2, 0, 3]);
+                m.int(4);
+                ask_size(found, &m.blob(), &[0, 24, 48], 1);
+                ask_size(found, &m.blob()[..36], &[0, 24, 48], 1);
+            }
+        }
+    }
+}
+
+/// An array whose tail just fits or just does not, aligned or not.
+fn array_tails(found: &mut Vec<Case>) {
+    for at in 36..40 {
+        for length in 11..=26 {
+            let mut blob = vec![0; at + 26];
+            put_word(&mut blob, 28, 1 << 24);
+            put_word(&mut blob, 32, 5);
+            put_word(&mut blob, at + 4, 3 << 24);
+            put_word(&mut blob, at + 12, 2);
+            put_word(&mut blob, at + 20, 3);
+            ask_size(found, &blob[..at + length], &[0, at as u32, 24], 1);
+        }
+    }
+}
+
+/// A chain and a ring, with true, shortened and lengthened indexes.
+fn index_lengths(found: &mut Vec<Case>) {
+    for last in [0, 1, 3, 4] {
+        let mut m = Make::new();
+        m.constant(2);
+        m.constant(3);
+        m.constant(last);
+        m.ptr(0);
+        let mut index = index_of(&m);
+        index.extend([24, 36]);
+        for places in 0..=index.len() {
+            for number in (0..8).chain([1 << 31, u32::MAX]) {
+                ask_size(found, &m.blob(), &index[..places], number);
+            }
+        }
+    }
+}
+
+/// Products around the limit, with zero, with nothing and with too much.
+fn products(found: &mut Vec<Case>) {
+    let counts = [0, 1, 2, 65_535, 65_536, 65_537, u32::MAX];
+    for inner in counts {
+        for outer in counts {
+            for bytes in [0, 1, 2, u32::MAX] {
+                let mut m = Make::new();
+                m.structure(bytes, false, &[]);
+                m.int(1);
+                m.array(1, 2, inner);
+                m.array(3, 2, outer);
+                ask_size(found, &m.blob(), &index_of(&m), 4);
+            }
+            let mut m = Make::new();
+            m.constant(0);
+            m.array(1, 1, inner);
+            m.array(2, 1, outer);
+            ask_size(found, &m.blob(), &index_of(&m), 3);
+            ask_size(found, &m.blob(), &[0, 0, 36, 60], 3);
+        }
+    }
+}
+
+/// Every offset of a few tables, and each first byte or word turned.
+fn name_offsets(found: &mut Vec<Case>) {
+    let mut m = one_of(Kind::Ptr);
+    m.string("ab_c");
+    let blob = m.blob();
+    let offsets = (0..m.strings.len() as u32 + 3).chain([1 << 31, u32::MAX - 100, u32::MAX]);
+    for offset in offsets {
+        found.push(Case {
+            op: NAME,
+            x: offset,
+            a: blob.clone(),
+            ..Case::default()
+        });
+    }
+    let strings_at = blob.len() - m.strings.len();
+    for at in (0..24).chain([strings_at, blob.len() - 1]) {
+        let mut turned = blob.clone();
+        turned[at] ^= 1;
+        found.push(Case {
+            op: NAME,
+            x: 1,
+            a: turned,
+            ..Case::default()
+        });
+    }
+}
+
+/// Every kind joined behind every other, and each output length in turn.
+fn joins(found: &mut Vec<Case>) {
+    let call = |a: &[u8], b: &[u8], places: u32, output_bytes: u32| Case {
+        op: JOIN,
+        index_places: places,
+        work_places: places,
+        output_bytes,
+        x: 0,
+        a: a.to_vec(),
+        b: b.to_vec(),
+    };
+    for first in ALL_KINDS {
+        for second in ALL_KINDS {
+            let (a, b) = (one_of(first).blob(), one_of(second).blob());
+            let joined = (a.len() + b.len() - 25) as u32;
+            found.push(call(&a, &b, 6, joined + 2));
+        }
+    }
+    let (e, t) = (Make::new().blob(), one_of(Kind::Struct).blob());
+    for (a, b) in [(&e, &t), (&t, &e), (&e, &e)] {
+        let joined = (a.len() + b.len() - 25) as u32;
+        for output_bytes in [0, joined - 1, joined, joined + 1] {
+            for places in [0, 1, 5, 6, 7] {
+                found.push(call(a, b, places, output_bytes));
+            }
+        }
+    }
+}

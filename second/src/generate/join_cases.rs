@@ -1,0 +1,115 @@
+//! Cases of the join: pairs that fit, pairs refused on each ground.
+
+use crate::generate::check_cases::{aim, aimed, slices, Aimed, ACCEPTED, WILD};
+use crate::generate::random::Random;
+use crate::generate::{fits, large, valid, Scale};
+use crate::make::Make;
+use crate::vectors::{run, Case, JOIN};
+
+pub fn case(r: &mut Random, scale: Scale) -> Case {
+    let ground = r.pick(&[0, 0, 16, 16, 17, 17, 18, 19, 20]);
+    if ground == 18 || ground == 19 {
+        if scale != Scale::Full || !r.one_in(3) {
+            return case(r, scale);
+        }
+        return large_pair(r, ground);
+    }
+    loop {
+        let case = pair(r, scale, ground);
+        let stays = run(&case).number == ground || r.one_in(8);
+        if stays && fits(&case, scale) {
+            return case;
+        }
+    }
+}
+
+/// An accepted table, at times the empty one.
+fn good(r: &mut Random, scale: Scale) -> Aimed {
+    let m = if r.one_in(6) {
+        Make::new()
+    } else {
+        valid::table(r, scale)
+    };
+    Aimed {
+        blob: m.blob(),
+        places: m.count() + 1,
+    }
+}
+
+/// A table aimed at a report that needs no limits.
+fn bad(r: &mut Random, scale: Scale) -> (Aimed, bool) {
+    let mut number = aim(r, scale);
+    while number == ACCEPTED || number > WILD {
+        number = aim(r, scale);
+    }
+    (aimed(r, scale, number), number == 9)
+}
+
+fn pair(r: &mut Random, scale: Scale, ground: u32) -> Case {
+    let mut short = false;
+    let mut refused = |r: &mut Random| {
+        let (table, is_short) = bad(r, scale);
+        short = is_short;
+        table
+    };
+    let (a, b) = match ground {
+        16 if r.one_in(4) => (refused(r), refused(r)),
+        16 => (refused(r), good(r, scale)),
+        17 => (good(r, scale), refused(r)),
+        _ => (good(r, scale), good(r, scale)),
+    };
+    let (index_places, work_places) = if short && ground == 17 && a.places < b.places {
+        // Enough for the first table and too few for the second.
+        let few = r.between(a.places, b.places - 1);
+        r.pick(&[(few, b.places), (b.places, few), (few, few)])
+    } else {
+        // Places for the larger of the two are enough.
+        slices(r, a.places.max(b.places), short)
+    };
+    lend(r, a.blob, b.blob, index_places, work_places, ground)
+}
+
+/// Adds an output of fitting length, or a shorter one for report 20.
+fn lend(r: &mut Random, a: Vec<u8>, b: Vec<u8>, index: u32, work: u32, ground: u32) -> Case {
+    let joined = (a.len() + b.len()).saturating_sub(25) as u32;
+    let output_bytes = match ground {
+        20 => r.pick(&[
+            0,
+            24,
+            joined.saturating_sub(1),
+            joined.saturating_sub(1),
+            joined / 2,
+        ]),
+        0 => joined + r.pick(&[0, 0, 1, 5, 20]),
+        _ => r.pick(&[0, 8, joined, joined + 3]),
+    };
+    Case {
+        op: JOIN,
+        index_places: index,
+        work_places: work,
+        output_bytes: output_bytes.min(70_000),
+        x: 0,
+        a,
+        b,
+    }
+}
+
+/// Pairs around 4,096 types or around 65,536 bytes together.
+fn large_pair(r: &mut Random, ground: u32) -> Case {
+    let (a, b) = if ground == 18 {
+        let first = r.pick(&[1, 100, 2_048, 4_000, 4_096]);
+        let together = r.pick(&[4_096, 4_097, 4_097, 4_098, 4_100]);
+        (
+            large::pointers(first).blob(),
+            large::pointers(together - first).blob(),
+        )
+    } else {
+        let a = valid::table(r, Scale::Small).blob();
+        let b = valid::table(r, Scale::Small);
+        let together = r.pick(&[65_536, 65_537, 65_537, 65_538, 65_540]);
+        let length = (together + 25 - a.len()).min(65_536);
+        (a, large::padded(&b, length))
+    };
+    let output = r.pick(&[0, 19, 19, 19, 20]);
+    lend(r, a, b, 4_097, 4_097, output)
+}

@@ -1,0 +1,111 @@
+//! The generator: cases of every op from a seed. The same seed, count and
+//! choices give the same cases on every machine.
+
+pub mod check_cases;
+pub mod damage_bytes;
+pub mod damage_layout;
+pub mod damage_references;
+pub mod damage_words;
+pub mod edges;
+pub mod edges_layout;
+pub mod edges_names;
+pub mod edges_questions;
+pub mod edges_walks;
+pub mod grow;
+pub mod grow_members;
+pub mod join_cases;
+pub mod large;
+pub mod name_cases;
+pub mod pieces;
+pub mod random;
+pub mod scene_members;
+pub mod size_cases;
+pub mod valid;
+
+use crate::vectors::{run, Case, CHECK, JOIN, NAME, SIZE};
+use random::Random;
+
+/// How large cases may be.
+#[derive(Clone, Copy, PartialEq, Eq, Debug)]
+pub enum Scale {
+    /// For a checker that computes slowly.
+    Tiny,
+    /// No limits are reached.
+    Small,
+    /// Mostly small, some at the limits.
+    Full,
+}
+
+/// Which cases are wanted.
+pub struct Wanted {
+    pub seed: u64,
+    pub cases: usize,
+    pub ops: Vec<u32>,
+    pub scale: Scale,
+    /// Only cases with this answer number.
+    pub only: Option<u32>,
+    /// The fixed cases of every rule's edges instead of a seed's.
+    pub edges: bool,
+}
+
+/// Tries for each case before a choice nothing can fulfil is given up.
+const MOST_TRIES: usize = 20_000;
+
+pub fn cases(wanted: &Wanted) -> Vec<Case> {
+    if wanted.edges {
+        return edges::cases()
+            .into_iter()
+            .filter(|case| answers(case, wanted))
+            .collect();
+    }
+    let mut r = Random::new(wanted.seed);
+    let mut found = Vec::new();
+    let mut tries = 0;
+    while found.len() < wanted.cases && tries < MOST_TRIES {
+        let case = one(&mut r, wanted);
+        if answers(&case, wanted) {
+            found.push(case);
+            tries = 0;
+        } else {
+            tries += 1;
+        }
+    }
+    found
+}
+
+/// Has a case the number asked for, and does it fit?
+fn answers(case: &Case, wanted: &Wanted) -> bool {
+    wanted.ops.contains(&case.op)
+        && fits(case, wanted.scale)
+        && wanted.only.is_none_or(|number| run(case).number == number)
+}
+
+/// Checks and joins have the most answers, so they come more often.
+fn one(r: &mut Random, wanted: &Wanted) -> Case {
+    let weighted = [
+        CHECK, CHECK, CHECK, CHECK, SIZE, SIZE, NAME, JOIN, JOIN, JOIN,
+    ];
+    let open: Vec<u32> = weighted
+        .into_iter()
+        .filter(|op| wanted.ops.contains(op))
+        .collect();
+    match r.pick(&open) {
+        CHECK => check_cases::case(r, wanted.scale),
+        SIZE => size_cases::case(r, wanted.scale),
+        NAME => name_cases::case(r, wanted.scale),
+        _ => join_cases::case(r, wanted.scale),
+    }
+}
+
+/// The slow checker takes short tables and slices only.
+pub fn fits(case: &Case, scale: Scale) -> bool {
+    if scale != Scale::Tiny {
+        return true;
+    }
+    case.a.len() <= 150
+        && case.b.len() <= 150
+        && case.index_places <= 12
+        && case.work_places <= 12
+        && case.output_bytes <= 220
+        && (case.op != SIZE || case.b.len() <= 48)
+}

@@ -1,0 +1,61 @@
+//! Phase 1: the header and the two sections, reports 1 to 5.
+
+use crate::report::Report;
+use crate::table::{word, HEADER_BYTES, MOST_BYTES};
+
+/// Lengths of the two sections of a blob that passed phase 1.
+#[derive(Clone, Copy, PartialEq, Eq, Debug)]
+pub struct Sections {
+    pub type_len: usize,
+    pub str_len: usize,
+}
+
+impl Sections {
+    /// Where the string section begins, which is where the types end.
+    pub fn strings_at(&self) -> usize {
+        HEADER_BYTES + self.type_len
+    }
+}
+
+/// The smallest number speaks, so the tests run in the order of the table.
+pub fn phase_1(blob: &[u8]) -> Result<Sections, Report> {
+    let tests = [report_1, report_2, report_3, report_4, report_5];
+    for (before, broken) in tests.iter().enumerate() {
+        if broken(blob) {
+            return Err(Report::new(before as u32 + 1, 0));
+        }
+    }
+    Ok(Sections {
+        type_len: word(blob, 12) as usize,
+        str_len: word(blob, 20) as usize,
+    })
+}
+
+fn report_1(blob: &[u8]) -> bool {
+    blob.len() < HEADER_BYTES || blob.len() > MOST_BYTES
+}
+
+fn report_2(blob: &[u8]) -> bool {
+    blob[..4] != [0x9F, 0xEB, 0x01, 0x00]
+}
+
+fn report_3(blob: &[u8]) -> bool {
+    word(blob, 4) != 24
+}
+
+fn report_4(blob: &[u8]) -> bool {
+    let type_off = word(blob, 8);
+    let type_len = word(blob, 12);
+    let str_off = word(blob, 16);
+    let str_len = word(blob, 20);
+    // In 64 bits, so that the sum is exact and cannot wrap past the test.
+    let whole = 24 + u64::from(type_len) + u64::from(str_len);
+    type_off != 0 || type_len % 4 != 0 || str_off != type_len || whole != blob.len() as u64
+}
+
+/// Asked after report 4, so the string section is the end of the blob.
+fn report_5(blob: &[u8]) -> bool {
+    let str_len = word(blob, 20) as usize;
+    let strings = &blob[blob.len() - str_len..];
+    strings.is_empty() || strings[0] != 0 || strings[str_len - 1] != 0
+}

@@ -1,0 +1,150 @@
+//! The command line of the second implementation of paper 01.
+//!
+//!     second vectors --seed S --cases N [--ops 1,2,3,4] [--small] [--only R]
+//!     second antt    --seed S --cases N [--ops 1,2,3,4] [--only R]
+//!     second census  --seed S --cases N [--ops 1,2,3,4] [--small]
+//!     second check FILE
+//!
+//! With `--edges` in place of a seed and a count, the first three write the
+//! fixed cases of every rule's edges.
+
+use second::generate::{cases, Scale, Wanted};
+use second::report::meaning;
+use second::vectors::{self, run, Case, CHECK, JOIN, NAME, SIZE};
+use std::collections::BTreeMap;
+use std::io::Write;
+use std::process::ExitCode;
+
+const USAGE: &str = "\
+second vectors --seed S --cases N [--ops 1,2,3,4] [--small] [--only R]
+second antt    --seed S --cases N [--ops 1,2,3,4] [--only R]
+second census  --seed S --cases N [--ops 1,2,3,4] [--small]
+second check FILE
+(--edges in place of a seed and a count: the fixed cases of every rule's edges)";
+
+fn main() -> ExitCode {
+    let arguments: Vec<String> = std::env::args().skip(1).collect();
+    match act(&arguments) {
+        Ok(bytes) => match std::io::stdout().write_all(&bytes) {
+            Ok(()) => ExitCode::SUCCESS,
+            Err(_) => ExitCode::FAILURE,
+        },
+        Err(message) => {
+            eprintln!("{message}");
+            ExitCode::FAILURE
+        }
+    }
+}
+
+fn act(arguments: &[String]) -> Result<Vec<u8>, String> {
+    let (command, rest) = arguments.split_first().ok_or(USAGE)?;
+    match command.as_str() {
+        "vectors" => Ok(vectors::file(&cases(&wanted(rest)?))),
+        "antt" => {
+            let wanted = Wanted {
+                scale: Scale::Tiny,
+                ..wanted(rest)?
+            };
+            Ok(second::antt::file(&cases(&wanted)).into_bytes())
+        }
+        "census" => Ok(census(&cases(&wanted(rest)?)).into_bytes()),
+        "check" => judge_file(rest.first().ok_or(USAGE)?),
+        _ => Err(USAGE.to_string()),
+    }
+}
+
+fn wanted(arguments: &[String]) -> Result<Wanted, String> {
+    let mut wanted = Wanted {
+        seed: 1,
+        cases: 100,
+        ops: vec![1, 2, 3, 4],
+        scale: Scale::Full,
+        only: None,
+        edges: false,
+    };
+    let mut rest = arguments.iter();
+    while let Some(argument) = rest.next() {
+        match argument.as_str() {
+            "--small" => {
+                wanted.scale = Scale::Small;
+                continue;
+            }
+            "--edges" => {
+                wanted.edges = true;
+                continue;
+            }
+            _ => {}
+        }
+        let value = rest.next().ok_or(USAGE)?;
+        let numbers: Result<Vec<u64>, _> = value.split(',').map(str::parse).collect();
+        let numbers = numbers.map_err(|_| format!("not a number: {value}"))?;
+        match argument.as_str() {
+            "--seed" => wanted.seed = numbers[0],
+            "--cases" => wanted.cases = numbers[0] as usize,
+            "--only" => wanted.only = Some(numbers[0] as u32),
+            "--ops" => wanted.ops = numbers.iter().map(|op| *op as u32).collect(),
+            _ => return Err(USAGE.to_string()),
+        }
+    }
+    if wanted.ops.is_empty() || !wanted.ops.iter().all(|op| (CHECK..=JOIN).contains(op)) {
+        return Err("ops are 1, 2, 3 and 4".to_string());
+    }
+    Ok(wanted)
+}
+
+/// How many cases there are of each op and answer.
+fn census(cases: &[Case]) -> String {
+    let mut counts: BTreeMap<(u32, u32, u32), usize> = BTreeMap::new();
+    for case in cases {
+        let seen = run(case);
+        *counts
+            .entry((case.op, seen.number, seen.inner))
+            .or_default() += 1;
+    }
+    let mut text = String::new();
+    for ((op, number, inner), count) in counts {
+        let inside = if inner == 0 {
+            String::new()
+        } else {
+            format!(" with {inner} inside")
+        };
+        text += &format!("{count:6}  {}{inside}\n", answer_in_words(op, number));
+    }
+    text + &format!("{:6}  cases\n", cases.len())
+}
+
+fn answer_in_words(op: u32, number: u32) -> String {
+    let (call, answer) = match (op, number) {
+        (CHECK, 0) => ("check", "accepted"),
+        (SIZE, 0) => ("size", "exact"),
+        (SIZE, 1) => ("size", "no size"),
+        (SIZE, 2) => ("size", "overflow"),
+        (NAME, 0) => ("name", "part of the blob"),
+        (NAME, _) => ("name", "no name there"),
+        (JOIN, 0) => ("join", "joined"),
+        (CHECK, _) => ("check", "report"),
+        (SIZE, _) => ("size", "report"),
+        _ => ("join", "report"),
+    };
+    format!("op {op} {call}: {number:2} {answer}")
+}
+
+/// One line on the blob in a file.
+fn judge_file(path: &str) -> Result<Vec<u8>, String> {
+    let blob = std::fs::read(path).map_err(|error| format!("{path}: {error}"))?;
+    let mut index = vec![0; 4_097];
+    let mut work = vec![0; 4_097];
+    let line = match second::check(&blob, &mut index, &mut work) {
+        Ok(1) => "accepted, 1 type\n".to_string(),
+        Ok(count) => format!("accepted, {count} types\n"),
+        Err(report) => {
+            let what = meaning(report.number);
+            let at = match report.type_number {
+                0 => String::new(),
+                number => format!(", at type {number}"),
+            };
+            format!("refused, report {}: {what}{at}\n", report.number)
+        }
+    };
+    Ok(line.into_bytes())
+}

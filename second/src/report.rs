@@ -1,0 +1,46 @@
+//! The gate's reports 1 to 15 and what each of them means.
+
+/// A report: its number in paper 01's table and the type it names.
+#[derive(Clone, Copy, PartialEq, Eq, Debug)]
+pub struct Report {
+    pub number: u32,
+    pub type_number: u32,
+}
+
+impl Report {
+    pub fn new(number: u32, type_number: u32) -> Report {
+        Report {
+            number,
+            type_number,
+        }
+    }
+}
+
+/// One line in words for each number an answer can carry.
+pub fn meaning(number: u32) -> &'static str {
+    match number {
+        1 => "the file is under 24 bytes or over 65,536",
+        2 => "the first four bytes are not 9F EB 01 00",
+        3 => "the header length is not 24",
+        4 => "the section places and lengths do not add up to the file",
+        5 => "the string section is empty or does not begin and end with a zero byte",
+        6 => "a record does not fit the type section",
+        7 => "a record has an unknown kind",
+        8 => "there are more than 4,096 records",
+        9 => "the index or the work slice has too few places",
+        10 => "a record's head breaks a rule",
+        11 => "a name breaks a rule",
+        12 => "a word after a record's head breaks a rule",
+        13 => "a reference leads nowhere or to a forbidden kind",
+        14 => "a type holds itself by value, or leads to one that does",
+        15 => "a layout rule is broken",
+        16 => "the first table is refused",
+        17 => "the second table is refused",
+        18 => "over 4,096 types together",
+        19 => "the joined length is over 65,536",
+        20 => "the output is too short",
+        21 => "the index leads outside what can be read",
+        22 => "more records would be read than the index has places",
+        _ => "no report",
+    }
+}

@@ -1,0 +1,169 @@
+//! Cases, what is seen of them, and the vector file.
+
+use crate::check::check;
+use crate::join::join;
+use crate::name::name;
+use crate::size::{size, SizeAnswer};
+
+pub const CHECK: u32 = 1;
+pub const SIZE: u32 = 2;
+pub const NAME: u32 = 3;
+pub const JOIN: u32 = 4;
+
+/// What is lent or passed in one call.
+#[derive(Clone, PartialEq, Eq, Debug, Default)]
+pub struct Case {
+    pub op: u32,
+    pub index_places: u32,
+    pub work_places: u32,
+    pub output_bytes: u32,
+    pub x: u32,
+    pub a: Vec<u8>,
+    pub b: Vec<u8>,
+}
+
+/// What must be seen afterwards: the answer and each whole lent slice. For a
+/// name, `output` is the part.
+#[derive(Clone, PartialEq, Eq, Debug, Default)]
+pub struct Seen {
+    pub number: u32,
+    pub inner: u32,
+    pub t: u32,
+    pub p: u32,
+    pub index: Vec<u32>,
+    pub work: Vec<u32>,
+    pub output: Vec<u8>,
+}
+
+pub fn run(case: &Case) -> Seen {
+    match case.op {
+        CHECK => run_check(case),
+        SIZE => run_size(case),
+        NAME => run_name(case),
+        _ => run_join(case),
+    }
+}
+
+/// Lent slices before a call, filled as the file's form says.
+fn lent(case: &Case) -> Seen {
+    Seen {
+        index: vec![u32::MAX; case.index_places as usize],
+        work: vec![u32::MAX; case.work_places as usize],
+        output: vec![165; case.output_bytes as usize],
+        ..Seen::default()
+    }
+}
+
+fn run_check(case: &Case) -> Seen {
+    let mut seen = lent(case);
+    match check(&case.a, &mut seen.index, &mut seen.work) {
+        Ok(count) => seen.t = count,
+        Err(report) => {
+            seen.number = report.number;
+            seen.t = report.type_number;
+        }
+    }
+    seen
+}
+
+/// The index is b, so no u32 slice is lent.
+fn run_size(case: &Case) -> Seen {
+    let mut seen = lent(case);
+    match size(&case.a, &places(&case.b), case.x) {
+        SizeAnswer::Exact(bytes) => seen.p = bytes,
+        SizeAnswer::NoSize => seen.number = 1,
+        SizeAnswer::Overflow => seen.number = 2,
+        SizeAnswer::Report21 => seen.number = 21,
+        SizeAnswer::Report22 => seen.number = 22,
+    }
+    seen
+}
+
+fn run_name(case: &Case) -> Seen {
+    let (part, nameless) = name(&case.a, case.x);
+    Seen {
+        number: u32::from(nameless),
+        p: part.len() as u32,
+        output: part.to_vec(),
+        ..lent(case)
+    }
+}
+
+fn run_join(case: &Case) -> Seen {
+    let mut seen = lent(case);
+    match join(
+        &case.a,
+        &case.b,
+        &mut seen.index,
+        &mut seen.work,
+        &mut seen.output,
+    ) {
+        Ok(length) => seen.p = length as u32,
+        Err(refusal) => {
+            seen.number = refusal.number();
+            if let Some(report) = refusal.inner() {
+                seen.inner = report.number;
+                seen.t = report.type_number;
+            }
+        }
+    }
+    seen
+}
+
+/// Bytes read as u32 places, low byte first.
+pub fn places(bytes: &[u8]) -> Vec<u32> {
+    bytes
+        .chunks_exact(4)
+        .map(|four| crate::table::word(four, 0))
+        .collect()
+}
+
+/// u32 places written as bytes, low byte first.
+pub fn bytes_of(places: &[u32]) -> Vec<u8> {
+    places
+        .iter()
+        .flat_map(|place| place.to_le_bytes())
+        .collect()
+}
+
+/// The sum of a slice; 1 for an empty one.
+pub fn sum(bytes: &[u8]) -> u32 {
+    let mut sum: u64 = 1;
+    for byte in bytes {
+        sum = (sum * 257 + u64::from(*byte)) % 4_294_967_291;
+    }
+    sum as u32
+}
+
+/// The whole vector file.
+pub fn file(cases: &[Case]) -> Vec<u8> {
+    let mut file = b"SCRV".to_vec();
+    file.extend(bytes_of(&[1, cases.len() as u32]));
+    for case in cases {
+        let seen = run(case);
+        let first = [
+            case.op,
+            case.index_places,
+            case.work_places,
+            case.output_bytes,
+            case.x,
+            0,
+            case.a.len() as u32,
+            case.b.len() as u32,
+        ];
+        let last = [
+            seen.number,
+            seen.inner,
+            seen.t,
+            seen.p,
+            sum(&bytes_of(&seen.index)),
+            sum(&bytes_of(&seen.work)),
+            sum(&seen.output),
+        ];
+        file.extend(bytes_of(&first));
+        file.extend(&case.a);
+        file.extend(&case.b);
+        file.extend(bytes_of(&last));
+    }
+    file
+}

@@ -1,0 +1,62 @@
+//! Phase 2: the walk over the type section, reports 6 to 9.
+
+use crate::header::Sections;
+use crate::report::Report;
+use crate::table::{kind_number_of, vlen_of, word, Kind, Record, Table};
+use crate::table::{HEADER_BYTES, HEAD_BYTES, MOST_TYPES};
+
+/// Walks the records one after the other and stops at the first fault.
+pub fn phase_2(blob: &[u8], sections: Sections) -> Result<Table, Report> {
+    let end = sections.strings_at();
+    let mut place = HEADER_BYTES;
+    let mut records = Vec::new();
+    while place < end {
+        // Report 8 comes before anything is read of the bytes that remain.
+        if report_8(&records) {
+            return Err(Report::new(8, 4_097));
+        }
+        let record = read_record(blob, place, end, records.len() as u32 + 1)?;
+        place += HEAD_BYTES + 4 * record.tail.len();
+        records.push(record);
+    }
+    let strings = blob[end..].to_vec();
+    Ok(Table { records, strings })
+}
+
+/// Asked where bytes remain: have 4,096 records been read already?
+fn report_8(records: &[Record]) -> bool {
+    records.len() == MOST_TYPES
+}
+
+/// Reads the record at a place: 6 for a head or tail that doesn't fit, 7 for
+/// an unknown kind, which has no tail.
+fn read_record(blob: &[u8], place: usize, end: usize, number: u32) -> Result<Record, Report> {
+    if place + HEAD_BYTES > end {
+        return Err(Report::new(6, number));
+    }
+    let info = word(blob, place + 4);
+    let Some(kind) = Kind::from_number(kind_number_of(info)) else {
+        return Err(Report::new(7, number));
+    };
+    let tail_words = kind.tail_words(vlen_of(info));
+    let tail_at = place + HEAD_BYTES;
+    if tail_at + 4 * tail_words > end {
+        return Err(Report::new(6, number));
+    }
+    Ok(Record {
+        place,
+        kind,
+        name: word(blob, place),
+        info,
+        third: word(blob, place + 8),
+        tail: (0..tail_words)
+            .map(|k| word(blob, tail_at + 4 * k))
+            .collect(),
+    })
+}
+
+/// Void needs a place too, so n types ask n + 1 places of either slice.
+pub fn report_9(table: &Table, index_places: usize, work_places: usize) -> bool {
+    let needed = table.records.len() + 1;
+    index_places < needed || work_places < needed
+}

@@ -1,0 +1,161 @@
+//! Generated cases keep what holds for all of them.
+
+mod common;
+
+use common::*;
+use second::chain::{by_value, report_14, report_14_by_the_letter};
+use second::check::judge;
+use second::generate::edges::one_of;
+use second::generate::pieces::table_of;
+use second::generate::random::Random;
+use second::generate::{cases, damage_references, valid, Scale, Wanted};
+use second::table::{Kind, Table, ALL_KINDS};
+use second::vectors::{file, run, sum, CHECK, JOIN};
+
+fn wanted(seed: u64, cases: usize) -> Wanted {
+    Wanted {
+        seed,
+        cases,
+        ops: vec![1, 2, 3, 4],
+        scale: Scale::Full,
+        only: None,
+        edges: false,
+    }
+}
+
+/// Does some walk from a type come back to a type it has been at?
+fn reaches_ring(table: &Table, at: u32, path: &mut Vec<u32>) -> bool {
+    if path.contains(&at) {
+        return true;
+    }
+    path.push(at);
+    let ends = by_value(&table.records[at as usize - 1]);
+    let found = ends.into_iter().any(|end| reaches_ring(table, end, path));
+    path.pop();
+    found
+}
+
+#[test]
+fn report_14_is_what_the_paper_says() {
+    let mut r = Random::new(14);
+    let mut rings = 0;
+    for _ in 0..2_000 {
+        let mut m = valid::table(&mut r, Scale::Small);
+        damage_references::ring(&mut r, &mut m);
+        let Some(table) = table_of(&m) else { continue };
+        let found = report_14(&table);
+        assert_eq!(found, report_14_by_the_letter(&table));
+        let by_search = (1..=table.count()).find(|at| reaches_ring(&table, *at, &mut Vec::new()));
+        assert_eq!(found, by_search);
+        rings += u32::from(found.is_some());
+    }
+    assert!(rings > 1_000);
+}
+
+#[test]
+fn valid_tables_are_accepted_and_have_every_kind() {
+    let mut r = Random::new(3);
+    let mut kinds = Vec::new();
+    for _ in 0..500 {
+        let m = valid::table(&mut r, Scale::Small);
+        let table = judge(&m.blob(), 4_097, 4_097).expect("accepted");
+        kinds.extend(
+            table
+                .records
+                .iter()
+                .map(|record| (record.kind, record.kind_flag())),
+        );
+    }
+    for kind in ALL_KINDS {
+        assert!(kinds.contains(&(kind, false)), "{kind:?}");
+    }
+    for kind in [
+        Kind::Struct,
+        Kind::Union,
+        Kind::Enum,
+        Kind::Fwd,
+        Kind::DeclTag,
+        Kind::TypeTag,
+    ] {
+        assert!(kinds.contains(&(kind, true)), "{kind:?}");
+    }
+}
+
+#[test]
+fn joins_are_accepted_grouped_and_counted() {
+    let mut r = Random::new(5);
+    for _ in 0..300 {
+        let [a, b, c] = [0; 3].map(|_| valid::table(&mut r, Scale::Small));
+        let [x, y, z] = [&a, &b, &c].map(|m| m.blob());
+        let left = joined(&joined(&x, &y), &z);
+        assert_eq!(left, joined(&x, &joined(&y, &z)));
+        assert_eq!(gate(&left), Ok(a.count() + b.count() + c.count()));
+    }
+}
+
+#[test]
+fn same_seed_same_file() {
+    let file_of = |seed| file(&cases(&wanted(seed, 60)));
+    assert_eq!(file_of(7), file_of(7));
+    assert_ne!(file_of(7), file_of(8));
+}
+
+#[test]
+fn every_answer_occurs() {
+    let all = cases(&wanted(1, 3_000));
+    let numbers: Vec<(u32, u32)> = all.iter().map(|case| (case.op, run(case).number)).collect();
+    let mut asked: Vec<(u32, u32)> = (0..=15).map(|number| (1, number)).collect();
+    asked.extend([0, 1, 2, 21, 22].map(|number| (2, number)));
+    asked.extend([(3, 0), (3, 1), (4, 0)]);
+    asked.extend((16..=20).map(|number| (4, number)));
+    for pair in asked {
+        let count = numbers.iter().filter(|seen| **seen == pair).count();
+        assert!(count >= 10, "{pair:?}: {count}");
+    }
+    for case in &all {
+        assert!(case.a.len() <= 70_000 && case.b.len() <= 70_000);
+        assert!(case.index_places <= 5_000 && case.work_places <= 5_000);
+        assert!(case.output_bytes <= 70_000);
+    }
+}
+
+#[test]
+fn only_and_small() {
+    let small = Wanted {
+        scale: Scale::Small,
+        only: Some(13),
+        ops: vec![CHECK],
+        ..wanted(2, 50)
+    };
+    let all = cases(&small);
+    assert_eq!(all.len(), 50);
+    assert!(all
+        .iter()
+        .all(|case| run(case).number == 13 && case.a.len() < 2_000));
+}
+
+#[test]
+fn edges_start_from_accepted_tables() {
+    for kind in ALL_KINDS {
+        assert_eq!(judged(&one_of(kind)), Ok(5), "{kind:?}");
+    }
+    let edges = Wanted {
+        edges: true,
+        ..wanted(0, 0)
+    };
+    let all = cases(&edges);
+    assert!(all.iter().all(|case| case.a.len() < 2_000));
+    let joins = all.iter().filter(|case| case.op == JOIN);
+    assert!(joins.filter(|case| run(case).number == 0).count() > 361);
+}
+
+#[test]
+fn sums() {
+    assert_eq!(sum(&[]), 1);
+    assert_eq!(sum(&[0]), 257);
+    assert_eq!(sum(&[1, 2]), 258 * 257 + 2);
+    assert_eq!(sum(&[255; 4]), {
+        let step = |sum: u64| (sum * 257 + 255) % 4_294_967_291;
+        step(step(step(step(1)))) as u32
+    });
+}
