@@ -2,7 +2,7 @@
 -- Assumes nothing.
 use Prim.Native.Nat.{ℕ, zero, suc}
 use mathlib.Core.Path.{_≡_, refl, sym, ap, ap₂, _∙_}
-use mathlib.Core.Bool.{Bool, true, false, not, _&&_, _||_, false≢true}
+use mathlib.Core.Bool.{Bool, true, false, not, cond, _&&_, _||_, false≢true}
 use mathlib.Core.List.{List, [], _∷_, _++_, map}
 use mathlib.Core.Option.{none}
 use native.Mathlib.Omega.{arith}
@@ -29,6 +29,11 @@ pub and-cong : (a : Bool) {x y : Bool} → (a ≡ true → x ≡ y) → a && x �
 and-cong true h = h refl
 and-cong false h = refl
 
+-- a choice by a test, whose first side matters only where it passes
+pub cond-cong : {A : Type 0} (b : Bool) {x y : A} (z : A) → (b ≡ true → x ≡ y) → cond b x z ≡ cond b y z
+cond-cong true z h = h refl
+cond-cong false z h = refl
+
 -- ── one of two tests ──
 
 pub or-left : {a : Bool} (b : Bool) → a ≡ true → a || b ≡ true
@@ -51,13 +56,14 @@ or-false false b e = (refl, e)
 pub false-or : {a b : Bool} → a ≡ false → b ≡ false → a || b ≡ false
 false-or p q = rw p q
 
+-- a test that is asked only where another passes
+pub if-same : (t : Bool) {x y : Bool} → (t ≡ true → x ≡ y) → not t || x ≡ not t || y
+if-same true h = h refl
+if-same false h = refl
+
 -- a test that is asked of one number only
 pub when-same : (k c : ℕ) {x y : Bool} → (k ≡ c → x ≡ y) → differ k c || x ≡ differ k c || y
-when-same k c {x} {y} h = go (eqb k c) refl
-  where
-    go : (t : Bool) → eqb k c ≡ t → not t || x ≡ not t || y
-    go true e = h (eqb-true k c e)
-    go false e = refl
+when-same k c h = if-same (eqb k c) (λ e. h (eqb-true k c e))
 
 -- ── equal numbers, equal lists ──
 

@@ -16,4 +16,8 @@ pub mod Gates
 pub mod Insides
 pub mod Sizes
 pub mod RenamingSizes
+pub mod RenamingBases
+pub mod RenamingTails
+pub mod RenamingSpans
+pub mod RenamingLayout
 pub mod Bench

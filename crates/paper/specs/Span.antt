@@ -8,7 +8,7 @@ use Rattle.paper.specs.Choice.{member}
 use Rattle.paper.specs.KindNo.{INT, ENUM, TYPEDEF, VOLATILE, CONST, RESTRICT, TYPE-TAG, ENUM64}
 use Rattle.paper.specs.Size.{smallSize}
 use Rattle.paper.specs.Table.{Record, Table, count, recordAt, kindAt, kindOf, bits}
-use Rattle.paper.specs.Tails.{offsetOf, widthOf}
+use Rattle.paper.specs.Tails.{intWord, offsetIn, widthIn}
 
 pub record Member : Type 0 where
   pub name : ℕ
@@ -39,10 +39,12 @@ baseFrom T (suc steps) t = let u = baseFrom T steps (recordAt T t .third) in con
 unfoldable pub baseOf : Table → ℕ → Record
 baseOf T t = recordAt T (baseFrom T (count T) t)
 
--- an INT that is "regular (offset 0, width 8, 16, 32, 64, 128)"
+-- "regular (offset 0, width 8, 16, 32, 64, 128)"
+unfoldable pub isRegularWord : ℕ → Bool
+isRegularWord w = eqb (offsetIn w) 0 && member (widthIn w) (8 ∷ 16 ∷ 32 ∷ 64 ∷ 128 ∷ [])
+
 unfoldable pub isRegular : Record → Bool
-isRegular r =
-    eqb (kindOf r) INT && eqb (offsetOf r) 0 && member (widthOf r) (8 ∷ 16 ∷ 32 ∷ 64 ∷ 128 ∷ [])
+isRegular r = eqb (kindOf r) INT && isRegularWord (intWord r)
 
 -- "With kind_flag 1 the top 8 bits of the offset word are the field width w, the low 24 the bit offset"
 abbrev pub bitOffset : ℕ → Member → ℕ
@@ -62,7 +64,7 @@ wholeSpan from size = spanIf (eqb (from % 8) 0) from (8 * size)
 unfoldable pub plainSpan : Record → Member → ℕ → Option Span
 plainSpan base m size =
     cond (eqb (kindOf base) INT)
-    (spanIf true (bitOffset 0 m + offsetOf base) (widthOf base))
+    (spanIf true (bitOffset 0 m + offsetIn (intWord base)) (widthIn (intWord base)))
     (wholeSpan (bitOffset 0 m) size)
 
 -- with kind_flag 1: "w = 0: 8 times size, from a multiple of 8. w > 0: INT, ENUM or ENUM64 base, w at most 8 times its size"

@@ -9,30 +9,30 @@ use Rattle.paper.specs.KindNo.{INT, VAR, FUNC-PROTO}
 use Rattle.paper.specs.Table.{Record, Table, recordAt, bits, kindOf}
 
 -- the word of an INT: "bits 0 to 7 width, 16 to 23 offset, 24 to 27 encoding, the others 0"
+abbrev pub widthIn : ℕ → ℕ
+widthIn w = bits 0 7 w
+
+abbrev pub offsetIn : ℕ → ℕ
+offsetIn w = bits 16 23 w
+
+abbrev pub encodingIn : ℕ → ℕ
+encodingIn w = bits 24 27 w
+
+-- "encoding 0, 1, 2 or 4; width at least 1; offset + width at most 8 times size (house)"
+unfoldable pub intWordOk : ℕ → ℕ → Bool
+intWordOk w size =
+    eqb (bits 8 15 w) 0
+    && eqb (bits 28 31 w) 0
+    && member (encodingIn w) (0 ∷ 1 ∷ 2 ∷ 4 ∷ [])
+    && leb 1 (widthIn w)
+    && leb (offsetIn w + widthIn w) (8 * size)
+
 abbrev pub intWord : Record → ℕ
 intWord r = getD (r .tail) 0 0
 
-abbrev pub widthOf : Record → ℕ
-widthOf r = bits 0 7 (intWord r)
-
-abbrev pub offsetOf : Record → ℕ
-offsetOf r = bits 16 23 (intWord r)
-
-abbrev pub encodingOf : Record → ℕ
-encodingOf r = bits 24 27 (intWord r)
-
--- "encoding 0, 1, 2 or 4; width at least 1; offset + width at most 8 times size (house)"
-unfoldable pub intOk : Record → Bool
-intOk r =
-    eqb (bits 8 15 (intWord r)) 0
-    && eqb (bits 28 31 (intWord r)) 0
-    && member (encodingOf r) (0 ∷ 1 ∷ 2 ∷ 4 ∷ [])
-    && leb 1 (widthOf r)
-    && leb (offsetOf r + widthOf r) (8 * r .third)
-
 -- "VAR linkage 0, 1, 2"
-unfoldable pub linkageOk : Record → Bool
-linkageOk r = member (getD (r .tail) 0 0) (0 ∷ 1 ∷ 2 ∷ [])
+unfoldable pub linkageWordOk : ℕ → Bool
+linkageWordOk w = member w (0 ∷ 1 ∷ 2 ∷ [])
 
 pub record Parameter : Type 0 where
   pub name : ℕ
@@ -57,8 +57,8 @@ voidsLast (p ∷ ps) = (differ (p .type) 0 || isLast00 p ps) && voidsLast ps
 
 unfoldable pub tailOk : Record → Bool
 tailOk r =
-    (differ (kindOf r) INT || intOk r)
-    && (differ (kindOf r) VAR || linkageOk r)
+    (differ (kindOf r) INT || intWordOk (intWord r) (r .third))
+    && (differ (kindOf r) VAR || linkageWordOk (getD (r .tail) 0 0))
     && (differ (kindOf r) FUNC-PROTO || voidsLast (parametersOf r))
 
 unfoldable pub tailBad : Table → ℕ → Bool
