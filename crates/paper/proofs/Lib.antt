@@ -20,4 +20,7 @@ pub mod RenamingBases
 pub mod RenamingTails
 pub mod RenamingSpans
 pub mod RenamingLayout
+pub mod Names
+pub mod Joining
+pub mod JoinFits
 pub mod Bench

@@ -1,0 +1,148 @@
+-- The join of two tables of which nothing is said: both stand in it renamed, and nothing is said of it.
+-- Assumes nothing.
+use Prim.Native.Nat.{ℕ, zero, suc, _+_, _-_, _≤_, _<_}
+use mathlib.Core.Path.{_≡_, refl, sym, ap, _∙_}
+use mathlib.Core.Bool.{Bool, true, false, false≢true}
+use mathlib.Core.List.{List, [], _∷_, _++_, map}
+use mathlib.Core.Option.{Option}
+use native.Mathlib.Nat.{suc-add, add-comm}
+use native.Mathlib.Omega.{arith}
+use borrow.Author.Tests.{leb-true, leb-false}
+use lib.Dec.{leb}
+use lib.ListN.{length, getD, drop, length-append, length-drop, length-map, List·getD-append, List·getD-map}
+use lib.Seq.{getD-append-add}
+use Rattle.paper.proofs.Chains.{walks-rename, walks-le}
+use Rattle.paper.proofs.Gates.{Sound}
+use Rattle.paper.proofs.Insides.{sound-inside}
+use Rattle.paper.proofs.Names.{Closed, nameIn-append, nameIn-behind, nameIn-zero}
+use Rattle.paper.proofs.Rename.{raise-eqb, rename-id, rename-nothing}
+use Rattle.paper.proofs.Renaming.{Renaming, headOk-rename, namesOk-rename, refsOk-rename}
+use Rattle.paper.proofs.RenamingLayout.{layoutOk-rename}
+use Rattle.paper.proofs.RenamingSizes.{exactSize-rename}
+use Rattle.paper.proofs.RenamingTails.{tailOk-rename}
+use Rattle.paper.specs.Chain.{walks, endless}
+use Rattle.paper.specs.Fit.{Whole, EveryWhole}
+use Rattle.paper.specs.Heads.{headOk}
+use Rattle.paper.specs.Join.{joinTables}
+use Rattle.paper.specs.Layout.{layoutOk}
+use Rattle.paper.specs.Name.{nameIn}
+use Rattle.paper.specs.Names.{namesOk}
+use Rattle.paper.specs.References.{refsOk}
+use Rattle.paper.specs.Rename.{rename, raise}
+use Rattle.paper.specs.Size.{exactSize}
+use Rattle.paper.specs.Table.{Record, Table, count, nothing, recordAt}
+use Rattle.paper.specs.Tails.{tailOk}
+
+-- a table of which nothing is said, with whole records and closed strings
+pub record Good (T : Table) : Type 0 where
+  pub sound : Sound T
+  pub closed : Closed (T .strings)
+  pub whole : EveryWhole (T .records)
+
+whole-at : (rs : List Record) → EveryWhole rs → (i : ℕ) → i < length rs → Whole (getD rs i nothing)
+whole-at [] h i l = absurd (omega arith)
+whole-at (r ∷ rs) h zero l = h .0
+whole-at (r ∷ rs) h (suc i) l = whole-at rs (h .1) i (omega arith)
+
+pub good-whole : (T : Table) → Good T → (t : ℕ) → 1 ≤ t → t ≤ count T → Whole (recordAt T t)
+good-whole T g zero low high = absurd (omega arith)
+good-whole T g (suc t) low high = whole-at (T .records) (g .whole) t high
+
+-- ── a renamed table is judged as the table is ──
+
+-- what holds of a type of the larger table
+pub record SoundAt (T : Table) (t : ℕ) : Type 0 where
+  pub heads : headOk (recordAt T t) ≡ true
+  pub names : namesOk (T .strings) (recordAt T t) ≡ true
+  pub tails : tailOk (recordAt T t) ≡ true
+  pub refs : refsOk T (recordAt T t) ≡ true
+  pub ends : endless T t ≡ false
+  pub layouts : layoutOk T (recordAt T t) ≡ true
+
+module _ {A B : Table} {type name : ℕ → ℕ} (R : Renaming A B type name) (g : Good A) where
+  pub sound-rename : (t : ℕ) → 1 ≤ t → t ≤ count A → SoundAt B (type t)
+  unfolding endless
+  sound-rename t low high =
+      let s = g .sound in
+      let r = recordAt A t in
+      let in-A = sound-inside s (g .closed .filled) in
+      let e = R .same-record t high in
+      record
+      { heads = ap headOk e ∙ headOk-rename type name r ∙ s .heads t low high
+      ; names = ap (namesOk (B .strings)) e ∙ namesOk-rename R r (in-A t high) ∙ s .names t low high
+      ; tails = ap tailOk e ∙ tailOk-rename R r (good-whole A g t low high) ∙ s .tails t low high
+      ; refs = ap (refsOk B) e ∙ refsOk-rename R r (in-A t high) ∙ s .refs t low high
+      ; ends = walks-rename R in-A (count B) t high ∙ not-longer (walks A (count B) t) refl (s .ends t low high)
+      ; layouts = ap (layoutOk B) e ∙ layoutOk-rename R (s .refs) (s .ends) in-A (good-whole A g) r (s .refs t low high) (in-A t high) (good-whole A g t low high) ∙ s .layouts t low high
+      }
+    where
+      not-longer : (b : Bool) → walks A (count B) t ≡ b → walks A (count A) t ≡ false → walks A (count B) t ≡ false
+      not-longer true x e = absurd (false≢true (sym e ∙ walks-le A t (R .fewer) x))
+      not-longer false x e = x
+
+  pub size-rename : (t : ℕ) → t ≤ count A → exactSize B (type t) ≡ exactSize A t
+  size-rename = exactSize-rename R (g .sound .refs) (g .sound .ends)
+
+-- ── the two renamings of a join ──
+
+module _ (A B : Table) where
+  pub count-join : count (joinTables A B) ≡ count A + count B
+  unfolding joinTables
+  count-join =
+      length-append (A .records) (map (rename (raise (count A)) (raise (length (A .strings) - 1))) (B .records))
+      ∙ ap (λ (n : ℕ). count A + n) (length-map (B .records) (rename (raise (count A)) (raise (length (A .strings) - 1))))
+
+  -- the first's records stand unchanged at their numbers
+  pub first-record : (t : ℕ) → t ≤ count A → recordAt (joinTables A B) t ≡ recordAt A t
+  unfolding joinTables
+  first-record zero h = refl
+  first-record (suc t) h = List·getD-append (A .records) _ nothing t h
+
+  -- the second's, raised, at theirs
+  pub second-record : (t : ℕ) → recordAt (joinTables A B) (raise (count A) t) ≡ rename (raise (count A)) (raise (length (A .strings) - 1)) (recordAt B t)
+  unfolding joinTables
+  second-record zero = sym (rename-nothing (raise (count A)) (raise (length (A .strings) - 1)) refl)
+  second-record (suc t) =
+      let up = rename (raise (count A)) (raise (length (A .strings) - 1)) in
+      ap (recordAt (joinTables A B)) (suc-add t (count A))
+      ∙ ap (λ (i : ℕ). getD (A .records ++ map up (B .records)) i nothing) (add-comm t (count A))
+      ∙ getD-append-add (A .records) (map up (B .records)) t nothing
+      ∙ ap (getD (map up (B .records)) t) (sym (rename-nothing (raise (count A)) (raise (length (A .strings) - 1)) refl))
+      ∙ List·getD-map up (B .records) t nothing
+
+module _ (A B : Table) (a : Closed (A .strings)) (b : Closed (B .strings)) where
+  pub length-strings : length (joinTables A B .strings) ≡ length (A .strings) + (length (B .strings) - 1)
+  unfolding joinTables
+  length-strings = length-append (A .strings) (drop 1 (B .strings)) ∙ ap (λ (n : ℕ). length (A .strings) + n) (length-drop 1 (B .strings))
+
+  pub first-renaming : Renaming A (joinTables A B) (λ n. n) (λ n. n)
+  unfolding joinTables
+  first-renaming =
+      record
+      { type-zero = λ t. refl
+      ; name-zero = λ n. refl
+      ; same-record = λ t h. first-record A B t h ∙ sym (rename-id (recordAt A t))
+      ; name-inside = λ n h. let l = length-strings in omega arith
+      ; same-name = λ n h. nameIn-append (A .strings) a (drop 1 (B .strings)) n h
+      ; fewer = let c = count-join A B in omega arith
+      }
+
+  behind-inside : (n : ℕ) → n < length (B .strings) → raise (length (A .strings) - 1) n < length (joinTables A B .strings)
+  behind-inside zero h = let l = length-strings in let f = a .filled in omega arith
+  behind-inside (suc n) h = let l = length-strings in let f = a .filled in omega arith
+
+  behind-name : (n : ℕ) → nameIn (joinTables A B .strings) (raise (length (A .strings) - 1) n) ≡ nameIn (B .strings) n
+  unfolding joinTables
+  behind-name zero = nameIn-zero (A .strings) a (B .strings) b
+  behind-name (suc n) = nameIn-behind (A .strings) a (B .strings) b n
+
+  pub second-renaming : Renaming B (joinTables A B) (raise (count A)) (raise (length (A .strings) - 1))
+  second-renaming =
+      record
+      { type-zero = raise-eqb (count A)
+      ; name-zero = raise-eqb (length (A .strings) - 1)
+      ; same-record = λ t h. second-record A B t
+      ; name-inside = behind-inside
+      ; same-name = λ n h. behind-name n
+      ; fewer = let c = count-join A B in omega arith
+      }
