@@ -23,7 +23,7 @@ use Rattle.paper.specs.Tails.{tailOk, tailBad}
 
 -- ── answers that may be missing ──
 
-some≢none : {A : Type 0} {a : A} → _≡_ {A = Option A} (some a) none → ⊥
+pub some≢none : {A : Type 0} {a : A} → _≡_ {A = Option A} (some a) none → ⊥
 some≢none {A} {a} e = let z : _≡_ {A = ℕ} 0 1 = ap {A = Option A} isNone e in omega arith
   where
     isNone : Option A → ℕ
@@ -38,7 +38,7 @@ module _ {A : Type 0} where
   pub none-orElse : {a b : Option A} → a ≡ none → b ≡ none → orElse a b ≡ none
   none-orElse p q = ap₂ orElse p q
 
-naming-none : (t : ℕ) (o : Option ℕ) → naming t o ≡ none → o ≡ none
+pub naming-none : (t : ℕ) (o : Option ℕ) → naming t o ≡ none → o ≡ none
 naming-none t none e = refl
 naming-none t (some n) e = absurd (some≢none e)
 

@@ -35,6 +35,7 @@ module _ (A B : Table) (a : Good A) (b : Good B) where
     where
       second : (k : ℕ) → t ≡ suc k + count A → suc k ≤ count B → SoundAt (joinTables A B) t
       second k e h = subst (SoundAt (joinTables A B)) (sym e) (sound-rename (second-renaming A B (a .closed) (b .closed)) b (suc k) (omega arith) h)
+
       go : (z : Bool) → leb t (count A) ≡ z → SoundAt (joinTables A B) t
       go true x = sound-rename (first-renaming A B (a .closed) (b .closed)) a t low (leb-true _ _ x)
       go false x =
@@ -44,13 +45,13 @@ module _ (A B : Table) (a : Good A) (b : Good B) where
 
   pub sound-join : Sound (joinTables A B)
   sound-join =
-      record
-      { heads = λ t low high. sound-at t low high .heads
-      ; names = λ t low high. sound-at t low high .names
-      ; tails = λ t low high. sound-at t low high .tails
-      ; refs = λ t low high. sound-at t low high .refs
-      ; ends = λ t low high. sound-at t low high .ends
-      ; layouts = λ t low high. sound-at t low high .layouts
+      record {
+        heads = λ t low high. sound-at t low high .heads;
+        names = λ t low high. sound-at t low high .names;
+        tails = λ t low high. sound-at t low high .tails;
+        refs = λ t low high. sound-at t low high .refs;
+        ends = λ t low high. sound-at t low high .ends;
+        layouts = λ t low high. sound-at t low high .layouts;
       }
 
 -- ── its strings are closed ──
@@ -73,10 +74,10 @@ closed-join A B a b =
     let fa = a .filled in
     let fb = b .filled in
     let end : length (A .strings) + (length (B .strings) - 1) - 1 ≡ length (joinTables A B .strings) - 1 = omega arith in
-    record
-    { filled = omega arith
-    ; first = List·getD-append (A .strings) (drop 1 (B .strings)) 0 0 fa ∙ a .first
-    ; last = ap (λ (i : ℕ). getD (A .strings ++ drop 1 (B .strings)) i 0) (sym end) ∙ last-append (A .strings) (B .strings) a b (length (B .strings) - 1) (omega arith)
+    record {
+      filled = omega arith;
+      first = List·getD-append (A .strings) (drop 1 (B .strings)) 0 0 fa ∙ a .first;
+      last = ap (λ (i : ℕ). getD (A .strings ++ drop 1 (B .strings)) i 0) (sym end) ∙ last-append (A .strings) (B .strings) a b (length (B .strings) - 1) (omega arith);
     }
 
 -- ── its records are whole ──
@@ -88,17 +89,18 @@ whole-append (r ∷ rs) ss p q = (p .0, whole-append rs ss (p .1) q)
 whole-rename : (type name : ℕ → ℕ) (rs : List Record) → EveryWhole rs → EveryWhole (map (rename type name) rs)
 unfolding rename
 whole-rename type name [] p = tt
-whole-rename type name (r ∷ rs) p =
-    (record { known-kind = p .0 .known-kind; whole-tail = length-renameWords type name (tailRoles r) (r .tail) ∙ p .0 .whole-tail },
-    whole-rename type name rs (p .1))
+whole-rename type name (r ∷ rs) p = (
+  record { known-kind = p .0 .known-kind; whole-tail = length-renameWords type name (tailRoles r) (r .tail) ∙ p .0 .whole-tail },
+  whole-rename type name rs (p .1),
+)
 
 pub good-join : (A B : Table) → Good A → Good B → Good (joinTables A B)
 unfolding joinTables
 good-join A B a b =
-    record
-    { sound = sound-join A B a b
-    ; closed = closed-join A B (a .closed) (b .closed)
-    ; whole = whole-append (A .records) _ (a .whole) (whole-rename (raise (count A)) (raise (length (A .strings) - 1)) (B .records) (b .whole))
+    record {
+      sound = sound-join A B a b;
+      closed = closed-join A B (a .closed) (b .closed);
+      whole = whole-append (A .records) _ (a .whole) (whole-rename (raise (count A)) (raise (length (A .strings) - 1)) (B .records) (b .whole));
     }
 
 -- ── its words fit ──
@@ -121,7 +123,7 @@ module _ (A B : Table) (types : count A + count B < wordBound) (strings : length
       (up-word ρ w (and-left (inside B ρ w) _ e) (h .0), up-words ρs ws (and-right (inside B ρ w) _ e) (h .1))
 
   up-flat : (rs : List Record) → ((i : ℕ) → i < length rs → Inside B (getD rs i nothing)) → Below wordBound (flat rs)
-    → Below wordBound (flat (map (rename (raise (count A)) (raise (length (A .strings) - 1))) rs))
+      → Below wordBound (flat (map (rename (raise (count A)) (raise (length (A .strings) - 1))) rs))
   unfolding rename tailRoles
   up-flat [] h b = tt
   up-flat (r ∷ rs) h b =
@@ -138,14 +140,14 @@ fits-join A B a b fa fb few short =
     let l = length-bytesOf (joinTables A B) in
     let closed-a = a .closed .filled in
     let closed-b = b .closed .filled in
-    record
-    { whole = good-join A B a b .whole
-    ; words-fit =
-        subst (Below wordBound) (sym (flat-append (A .records) (map up (B .records))))
-        (below-append wordBound (flat (A .records)) (flat (map up (B .records))) (fa .words-fit)
-        (up-flat A B (omega arith) (omega arith) (B .records) (λ i h. sound-inside (b .sound) closed-b (suc i) h) (fb .words-fit)))
-    ; bytes-fit = below-append 256 (A .strings) (drop 1 (B .strings)) (fa .bytes-fit) (below-drop 256 1 (B .strings) (fb .bytes-fit))
-    ; section-fits = omega arith
-    ; strings-fit = omega arith
-    ; types-fit = few
+    record {
+      whole = good-join A B a b .whole;
+      words-fit =
+          subst (Below wordBound) (sym (flat-append (A .records) (map up (B .records))))
+          (below-append wordBound (flat (A .records)) (flat (map up (B .records))) (fa .words-fit)
+          (up-flat A B (omega arith) (omega arith) (B .records) (λ i h. sound-inside (b .sound) closed-b (suc i) h) (fb .words-fit)));
+      bytes-fit = below-append 256 (A .strings) (drop 1 (B .strings)) (fa .bytes-fit) (below-drop 256 1 (B .strings) (fb .bytes-fit));
+      section-fits = omega arith;
+      strings-fit = omega arith;
+      types-fit = few;
     }

@@ -67,13 +67,13 @@ module _ {A B : Table} {type name : ℕ → ℕ} (R : Renaming A B type name) (g
       let r = recordAt A t in
       let in-A = sound-inside s (g .closed .filled) in
       let e = R .same-record t high in
-      record
-      { heads = ap headOk e ∙ headOk-rename type name r ∙ s .heads t low high
-      ; names = ap (namesOk (B .strings)) e ∙ namesOk-rename R r (in-A t high) ∙ s .names t low high
-      ; tails = ap tailOk e ∙ tailOk-rename R r (good-whole A g t low high) ∙ s .tails t low high
-      ; refs = ap (refsOk B) e ∙ refsOk-rename R r (in-A t high) ∙ s .refs t low high
-      ; ends = walks-rename R in-A (count B) t high ∙ not-longer (walks A (count B) t) refl (s .ends t low high)
-      ; layouts = ap (layoutOk B) e ∙ layoutOk-rename R (s .refs) (s .ends) in-A (good-whole A g) r (s .refs t low high) (in-A t high) (good-whole A g t low high) ∙ s .layouts t low high
+      record {
+        heads = ap headOk e ∙ headOk-rename type name r ∙ s .heads t low high;
+        names = ap (namesOk (B .strings)) e ∙ namesOk-rename R r (in-A t high) ∙ s .names t low high;
+        tails = ap tailOk e ∙ tailOk-rename R r (good-whole A g t low high) ∙ s .tails t low high;
+        refs = ap (refsOk B) e ∙ refsOk-rename R r (in-A t high) ∙ s .refs t low high;
+        ends = walks-rename R in-A (count B) t high ∙ not-longer (walks A (count B) t) refl (s .ends t low high);
+        layouts = ap (layoutOk B) e ∙ layoutOk-rename R (s .refs) (s .ends) in-A (good-whole A g) r (s .refs t low high) (in-A t high) (good-whole A g t low high) ∙ s .layouts t low high;
       }
     where
       not-longer : (b : Bool) → walks A (count B) t ≡ b → walks A (count A) t ≡ false → walks A (count B) t ≡ false
@@ -118,13 +118,13 @@ module _ (A B : Table) (a : Closed (A .strings)) (b : Closed (B .strings)) where
   pub first-renaming : Renaming A (joinTables A B) (λ n. n) (λ n. n)
   unfolding joinTables
   first-renaming =
-      record
-      { type-zero = λ t. refl
-      ; name-zero = λ n. refl
-      ; same-record = λ t h. first-record A B t h ∙ sym (rename-id (recordAt A t))
-      ; name-inside = λ n h. let l = length-strings in omega arith
-      ; same-name = λ n h. nameIn-append (A .strings) a (drop 1 (B .strings)) n h
-      ; fewer = let c = count-join A B in omega arith
+      record {
+        type-zero = λ t. refl;
+        name-zero = λ n. refl;
+        same-record = λ t h. first-record A B t h ∙ sym (rename-id (recordAt A t));
+        name-inside = λ n h. let l = length-strings in omega arith;
+        same-name = λ n h. nameIn-append (A .strings) a (drop 1 (B .strings)) n h;
+        fewer = let c = count-join A B in omega arith;
       }
 
   behind-inside : (n : ℕ) → n < length (B .strings) → raise (length (A .strings) - 1) n < length (joinTables A B .strings)
@@ -138,11 +138,11 @@ module _ (A B : Table) (a : Closed (A .strings)) (b : Closed (B .strings)) where
 
   pub second-renaming : Renaming B (joinTables A B) (raise (count A)) (raise (length (A .strings) - 1))
   second-renaming =
-      record
-      { type-zero = raise-eqb (count A)
-      ; name-zero = raise-eqb (length (A .strings) - 1)
-      ; same-record = λ t h. second-record A B t
-      ; name-inside = behind-inside
-      ; same-name = λ n h. behind-name n
-      ; fewer = let c = count-join A B in omega arith
+      record {
+        type-zero = raise-eqb (count A);
+        name-zero = raise-eqb (length (A .strings) - 1);
+        same-record = λ t h. second-record A B t;
+        name-inside = behind-inside;
+        same-name = λ n h. behind-name n;
+        fewer = let c = count-join A B in omega arith;
       }

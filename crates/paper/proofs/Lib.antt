@@ -23,4 +23,8 @@ pub mod RenamingLayout
 pub mod Names
 pub mod Joining
 pub mod JoinFits
+pub mod Acceptance
+pub mod FullJoins
+pub mod Grouping
+pub mod Neutral
 pub mod Bench

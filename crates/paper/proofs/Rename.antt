@@ -72,7 +72,7 @@ module _ (type name : ℕ → ℕ) where
     renameWord-compose number w = refl
 
     renameWords-compose : (ρs : List Role) (ws : List ℕ)
-      → renameWords type′ name′ ρs (renameWords type name ρs ws) ≡ renameWords (λ n. type′ (type n)) (λ n. name′ (name n)) ρs ws
+        → renameWords type′ name′ ρs (renameWords type name ρs ws) ≡ renameWords (λ n. type′ (type n)) (λ n. name′ (name n)) ρs ws
     renameWords-compose [] ws = refl
     renameWords-compose (ρ ∷ ρs) [] = refl
     renameWords-compose (ρ ∷ ρs) (w ∷ ws) = ap₂ {C = List ℕ} _∷_ (renameWord-compose ρ w) (renameWords-compose ρs ws)

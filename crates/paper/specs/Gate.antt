@@ -83,7 +83,7 @@ pub record Outcome : Type 0 where
   pub index : List ℕ
   pub work : List ℕ
 
-abbrev outcome : Table → ℕ → ℕ → Option Answer → Outcome
+abbrev pub outcome : Table → ℕ → ℕ → Option Answer → Outcome
 outcome T places workPlaces none =
     record { answer = accepted (count T); index = indexOf T places; work = zeros workPlaces }
 outcome T places workPlaces (some a) =

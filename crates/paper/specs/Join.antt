@@ -51,7 +51,7 @@ pub record JoinOutcome : Type 0 where
   pub work : List ℕ
 
 -- "A refusal changes no output byte; success changes no output byte past the joined length. Both u32 slices end all 0"
-abbrev joinOutcome : List ℕ → ℕ → ℕ → List ℕ → Option Answer → JoinOutcome
+abbrev pub joinOutcome : List ℕ → ℕ → ℕ → List ℕ → Option Answer → JoinOutcome
 joinOutcome whole places workPlaces out none =
     record
     { answer = value (length whole); output = whole ++ drop (length whole) out; index = zeros places; work = zeros workPlaces }

@@ -20,5 +20,6 @@ pub mod Layout
 pub mod Gate
 pub mod Rename
 pub mod Join
+pub mod Full
 pub mod Computes
 pub mod Fit

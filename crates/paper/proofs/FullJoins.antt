@@ -1,0 +1,126 @@
+-- What a join with slices of full size hands back: the joined bytes where both tables are accepted and the limits allow, else nothing.
+-- Assumes nothing.
+use Prim.Native.Nat.{ℕ, _+_, _-_, _≤_, _<_}
+use mathlib.Core.Path.{_≡_, refl, sym, ap, ap₂, _∙_, subst}
+use mathlib.Core.Bool.{Bool, true, false, not, cond, _&&_, false≢true}
+use mathlib.Core.List.{List, [], _∷_, _++_}
+use mathlib.Core.Option.{Option, none, some}
+use native.Mathlib.Omega.{arith}
+use borrow.Author.Tests.{leb-true, le-leb, lt-leb, le-ltb, lt-ltb, leb-false}
+use lib.Dec.{leb, ltb, eqb}
+use lib.ListN.{length, take, drop}
+use lib.Seq.{take-append-seam}
+use Rattle.paper.proofs.Acceptance.{accepted-fits, accepted-bytes, accepted-short, accepted-good, good-accepted}
+use Rattle.paper.proofs.Choices.{and-left, and-right}
+use Rattle.paper.proofs.Joining.{Good, count-join, length-strings}
+use Rattle.paper.proofs.JoinFits.{good-join, fits-join}
+use Rattle.paper.proofs.Tables.{tableOf-bytesOf, length-bytesOf}
+use Rattle.paper.specs.Answer.{Answer, inside, report}
+use Rattle.paper.specs.Choice.{_when_, firstDue, orElse}
+use Rattle.paper.specs.Fit.{Bytes, Fits, Accepted}
+use Rattle.paper.specs.Full.{handed, joinFull, andThen}
+use Rattle.paper.specs.Gate.{naming, refusal}
+use Rattle.paper.specs.Join.{joinTables, refusedInside, joinedBytes, limitReport, joinRefusal, joinOutcome, join}
+use Rattle.paper.specs.Limits.{typeLimit, byteLimit, fullPlaces}
+use Rattle.paper.specs.Table.{Table, count}
+use Rattle.paper.specs.Walk.{tableOf, bytesOf}
+
+-- ── what a join of full size hands back ──
+
+-- the bytes, unless something is said
+abbrev unless : Option Answer → List ℕ → Option (List ℕ)
+unless none bytes = some bytes
+unless (some a) bytes = none
+
+-- whatever a join's refusal is, its number is not 0
+abbrev NotZero : Option Answer → Type 0
+NotZero none = Unit {0}
+NotZero (some a) = eqb (a .number) 0 ≡ false
+
+inside-16 : (o : Option Answer) → NotZero (refusedInside 16 o)
+inside-16 none = tt
+inside-16 (some a) = refl
+
+inside-17 : (o : Option Answer) → NotZero (refusedInside 17 o)
+inside-17 none = tt
+inside-17 (some a) = refl
+
+limits-due : (x y z : Bool) → NotZero (naming 0 (firstDue (18 when x ∷ 19 when y ∷ 20 when z ∷ [])))
+limits-due true y z = refl
+limits-due false true z = refl
+limits-due false false true = refl
+limits-due false false false = tt
+
+orElse-due : (o p : Option Answer) → NotZero o → NotZero p → NotZero (orElse o p)
+orElse-due none p h k = k
+orElse-due (some a) p h k = h
+
+refusal-due : (a b : List ℕ) (places work room : ℕ) → NotZero (joinRefusal a b places work room)
+unfolding joinRefusal limitReport
+refusal-due a b places work room =
+    orElse-due (refusedInside 16 (refusal a places work)) _ (inside-16 (refusal a places work))
+    (orElse-due (refusedInside 17 (refusal b places work)) (limitReport a b room) (inside-17 (refusal b places work))
+    (limits-due (ltb typeLimit (count (tableOf a) + count (tableOf b))) (ltb byteLimit (length (joinedBytes a b))) (ltb room (length (joinedBytes a b)))))
+
+outcome-handed : (whole : List ℕ) (places work : ℕ) (out : List ℕ) (o : Option Answer) → NotZero o → handed (joinOutcome whole places work out o) ≡ unless o whole
+outcome-handed whole places work out none h = ap {B = Option (List ℕ)} some (take-append-seam whole (drop (length whole) out))
+outcome-handed whole places work out (some a) h = ap (λ (t : Bool). cond t (some (take (a .p) out)) none) h
+
+joinFull-bytes : (out a b : List ℕ) → length out ≡ byteLimit → joinFull out a b ≡ unless (joinRefusal a b fullPlaces fullPlaces byteLimit) (joinedBytes a b)
+unfolding joinFull join
+joinFull-bytes out a b e =
+    outcome-handed (joinedBytes a b) fullPlaces fullPlaces out (joinRefusal a b fullPlaces fullPlaces (length out)) (refusal-due a b fullPlaces fullPlaces (length out))
+    ∙ ap (λ (room : ℕ). unless (joinRefusal a b fullPlaces fullPlaces room) (joinedBytes a b)) e
+
+-- ── within the limits ──
+
+-- a table that the limits allow
+abbrev pub allowed : Table → Bool
+allowed T = leb (count T) typeLimit && leb (length (bytesOf T)) byteLimit
+
+not-above : (m n : ℕ) → leb m n ≡ not (ltb n m)
+not-above m n = go (leb m n) refl
+  where
+    go : (t : Bool) → leb m n ≡ t → leb m n ≡ not (ltb n m)
+    go true e = e ∙ sym (ap not (le-ltb n m (leb-true m n e)))
+    go false e = e ∙ sym (ap not (lt-ltb n m (leb-false m n e)))
+
+limits-unless : (x y : Bool) (bytes : List ℕ) → unless (naming 0 (firstDue (18 when x ∷ 19 when y ∷ 20 when y ∷ []))) bytes ≡ cond (not x && not y) (some bytes) none
+limits-unless true y bytes = refl
+limits-unless false true bytes = refl
+limits-unless false false bytes = refl
+
+-- two accepted tables are joined unless the limits forbid it
+joined-unless : (a b : List ℕ) → Accepted a → Accepted b
+    → unless (joinRefusal a b fullPlaces fullPlaces byteLimit) (joinedBytes a b) ≡ cond (allowed (joinTables (tableOf a) (tableOf b))) (some (joinedBytes a b)) none
+unfolding joinRefusal limitReport joinedBytes
+joined-unless a b p q =
+    let A = tableOf a in
+    let B = tableOf b in
+    ap₂ (λ (x y : Option Answer). unless (orElse (refusedInside 16 x) (orElse (refusedInside 17 y) (limitReport a b byteLimit))) (joinedBytes a b)) p q
+    ∙ limits-unless (ltb typeLimit (count A + count B)) (ltb byteLimit (length (joinedBytes a b))) (joinedBytes a b)
+    ∙ ap₂ (λ (x y : Bool). cond (x && y) (some (joinedBytes a b)) none)
+    (sym (ap (λ (n : ℕ). leb n typeLimit) (count-join A B) ∙ not-above (count A + count B) typeLimit))
+    (sym (not-above (length (joinedBytes a b)) byteLimit))
+
+module _ (out a b : List ℕ) (full : length out ≡ byteLimit) where
+  pub joined-accepted : Accepted a → Accepted b
+      → joinFull out a b ≡ cond (allowed (joinTables (tableOf a) (tableOf b))) (some (joinedBytes a b)) none
+  joined-accepted p q = joinFull-bytes out a b full ∙ joined-unless a b p q
+
+  pub first-refused : {x : Answer} → refusal a fullPlaces fullPlaces ≡ some x → joinFull out a b ≡ none
+  unfolding joinRefusal
+  first-refused p =
+      joinFull-bytes out a b full
+      ∙ ap (λ (x : Option Answer). unless (orElse (refusedInside 16 x) (orElse (refusedInside 17 (refusal b fullPlaces fullPlaces)) (limitReport a b byteLimit))) (joinedBytes a b)) p
+
+  pub second-refused : {x : Answer} → refusal b fullPlaces fullPlaces ≡ some x → joinFull out a b ≡ none
+  unfolding joinRefusal
+  second-refused {x} p =
+      joinFull-bytes out a b full
+      ∙ ap (λ (y : Option Answer). unless (orElse (refusedInside 16 (refusal a fullPlaces fullPlaces)) (orElse (refusedInside 17 y) (limitReport a b byteLimit))) (joinedBytes a b)) p
+      ∙ go (refusal a fullPlaces fullPlaces) x
+    where
+      go : (o : Option Answer) (x : Answer) → unless (orElse (refusedInside 16 o) (orElse (refusedInside 17 (some x)) (limitReport a b byteLimit))) (joinedBytes a b) ≡ none
+      go none x = refl
+      go (some a) x = refl
