@@ -15,6 +15,7 @@ use Rattle.paper.specs.Chain.{endless}
 use Rattle.paper.specs.Choice.{Rule, firstDue, orElse}
 use Rattle.paper.specs.Gate.{naming, firstOf, overTypes, phase3, phase4, phase5, phase6, tableReport}
 use Rattle.paper.specs.Heads.{headOk, headBad}
+use Rattle.paper.specs.Join.{refusedInside}
 use Rattle.paper.specs.Layout.{layoutOk, layoutBad}
 use Rattle.paper.specs.Names.{namesOk, nameBad}
 use Rattle.paper.specs.References.{refsOk, refBad}
@@ -41,6 +42,10 @@ module _ {A : Type 0} where
 pub naming-none : (t : ℕ) (o : Option ℕ) → naming t o ≡ none → o ≡ none
 naming-none t none e = refl
 naming-none t (some n) e = absurd (some≢none e)
+
+pub refusedInside-none : (number : ℕ) (o : Option Answer) → refusedInside number o ≡ none → o ≡ none
+refusedInside-none number none e = refl
+refusedInside-none number (some a) e = absurd (some≢none e)
 
 -- ── over types ──
 
@@ -94,9 +99,14 @@ pub record Sound (T : Table) : Type 0 where
   pub layouts : (t : ℕ) → 1 ≤ t → t ≤ count T → layoutOk T (recordAt T t) ≡ true
 
 module _ (T : Table) where
-  overTypes-none : (phase : Table → ℕ → List Rule) → overTypes phase T ≡ none → (t : ℕ) → 1 ≤ t → t ≤ count T → firstDue (phase T t) ≡ none
+  pub overTypes-none : (phase : Table → ℕ → List Rule) → overTypes phase T ≡ none → (t : ℕ) → 1 ≤ t → t ≤ count T → firstDue (phase T t) ≡ none
   unfolding overTypes
   overTypes-none phase e t low high = firstOf-none (phase T) (count T) 1 e t low (omega arith)
+
+  -- a phase's report names a type of the table at which one of its rules is due
+  pub overTypes-some : (phase : Table → ℕ → List Rule) (a : Answer) → overTypes phase T ≡ some a → DueAt (phase T) (count T) 1 a
+  unfolding overTypes
+  overTypes-some phase a e = firstOf-some (phase T) (count T) 1 a e
 
   none-overTypes : (phase : Table → ℕ → List Rule) → ((t : ℕ) → 1 ≤ t → t ≤ count T → firstDue (phase T t) ≡ none) → overTypes phase T ≡ none
   unfolding overTypes

@@ -25,7 +25,7 @@ use Rattle.paper.specs.Answer.{Answer}
 use Rattle.paper.specs.Fit.{Bytes, Fits, Accepted}
 use Rattle.paper.specs.Full.{joinFull, andThen, emptyTable, emptyBlob}
 use Rattle.paper.specs.Gate.{refusal}
-use Rattle.paper.specs.Join.{joinTables, joinedBytes}
+use Rattle.paper.specs.Join.{raised, joinTables, joinedBytes}
 use Rattle.paper.specs.Limits.{typeLimit, byteLimit, fullPlaces}
 use Rattle.paper.specs.Rename.{rename, raise}
 use Rattle.paper.specs.Table.{Record, Table, count, wordsOf}
@@ -82,7 +82,7 @@ flat-rename type name (r ∷ rs) =
 words-join : (A B : Table) → length (flat (joinTables A B .records)) ≡ length (flat (A .records)) + length (flat (B .records))
 unfolding joinTables
 words-join A B =
-    let up = rename (raise (count A)) (raise (length (A .strings) - 1)) in
+    let up = raised A in
     ap length (flat-append (A .records) (map up (B .records)))
     ∙ length-append (flat (A .records)) (flat (map up (B .records)))
     ∙ ap (λ (n : ℕ). length (flat (A .records)) + n) (flat-rename (raise (count A)) (raise (length (A .strings) - 1)) (B .records))

@@ -31,7 +31,7 @@ pub record HeaderFacts (b : List ℕ) : Type 0 where
 -- ── phase 1 ──
 
 -- the rules of phase 1, as `headerReport` has them
-abbrev headerRules : List ℕ → List Rule
+abbrev pub headerRules : List ℕ → List Rule
 headerRules b =
     1 when lengthBad b
     ∷ 2 when openingBad b

@@ -20,7 +20,7 @@ use Rattle.paper.proofs.Rename.{length-renameWords}
 use Rattle.paper.proofs.Renaming.{inside, Inside}
 use Rattle.paper.proofs.Tables.{length-bytesOf}
 use Rattle.paper.specs.Fit.{Below, Bytes, wordBound, Whole, EveryWhole, Fits}
-use Rattle.paper.specs.Join.{joinTables}
+use Rattle.paper.specs.Join.{raised, joinTables}
 use Rattle.paper.specs.Kind.{Role, names, refers, holds, number}
 use Rattle.paper.specs.Limits.{typeLimit, byteLimit}
 use Rattle.paper.specs.Rename.{renameWord, renameWords, rename, raise}
@@ -123,18 +123,18 @@ module _ (A B : Table) (types : count A + count B < wordBound) (strings : length
       (up-word ρ w (and-left (inside B ρ w) _ e) (h .0), up-words ρs ws (and-right (inside B ρ w) _ e) (h .1))
 
   up-flat : (rs : List Record) → ((i : ℕ) → i < length rs → Inside B (getD rs i nothing)) → Below wordBound (flat rs)
-      → Below wordBound (flat (map (rename (raise (count A)) (raise (length (A .strings) - 1))) rs))
+      → Below wordBound (flat (map (raised A) rs))
   unfolding rename tailRoles
   up-flat [] h b = tt
   up-flat (r ∷ rs) h b =
-      let up = rename (raise (count A)) (raise (length (A .strings) - 1)) in
+      let up = raised A in
       below-append wordBound (wordsOf (up r)) (flat (map up rs)) (up-words (rolesOf r) (wordsOf r) (h 0 (omega arith)) (below-left wordBound (wordsOf r) (flat rs) b))
       (up-flat rs (λ i l. h (suc i) (omega arith)) (below-right wordBound (wordsOf r) (flat rs) b))
 
 pub fits-join : (A B : Table) → Good A → Good B → Fits A → Fits B → count (joinTables A B) ≤ typeLimit → length (bytesOf (joinTables A B)) ≤ byteLimit → Fits (joinTables A B)
 unfolding joinTables
 fits-join A B a b fa fb few short =
-    let up = rename (raise (count A)) (raise (length (A .strings) - 1)) in
+    let up = raised A in
     let n = count-join A B in
     let s = length-strings A B (a .closed) (b .closed) in
     let l = length-bytesOf (joinTables A B) in

@@ -23,7 +23,7 @@ use Rattle.paper.proofs.RenamingTails.{tailOk-rename}
 use Rattle.paper.specs.Chain.{walks, endless}
 use Rattle.paper.specs.Fit.{Whole, EveryWhole}
 use Rattle.paper.specs.Heads.{headOk}
-use Rattle.paper.specs.Join.{joinTables}
+use Rattle.paper.specs.Join.{raised, joinTables}
 use Rattle.paper.specs.Layout.{layoutOk}
 use Rattle.paper.specs.Name.{nameIn}
 use Rattle.paper.specs.Names.{namesOk}
@@ -89,8 +89,8 @@ module _ (A B : Table) where
   pub count-join : count (joinTables A B) ≡ count A + count B
   unfolding joinTables
   count-join =
-      length-append (A .records) (map (rename (raise (count A)) (raise (length (A .strings) - 1))) (B .records))
-      ∙ ap (λ (n : ℕ). count A + n) (length-map (B .records) (rename (raise (count A)) (raise (length (A .strings) - 1))))
+      length-append (A .records) (map (raised A) (B .records))
+      ∙ ap (λ (n : ℕ). count A + n) (length-map (B .records) (raised A))
 
   -- the first's records stand unchanged at their numbers
   pub first-record : (t : ℕ) → t ≤ count A → recordAt (joinTables A B) t ≡ recordAt A t
@@ -99,11 +99,11 @@ module _ (A B : Table) where
   first-record (suc t) h = List·getD-append (A .records) _ nothing t h
 
   -- the second's, raised, at theirs
-  pub second-record : (t : ℕ) → recordAt (joinTables A B) (raise (count A) t) ≡ rename (raise (count A)) (raise (length (A .strings) - 1)) (recordAt B t)
+  pub second-record : (t : ℕ) → recordAt (joinTables A B) (raise (count A) t) ≡ raised A (recordAt B t)
   unfolding joinTables
   second-record zero = sym (rename-nothing (raise (count A)) (raise (length (A .strings) - 1)) refl)
   second-record (suc t) =
-      let up = rename (raise (count A)) (raise (length (A .strings) - 1)) in
+      let up = raised A in
       ap (recordAt (joinTables A B)) (suc-add t (count A))
       ∙ ap (λ (i : ℕ). getD (A .records ++ map up (B .records)) i nothing) (add-comm t (count A))
       ∙ getD-append-add (A .records) (map up (B .records)) t nothing

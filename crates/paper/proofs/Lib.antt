@@ -27,4 +27,7 @@ pub mod Acceptance
 pub mod FullJoins
 pub mod Grouping
 pub mod Neutral
+pub mod SizeAsked
+pub mod Reports
+pub mod Demands
 pub mod Bench

@@ -10,14 +10,18 @@ use Rattle.paper.specs.Choice.{_when_, firstDue, orElse}
 use Rattle.paper.specs.Gate.{refusal, naming, zeros}
 use Rattle.paper.specs.Limits.{typeLimit, byteLimit}
 use Rattle.paper.specs.Rename.{rename, raise}
-use Rattle.paper.specs.Table.{Table, count}
+use Rattle.paper.specs.Table.{Record, Table, count}
 use Rattle.paper.specs.Walk.{tableOf, bytesOf}
+
+-- a record of a second table "as demand 3 raises" it: type numbers by the first's count, name offsets by its string length less one
+abbrev pub raised : Table → Record → Record
+raised A r = rename (raise (count A)) (raise (length (A .strings) - 1)) r
 
 -- "the first's records, the second's as demand 3 raises them, the first's strings, the second's strings without their first byte"
 unfoldable pub joinTables : Table → Table → Table
 joinTables A B =
     record {
-      records = A .records ++ map (rename (raise (count A)) (raise (length (A .strings) - 1))) (B .records);
+      records = A .records ++ map (raised A) (B .records);
       strings = A .strings ++ drop 1 (B .strings);
     }
 

@@ -1,0 +1,131 @@
+-- The demands of the paper as theorems, each said once for a reader: what is accepted, what ends, what a size is, what a join keeps.
+-- Assumes nothing.
+use Prim.Native.Nat.{ℕ, zero, suc, _+_, _-_, _≤_, _<_}
+use mathlib.Core.Path.{_≡_, refl, sym, ap, _∙_, subst}
+use mathlib.Core.Bool.{Bool, true, false}
+use mathlib.Core.List.{List, [], _∷_}
+use mathlib.Core.Option.{Option, none, some}
+use native.Mathlib.Omega.{arith}
+use lib.ListN.{length, getD}
+use borrow.Author.Tests.{ltb-false}
+use lib.Dec.{ltb}
+use Rattle.paper.proofs.Acceptance.{accepted-fits, accepted-bytes, accepted-good, good-accepted}
+use Rattle.paper.proofs.Choices.{firstDue-none}
+use Rattle.paper.proofs.Endless.{Chain}
+use Rattle.paper.proofs.Gates.{orElse-none, naming-none, refusedInside-none}
+use Rattle.paper.proofs.Insides.{no-chain}
+use Rattle.paper.proofs.JoinFits.{good-join, fits-join}
+use Rattle.paper.proofs.Joining.{Good, size-rename, count-join, first-record, second-record, first-renaming, second-renaming}
+use Rattle.paper.proofs.SizeAsked.{answerOf, sizeOf-exact}
+use Rattle.paper.proofs.Tables.{tableOf-bytesOf}
+use Rattle.paper.specs.Choice.{_when_}
+use Rattle.paper.specs.Fit.{Bytes, Fits}
+use Rattle.paper.specs.Gate.{refusal}
+use Rattle.paper.specs.Join.{raised, joinTables, refusedInside, joinedBytes, limitReport, joinRefusal}
+use Rattle.paper.specs.Limits.{typeLimit, byteLimit}
+use Rattle.paper.specs.Name.{nameIn}
+use Rattle.paper.specs.Rename.{rename, raise}
+use Rattle.paper.specs.Size.{exactSize, sizeOf}
+use Rattle.paper.specs.Table.{Table, count, recordAt}
+use Rattle.paper.specs.Walk.{tableOf, placesOf}
+
+-- ── demand 2 ──
+
+module _ (b : List ℕ) (bytes : Bytes b) (places work : ℕ) (accepted : refusal b places work ≡ none) where
+  -- no by-value chain of an accepted table can be followed for ever
+  pub accepted-ends : (t : ℕ) → Chain (tableOf b) t → ⊥
+  accepted-ends = let s = accepted-good b places work accepted bytes .sound in no-chain (tableOf b) (s .refs) (s .ends)
+
+  -- (and report 14 names a type from which one can: `report-14`)
+
+  -- the size question, asked of the blob and of an index that has its places, cut to n + 1 places or longer, answers the exact size
+  pub accepted-size : (index : List ℕ) → count (tableOf b) < length index
+      → ((t : ℕ) → t < count (tableOf b) → getD index (suc t) 0 ≡ getD (placesOf (tableOf b)) t 0)
+      → (t : ℕ) → t ≤ count (tableOf b) → sizeOf b index t ≡ answerOf (exactSize (tableOf b) t)
+  accepted-size index long at t h =
+      ap (λ (s : List ℕ). sizeOf s index t) (sym (accepted-bytes b places work accepted bytes))
+      ∙ sizeOf-exact (tableOf b) (accepted-good b places work accepted bytes) (accepted-fits b places work accepted bytes) index long at t h
+
+-- ── demand 3: whatever two blobs are joined, with whatever slices ──
+
+module _ (a b : List ℕ) (bytes-a : Bytes a) (bytes-b : Bytes b) (places work room : ℕ) (made : joinRefusal a b places work room ≡ none) where
+  A : Table
+  A = tableOf a
+
+  B : Table
+  B = tableOf b
+
+  -- both tables are accepted
+  pub first-accepted : refusal a places work ≡ none
+  unfolding joinRefusal
+  first-accepted = refusedInside-none 16 (refusal a places work) (orElse-none (refusedInside 16 (refusal a places work)) _ made .0)
+
+  pub second-accepted : refusal b places work ≡ none
+  unfolding joinRefusal
+  second-accepted =
+      refusedInside-none 17 (refusal b places work)
+      (orElse-none (refusedInside 17 (refusal b places work)) _ (orElse-none (refusedInside 16 (refusal a places work)) _ made .1) .0)
+
+  within : (count A + count B ≤ typeLimit) × (length (joinedBytes a b) ≤ byteLimit)
+  unfolding joinRefusal limitReport A B
+  within =
+      let due = firstDue-none (18 when ltb typeLimit (count A + count B) ∷ 19 when ltb byteLimit (length (joinedBytes a b)) ∷ 20 when ltb room (length (joinedBytes a b)) ∷ [])
+      (naming-none 0 _ (orElse-none (refusedInside 17 (refusal b places work)) _ (orElse-none (refusedInside 16 (refusal a places work)) _ made .1) .1)) in
+      (ltb-false typeLimit (count A + count B) (due .0), ltb-false byteLimit (length (joinedBytes a b)) (due .1 .0))
+
+  good-A : Good A
+  unfolding A
+  good-A = accepted-good a places work first-accepted bytes-a
+
+  good-B : Good B
+  unfolding B
+  good-B = accepted-good b places work second-accepted bytes-b
+
+  fits-J : Fits (joinTables A B)
+  unfolding joinedBytes A B
+  fits-J =
+      let n = count-join A B in
+      let l = within in
+      fits-join A B good-A good-B (accepted-fits a places work first-accepted bytes-a) (accepted-fits b places work second-accepted bytes-b) (omega arith) (l .1)
+
+  -- the joined blob holds the joined table
+  pub join-table : tableOf (joinedBytes a b) ≡ joinTables (tableOf a) (tableOf b)
+  unfolding joinedBytes A B
+  join-table = tableOf-bytesOf (joinTables A B) fits-J
+
+  -- and has n1 + n2 types
+  pub join-count : count (tableOf (joinedBytes a b)) ≡ count (tableOf a) + count (tableOf b)
+  join-count = ap count join-table ∙ count-join (tableOf a) (tableOf b)
+
+  -- it is accepted, whatever places are lent beyond one for each type
+  pub join-accepted : (places′ work′ : ℕ) → count (tableOf a) + count (tableOf b) < places′ → count (tableOf a) + count (tableOf b) < work′ → refusal (joinedBytes a b) places′ work′ ≡ none
+  unfolding joinedBytes A B
+  join-accepted places′ work′ p w =
+      let n = count-join A B in
+      good-accepted (joinTables A B) (good-join A B good-A good-B) fits-J (within .1) places′ work′ (omega arith) (omega arith)
+
+  -- the first's records stand unchanged at their numbers
+  pub join-first : (t : ℕ) → t ≤ count (tableOf a) → recordAt (tableOf (joinedBytes a b)) t ≡ recordAt (tableOf a) t
+  join-first t h = ap (λ (T : Table). recordAt T t) join-table ∙ first-record (tableOf a) (tableOf b) t h
+
+  -- the second's stand at theirs, raised
+  pub join-second : (t : ℕ) → recordAt (tableOf (joinedBytes a b)) (raise (count (tableOf a)) t) ≡ raised (tableOf a) (recordAt (tableOf b) t)
+  join-second t = ap (λ (T : Table). recordAt T (raise (count (tableOf a)) t)) join-table ∙ second-record (tableOf a) (tableOf b) t
+
+  -- every name is what it was
+  pub join-name-first : (n : ℕ) → n < length (tableOf a .strings) → nameIn (tableOf (joinedBytes a b) .strings) n ≡ nameIn (tableOf a .strings) n
+  unfolding A B
+  join-name-first n h = ap (λ (T : Table). nameIn (T .strings) n) join-table ∙ first-renaming A B (good-A .closed) (good-B .closed) .same-name n h
+
+  pub join-name-second : (n : ℕ) → n < length (tableOf b .strings) → nameIn (tableOf (joinedBytes a b) .strings) (raise (length (tableOf a .strings) - 1) n) ≡ nameIn (tableOf b .strings) n
+  unfolding A B
+  join-name-second n h = ap (λ (T : Table). nameIn (T .strings) (raise (length (A .strings) - 1) n)) join-table ∙ second-renaming A B (good-A .closed) (good-B .closed) .same-name n h
+
+  -- every exact size, and its lack, is what it was
+  pub join-size-first : (t : ℕ) → t ≤ count (tableOf a) → exactSize (tableOf (joinedBytes a b)) t ≡ exactSize (tableOf a) t
+  unfolding A B
+  join-size-first t h = ap (λ (T : Table). exactSize T t) join-table ∙ size-rename (first-renaming A B (good-A .closed) (good-B .closed)) good-A t h
+
+  pub join-size-second : (t : ℕ) → t ≤ count (tableOf b) → exactSize (tableOf (joinedBytes a b)) (raise (count (tableOf a)) t) ≡ exactSize (tableOf b) t
+  unfolding A B
+  join-size-second t h = ap (λ (T : Table). exactSize T (raise (count A) t)) join-table ∙ size-rename (second-renaming A B (good-A .closed) (good-B .closed)) good-B t h
