@@ -1,26 +1,25 @@
 -- Accepted blobs and good tables: an accepted blob holds a good table, and the blob of a good table is accepted.
 -- Assumes nothing.
 use Prim.Native.Nat.{ℕ, _+_, _-_, _≤_, _<_}
-use mathlib.Core.Path.{_≡_, refl, sym, ap, ap₂, _∙_, subst}
-use mathlib.Core.Bool.{Bool, true, false}
+use mathlib.Core.Path.{_≡_, refl, sym, ap, _∙_, subst}
+use mathlib.Core.Bool.{Bool}
 use mathlib.Core.List.{List, [], _∷_}
-use mathlib.Core.Option.{Option, none, some}
+use mathlib.Core.Option.{none}
 use native.Mathlib.Omega.{arith}
 use borrow.Author.Tests.{le-ltb}
 use lib.ListN.{length, getD}
 use Rattle.paper.proofs.Blobs.{stringsIn-length, strings-tableOf, bytesOf-tableOf, tableOf-fits}
 use Rattle.paper.proofs.Choices.{false-or}
 use Rattle.paper.proofs.Gates.{orElse-none, none-orElse, naming-none, tableReport-sound, sound-tableReport, some≢none}
-use Rattle.paper.proofs.Headers.{HeaderFacts, headerReport-facts}
+use Rattle.paper.proofs.Headers.{headerReport-facts}
 use Rattle.paper.proofs.Joining.{Good}
 use Rattle.paper.proofs.Names.{Closed}
 use Rattle.paper.proofs.Tables.{walk-bytesOf, tableOf-bytesOf, headerReport-bytesOf}
-use Rattle.paper.specs.Answer.{Answer}
 use Rattle.paper.specs.Choice.{_when_, firstDue}
 use Rattle.paper.specs.Fit.{Bytes, Fits}
 use Rattle.paper.specs.Gate.{naming, phase1, walkReport, phase2, shortSlices, tableReport, refusal}
-use Rattle.paper.specs.Header.{stringsIn, strLen, headerReport}
-use Rattle.paper.specs.Limits.{typeLimit, byteLimit}
+use Rattle.paper.specs.Header.{stringsIn, headerReport}
+use Rattle.paper.specs.Limits.{byteLimit}
 use Rattle.paper.specs.Table.{Record, Table, count}
 use Rattle.paper.specs.Walk.{Walked, records, stopped, walk, tableOf, bytesOf}
 

@@ -1,20 +1,20 @@
 -- "Benches with known readings": the starred ones, the small others, and some of our own that the paper's slips call for.
 -- One computed check holds them all. Assumes nothing.
-use Prim.Native.Nat.{ℕ, zero, suc, _+_, _*_, _^_}
+use Prim.Native.Nat.{ℕ, suc, _+_, _*_, _^_}
 use mathlib.Core.Path.{_≡_, refl}
 use mathlib.Core.Bool.{Bool, true, false, _&&_}
 use mathlib.Core.List.{List, [], _∷_, _++_}
 use lib.Dec.{eqb}
-use lib.ListN.{length, take, drop, set, replicate}
+use lib.ListN.{length, take, set, replicate}
 use Rattle.paper.specs.Answer.{Answer, report, accepted, value}
 use Rattle.paper.specs.Choice.{same}
 use Rattle.paper.specs.Computes.{computes}
-use Rattle.paper.specs.Gate.{gate, zeros, indexOf}
+use Rattle.paper.specs.Gate.{gate, zeros}
 use Rattle.paper.specs.Header.{opening}
 use Rattle.paper.specs.Join.{join}
-use Rattle.paper.specs.KindNo.{INT, PTR, ARRAY, STRUCT, CONST, TYPEDEF, DECL-TAG}
+use Rattle.paper.specs.KindNo.{INT, PTR, ARRAY, STRUCT, CONST, DECL-TAG}
 use Rattle.paper.specs.Size.{sizeOf}
-use Rattle.paper.specs.Table.{Record, Table}
+use Rattle.paper.specs.Table.{Record}
 use Rattle.paper.specs.Walk.{bytesOf}
 use Rattle.paper.specs.Word.{bytesOfWords}
 

@@ -1,20 +1,20 @@
 -- Laws of walks: fewer steps are easier, no walk is endless in an accepted table, and report 14 means an endless one.
 -- Assumes nothing.
 use Prim.Native.Nat.{ℕ, zero, suc, _+_, _-_, _≤_, _<_, suc-le-suc}
-use mathlib.Core.Path.{_≡_, refl, sym, ap, ap₂, _∙_, subst}
+use mathlib.Core.Path.{_≡_, refl, ap, ap₂, _∙_}
 use mathlib.Core.Bool.{Bool, true, false, cond, _||_, false≢true}
 use mathlib.Core.List.{List, [], _∷_, map}
 use native.Mathlib.Nat.{zero-add, suc-add, sub-add-cancel, le-of-suc-le-suc}
-use borrow.Author.Tests.{eqb-true, eqb-false, leb-true}
+use borrow.Author.Tests.{leb-true}
 use lib.Dec.{eqb}
 use Rattle.paper.proofs.Choices.{and-left, and-right, or-left, or-right, or-cases, any-map}
 use Rattle.paper.proofs.Renaming.{Renaming, inside, Inside}
-use Rattle.paper.specs.Chain.{heldWord, heldIn, heldBy, walks, endless}
+use Rattle.paper.specs.Chain.{heldWord, heldIn, heldBy, walks}
 use Rattle.paper.specs.Choice.{any}
 use Rattle.paper.specs.Fit.{Below}
 use Rattle.paper.specs.Kind.{Role, names, refers, holds, number}
 use Rattle.paper.specs.Rename.{renameWord, renameWords, rename}
-use Rattle.paper.specs.Table.{Record, Table, count, recordAt, tailRoles, rolesOf, wordsOf, everyRoled, everyWord}
+use Rattle.paper.specs.Table.{Record, Table, count, recordAt, tailRoles, rolesOf, wordsOf, everyRoled}
 
 -- ── some element passes ──
 

@@ -1,10 +1,9 @@
 -- The demands of the paper as theorems, each said once for a reader: what is accepted, what ends, what a size is, what a join keeps.
 -- Assumes nothing.
-use Prim.Native.Nat.{ℕ, zero, suc, _+_, _-_, _≤_, _<_}
-use mathlib.Core.Path.{_≡_, refl, sym, ap, _∙_, subst}
-use mathlib.Core.Bool.{Bool, true, false}
+use Prim.Native.Nat.{ℕ, suc, _+_, _-_, _≤_, _<_}
+use mathlib.Core.Path.{_≡_, sym, ap, _∙_}
 use mathlib.Core.List.{List, [], _∷_}
-use mathlib.Core.Option.{Option, none, some}
+use mathlib.Core.Option.{none}
 use native.Mathlib.Omega.{arith}
 use lib.ListN.{length, getD}
 use borrow.Author.Tests.{ltb-false}
@@ -24,7 +23,7 @@ use Rattle.paper.specs.Gate.{refusal}
 use Rattle.paper.specs.Join.{raised, joinTables, refusedInside, joinedBytes, limitReport, joinRefusal}
 use Rattle.paper.specs.Limits.{typeLimit, byteLimit}
 use Rattle.paper.specs.Name.{nameIn}
-use Rattle.paper.specs.Rename.{rename, raise}
+use Rattle.paper.specs.Rename.{raise}
 use Rattle.paper.specs.Size.{exactSize, sizeOf}
 use Rattle.paper.specs.Table.{Table, count, recordAt}
 use Rattle.paper.specs.Walk.{tableOf, placesOf}

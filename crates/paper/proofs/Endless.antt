@@ -1,8 +1,8 @@
 -- Demand 2's "no by-value chain can be followed for ever": report 14 is given exactly where one can be.
 -- Assumes nothing.
-use Prim.Native.Nat.{ℕ, zero, suc, _+_, _-_, _≤_, _<_, suc-le-suc}
-use mathlib.Core.Path.{_≡_, refl, sym, ap, _∙_, subst}
-use mathlib.Core.Bool.{Bool, true, false, cond, _||_, false≢true}
+use Prim.Native.Nat.{ℕ, zero, suc, _+_, _≤_, _<_}
+use mathlib.Core.Path.{_≡_, refl, sym, ap, _∙_}
+use mathlib.Core.Bool.{Bool, true, false, cond, false≢true}
 use mathlib.Core.List.{List, [], _∷_, List·Memᴰ, List·Memᴰ·head, List·Memᴰ·tail}
 use mathlib.Core.Logic.{_⊎_, inl, inr, ⊎-elim}
 use native.Mathlib.Omega.{arith}
@@ -12,7 +12,6 @@ use Rattle.paper.proofs.Chains.{walks-fewer}
 use Rattle.paper.proofs.Choices.{or-left, or-right, or-cases}
 use Rattle.paper.specs.Chain.{heldBy, walks, endless}
 use Rattle.paper.specs.Choice.{any}
-use Rattle.paper.specs.Fit.{Below}
 use Rattle.paper.specs.Table.{Table, count}
 
 -- a chain that is followed for ever: each type holds the next by value

@@ -1,24 +1,19 @@
 -- What a join with slices of full size hands back: the joined bytes where both tables are accepted and the limits allow, else nothing.
 -- Assumes nothing.
-use Prim.Native.Nat.{ℕ, _+_, _-_, _≤_, _<_}
-use mathlib.Core.Path.{_≡_, refl, sym, ap, ap₂, _∙_, subst}
-use mathlib.Core.Bool.{Bool, true, false, not, cond, _&&_, false≢true}
-use mathlib.Core.List.{List, [], _∷_, _++_}
+use Prim.Native.Nat.{ℕ, _+_}
+use mathlib.Core.Path.{_≡_, refl, sym, ap, ap₂, _∙_}
+use mathlib.Core.Bool.{Bool, true, false, not, cond, _&&_}
+use mathlib.Core.List.{List, [], _∷_}
 use mathlib.Core.Option.{Option, none, some}
-use native.Mathlib.Omega.{arith}
-use borrow.Author.Tests.{leb-true, le-leb, lt-leb, le-ltb, lt-ltb, leb-false}
+use borrow.Author.Tests.{leb-true, le-ltb, lt-ltb, leb-false}
 use lib.Dec.{leb, ltb, eqb}
 use lib.ListN.{length, take, drop}
 use lib.Seq.{take-append-seam}
-use Rattle.paper.proofs.Acceptance.{accepted-fits, accepted-bytes, accepted-short, accepted-good, good-accepted}
-use Rattle.paper.proofs.Choices.{and-left, and-right}
-use Rattle.paper.proofs.Joining.{Good, count-join, length-strings}
-use Rattle.paper.proofs.JoinFits.{good-join, fits-join}
-use Rattle.paper.proofs.Tables.{tableOf-bytesOf, length-bytesOf}
-use Rattle.paper.specs.Answer.{Answer, inside, report}
+use Rattle.paper.proofs.Joining.{count-join}
+use Rattle.paper.specs.Answer.{Answer}
 use Rattle.paper.specs.Choice.{_when_, firstDue, orElse}
-use Rattle.paper.specs.Fit.{Bytes, Fits, Accepted}
-use Rattle.paper.specs.Full.{handed, joinFull, andThen}
+use Rattle.paper.specs.Fit.{Accepted}
+use Rattle.paper.specs.Full.{handed, joinFull}
 use Rattle.paper.specs.Gate.{naming, refusal}
 use Rattle.paper.specs.Join.{joinTables, refusedInside, joinedBytes, limitReport, joinRefusal, joinOutcome, join}
 use Rattle.paper.specs.Limits.{typeLimit, byteLimit, fullPlaces}

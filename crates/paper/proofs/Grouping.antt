@@ -1,35 +1,33 @@
 -- Demand 3: grouping does not matter and the empty table is neutral, over the defined join, bytes and refusals.
 -- Assumes nothing.
-use Prim.Native.Nat.{ℕ, zero, suc, _+_, _-_, _*_, _≤_, _<_}
-use mathlib.Core.Path.{_≡_, refl, sym, ap, ap₂, _∙_, subst}
-use mathlib.Core.Bool.{Bool, true, false, not, cond, _&&_, false≢true}
-use mathlib.Core.List.{List, [], _∷_, _++_, map, map-map, map-append, append-assoc, append-nil}
+use Prim.Native.Nat.{ℕ, _+_, _-_}
+use mathlib.Core.Path.{_≡_, refl, sym, ap, ap₂, _∙_}
+use mathlib.Core.Bool.{Bool, true, false, cond, false≢true}
+use mathlib.Core.List.{List, [], _∷_, _++_, map, map-map, map-append, append-assoc}
 use mathlib.Core.Option.{Option, none, some}
-use native.Mathlib.Nat.{add-zero}
 use native.Mathlib.Omega.{arith}
 use borrow.Author.Tests.{leb-true, le-leb}
 use lib.Dec.{leb}
-use lib.ListN.{length, getD, drop, length-append}
+use lib.ListN.{length, drop, length-append}
 use lib.Seq.{drop-append-le}
-use Rattle.paper.proofs.Acceptance.{accepted-fits, accepted-bytes, accepted-short, accepted-good, good-accepted}
-use Rattle.paper.proofs.Bytes.{length-bytesOfWords}
+use Rattle.paper.proofs.Acceptance.{accepted-fits, accepted-good, good-accepted}
 use Rattle.paper.proofs.Choices.{and-left, and-right, and-true}
 use Rattle.paper.proofs.FullJoins.{allowed, joined-accepted, first-refused, second-refused}
 use Rattle.paper.proofs.Joining.{Good, count-join, length-strings}
 use Rattle.paper.proofs.JoinFits.{good-join, fits-join}
 use Rattle.paper.proofs.Names.{Closed}
 use Rattle.paper.proofs.Places.{flat-append}
-use Rattle.paper.proofs.Rename.{raise-compose, rename-id, length-rename}
-use Rattle.paper.proofs.Tables.{tableOf-bytesOf, length-bytesOf, bytes-bytesOf}
+use Rattle.paper.proofs.Rename.{raise-compose, length-rename}
+use Rattle.paper.proofs.Tables.{tableOf-bytesOf, length-bytesOf}
 use Rattle.paper.specs.Answer.{Answer}
 use Rattle.paper.specs.Fit.{Bytes, Fits, Accepted}
-use Rattle.paper.specs.Full.{joinFull, andThen, emptyTable, emptyBlob}
+use Rattle.paper.specs.Full.{joinFull, andThen}
 use Rattle.paper.specs.Gate.{refusal}
 use Rattle.paper.specs.Join.{raised, joinTables, joinedBytes}
 use Rattle.paper.specs.Limits.{typeLimit, byteLimit, fullPlaces}
 use Rattle.paper.specs.Rename.{rename, raise}
 use Rattle.paper.specs.Table.{Record, Table, count, wordsOf}
-use Rattle.paper.specs.Walk.{tableOf, bytesOf, flat, typeLenOf}
+use Rattle.paper.specs.Walk.{tableOf, bytesOf, flat}
 
 -- ── tables ──
 

@@ -1,25 +1,24 @@
 -- In a table of which nothing is said every word points inside it, and so does every chain: demand 2 and report 14.
 -- Assumes nothing.
-use Prim.Native.Nat.{ℕ, zero, suc, _+_, _≤_, _<_, suc-le-suc}
+use Prim.Native.Nat.{ℕ, zero, suc, _≤_, _<_}
 use mathlib.Core.Path.{_≡_, refl, sym, ap, _∙_, subst}
-use mathlib.Core.Bool.{Bool, true, false, cond, _&&_, _||_, false≢true}
+use mathlib.Core.Bool.{Bool, true, false, cond, _&&_, false≢true}
 use mathlib.Core.List.{List, [], _∷_, List·Memᴰ, List·Memᴰ·cases-cons, List·Memᴰ·not-nil}
 use mathlib.Core.Logic.{⊎-elim}
-use mathlib.Core.Option.{Option, none, some}
 use native.Mathlib.Omega.{arith}
 use native.Mathlib.Nat.{le-of-suc-le-suc}
-use borrow.Author.Tests.{eqb-true, eqb-false, leb-true, leb-false, le-leb, lt-ltb, ltb-true}
+use borrow.Author.Tests.{eqb-true, eqb-false, leb-true, leb-false, le-leb, lt-ltb}
 use lib.Dec.{eqb, leb, ltb}
-use lib.ListN.{length, getD, List·getD-eq-default}
+use lib.ListN.{length, List·getD-eq-default}
 use Rattle.paper.proofs.Choices.{and-left, and-right, and-true, or-cases}
 use Rattle.paper.proofs.Endless.{Chain, chain-endless, endless-chain}
 use Rattle.paper.proofs.Gates.{Sound}
 use Rattle.paper.proofs.Renaming.{inside, Inside}
 use Rattle.paper.specs.Chain.{heldWord, heldIn, heldBy, endless}
 use Rattle.paper.specs.Kind.{RefRule, voidOrPlain, plain, anInt, aProto, aVar, taggable, Role, names, refers, holds, number, rowOf, rows}
-use Rattle.paper.specs.Names.{nameFits, nameOk, nameWordOk, namesOk}
+use Rattle.paper.specs.Names.{nameOk, nameWordOk, namesOk}
 use Rattle.paper.specs.References.{isPlain, mayBeVoid, mayBeKind, refOk, refWordOk, refsOk}
-use Rattle.paper.specs.Table.{Record, Table, count, nothing, recordAt, kindOf, kindAt, tailRoles, rolesOf, wordsOf, everyRoled, everyWord}
+use Rattle.paper.specs.Table.{Record, Table, count, nothing, recordAt, kindOf, kindAt, tailRoles, rolesOf, wordsOf, everyRoled}
 
 pub recordAt-outside : (T : Table) (t : ℕ) → count T < t → recordAt T t ≡ nothing
 recordAt-outside T zero h = absurd (omega arith)

@@ -1,12 +1,12 @@
 -- A joined table is good and fits a blob, where its parts do and the limits allow it.
 -- Assumes nothing.
-use Prim.Native.Nat.{ℕ, zero, suc, _+_, _-_, _*_, _≤_, _<_}
+use Prim.Native.Nat.{ℕ, zero, suc, _+_, _-_, _≤_, _<_}
 use mathlib.Core.Path.{_≡_, refl, sym, ap, _∙_, subst}
 use mathlib.Core.Bool.{Bool, true, false}
-use mathlib.Core.List.{List, [], _∷_, _++_, map, append-nil}
+use mathlib.Core.List.{List, [], _∷_, _++_, map}
 use native.Mathlib.Omega.{arith}
 use borrow.Author.Tests.{leb-true, leb-false, ltb-true}
-use lib.Dec.{leb, ltb}
+use lib.Dec.{leb}
 use lib.ListN.{length, getD, drop, length-drop, List·getD-append}
 use lib.Seq.{getD-append-add, getD-drop}
 use Rattle.paper.proofs.Bytes.{below-append, below-left, below-right, below-drop}
@@ -19,13 +19,13 @@ use Rattle.paper.proofs.Places.{flat-append}
 use Rattle.paper.proofs.Rename.{length-renameWords}
 use Rattle.paper.proofs.Renaming.{inside, Inside}
 use Rattle.paper.proofs.Tables.{length-bytesOf}
-use Rattle.paper.specs.Fit.{Below, Bytes, wordBound, Whole, EveryWhole, Fits}
+use Rattle.paper.specs.Fit.{Below, wordBound, EveryWhole, Fits}
 use Rattle.paper.specs.Join.{raised, joinTables}
 use Rattle.paper.specs.Kind.{Role, names, refers, holds, number}
 use Rattle.paper.specs.Limits.{typeLimit, byteLimit}
 use Rattle.paper.specs.Rename.{renameWord, renameWords, rename, raise}
-use Rattle.paper.specs.Table.{Record, Table, count, nothing, recordAt, tailRoles, rolesOf, wordsOf, everyRoled}
-use Rattle.paper.specs.Walk.{flat, typeLenOf, bytesOf}
+use Rattle.paper.specs.Table.{Record, Table, count, nothing, tailRoles, rolesOf, wordsOf, everyRoled}
+use Rattle.paper.specs.Walk.{flat, bytesOf}
 
 -- ── nothing is said of a join ──
 

@@ -4,11 +4,8 @@ use Prim.Native.Nat.{ℕ, zero, suc, _+_, _-_, _≤_, _<_}
 use mathlib.Core.Path.{_≡_, refl, sym, ap, _∙_}
 use mathlib.Core.Bool.{Bool, true, false, false≢true}
 use mathlib.Core.List.{List, [], _∷_, _++_, map}
-use mathlib.Core.Option.{Option}
 use native.Mathlib.Nat.{suc-add, add-comm}
 use native.Mathlib.Omega.{arith}
-use borrow.Author.Tests.{leb-true, leb-false}
-use lib.Dec.{leb}
 use lib.ListN.{length, getD, drop, length-append, length-drop, length-map, List·getD-append, List·getD-map}
 use lib.Seq.{getD-append-add}
 use Rattle.paper.proofs.Chains.{walks-rename, walks-le}
@@ -28,7 +25,7 @@ use Rattle.paper.specs.Layout.{layoutOk}
 use Rattle.paper.specs.Name.{nameIn}
 use Rattle.paper.specs.Names.{namesOk}
 use Rattle.paper.specs.References.{refsOk}
-use Rattle.paper.specs.Rename.{rename, raise}
+use Rattle.paper.specs.Rename.{raise}
 use Rattle.paper.specs.Size.{exactSize}
 use Rattle.paper.specs.Table.{Record, Table, count, nothing, recordAt}
 use Rattle.paper.specs.Tails.{tailOk}

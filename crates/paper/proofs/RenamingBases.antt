@@ -1,8 +1,8 @@
 -- The renaming law for bases: following TYPEDEF, qualifiers and TYPE_TAG comes to the renamed base.
 -- Assumes nothing.
-use Prim.Native.Nat.{ℕ, zero, suc, _+_, _-_, _≤_, _<_}
+use Prim.Native.Nat.{ℕ, zero, suc, _+_, _-_, _≤_}
 use mathlib.Core.Path.{_≡_, refl, sym, ap, _∙_, subst}
-use mathlib.Core.Bool.{Bool, true, false, cond, _||_, false≢true}
+use mathlib.Core.Bool.{Bool, true, false, cond, false≢true}
 use mathlib.Core.List.{List, [], _∷_, List·Memᴰ}
 use native.Mathlib.Nat.{zero-add, suc-add, sub-add-cancel}
 use native.Mathlib.Omega.{arith}
@@ -13,12 +13,11 @@ use Rattle.paper.proofs.Choices.{or-cases}
 use Rattle.paper.proofs.Endless.{any-holds}
 use Rattle.paper.proofs.Insides.{held-inside}
 use Rattle.paper.proofs.Renaming.{Renaming, kindAt-rename}
-use Rattle.paper.proofs.RenamingSizes.{type-0}
 use Rattle.paper.proofs.Rows.{isHeld}
 use Rattle.paper.proofs.Sizes.{heldIn-getD}
 use Rattle.paper.specs.Chain.{heldBy, walks, endless}
 use Rattle.paper.specs.Choice.{member}
-use Rattle.paper.specs.Kind.{Role, holds, voidOrPlain, number, rows, rowOf}
+use Rattle.paper.specs.Kind.{Role, holds, voidOrPlain, rows, rowOf}
 use Rattle.paper.specs.KindNo.{TYPEDEF, VOLATILE, CONST, RESTRICT, TYPE-TAG}
 use Rattle.paper.specs.References.{refsOk}
 use Rattle.paper.specs.Rename.{renameWord, rename}

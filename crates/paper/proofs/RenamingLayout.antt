@@ -1,23 +1,22 @@
 -- The renaming law for layout (15), rule by rule, and so for every rule of phases 3, 4 and 6.
 -- Assumes nothing.
-use Prim.Native.Nat.{ℕ, zero, suc, _+_, _*_, _≤_, _<_}
-use mathlib.Core.Path.{_≡_, refl, sym, ap, ap₂, _∙_, subst}
+use Prim.Native.Nat.{ℕ, zero, suc, _+_, _*_, _≤_}
+use mathlib.Core.Path.{_≡_, refl, sym, ap, ap₂, _∙_}
 use mathlib.Core.Bool.{Bool, true, false, not, cond, _&&_, _||_, false≢true}
 use mathlib.Core.List.{List, [], _∷_, _++_, map}
 use mathlib.Core.Option.{Option}
 use native.Mathlib.Omega.{arith}
 use borrow.Author.Tests.{eqb-true, leb-true}
-use lib.Dec.{eqb, leb, ltb}
+use lib.Dec.{eqb, ltb}
 use lib.ListN.{length, getD}
 use Rattle.paper.proofs.Choices.{and-left, and-right, when-same, if-same, cond-cong, every-map}
-use Rattle.paper.proofs.Gates.{Sound}
 use Rattle.paper.proofs.Renaming.{Renaming, inside, Inside}
-use Rattle.paper.proofs.RenamingBases.{Each, member-each}
+use Rattle.paper.proofs.RenamingBases.{member-each}
 use Rattle.paper.proofs.RenamingSizes.{type-0, name-0, getD-rename, exactSize-rename}
 use Rattle.paper.proofs.RenamingSpans.{renameMember, renameEntry, memberRoles, entryRoles, membersIn-rename, entriesIn-rename, members-every, entries-every, placedFrom-rename, offsets-rename, isRegular-rename, spanOf-rename, entryCovers-rename}
 use Rattle.paper.proofs.RenamingTails.{renameParameter, tailRoles-kind, tail-length, tail-number, third-role, parametersOf-rename, isLast00-rename}
 use Rattle.paper.specs.Chain.{endless}
-use Rattle.paper.specs.Choice.{times, every, member, differ}
+use Rattle.paper.specs.Choice.{times, every, member}
 use Rattle.paper.specs.Fit.{Whole}
 use Rattle.paper.specs.Kind.{Role, names, refers, holds, number, rows, rowOf}
 use Rattle.paper.specs.KindNo.{ARRAY, STRUCT, UNION, FUNC, FUNC-PROTO, VAR, DATASEC, DECL-TAG}
@@ -25,8 +24,8 @@ use Rattle.paper.specs.Layout.{memberOk, notFalling, offsetsOk, membersO
 use Rattle.paper.specs.References.{refOk, refWordOk, refsOk}
 use Rattle.paper.specs.Rename.{renameWord, renameWords, rename}
 use Rattle.paper.specs.Section.{Entry, entriesIn, entriesOf, entryCovers, placedFrom, sectionOk}
-use Rattle.paper.specs.Size.{isSome, within, exactSize, hasSize, smallSize, hasSmallSize}
-use Rattle.paper.specs.Span.{Member, Span, membersIn, membersOf, bitOffset, endsBy, spanOf, isRegular}
+use Rattle.paper.specs.Size.{isSome, within, hasSize, smallSize, hasSmallSize}
+use Rattle.paper.specs.Span.{Member, Span, membersIn, membersOf, bitOffset, endsBy, isRegular}
 use Rattle.paper.specs.Table.{Record, Table, count, recordAt, kindAt, kindOf, vlenOf, flagOf, tailRoles, rolesOf, wordsOf, everyRoled}
 use Rattle.paper.specs.Tails.{Parameter, parametersOf}
 

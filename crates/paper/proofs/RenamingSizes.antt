@@ -1,24 +1,21 @@
 -- The renaming law for exact sizes and bases: a type and its renamed type have the same size, and renamed bases.
 -- Assumes nothing.
-use Prim.Native.Nat.{ℕ, zero, suc, _+_, _≤_, _<_}
-use mathlib.Core.Path.{_≡_, refl, sym, ap, ap₂, _∙_, subst}
-use mathlib.Core.Bool.{Bool, true, false, cond, _&&_, false≢true}
+use Prim.Native.Nat.{ℕ, zero, suc, _≤_}
+use mathlib.Core.Path.{_≡_, refl, sym, ap, ap₂, _∙_}
+use mathlib.Core.Bool.{true, false}
 use mathlib.Core.List.{List, [], _∷_}
-use mathlib.Core.Option.{Option}
-use native.Mathlib.Omega.{arith}
 use borrow.Author.Tests.{eqb-true, eqb-false}
-use lib.Dec.{eqb, eqb·suc-zero}
+use lib.Dec.{eqb·suc-zero}
 use lib.ListN.{getD}
 use Rattle.paper.proofs.Choices.{and-left, and-right}
-use Rattle.paper.proofs.Insides.{held-inside}
 use Rattle.paper.proofs.Renaming.{Renaming}
 use Rattle.paper.proofs.Rows.{isHeld, isNumber, number-kept, held-renamed, sizeRoles, rowOf-sizeRoles}
-use Rattle.paper.proofs.Sizes.{isFar, next, sizeBy-void, sizeBy-enough, never-far, step-held}
+use Rattle.paper.proofs.Sizes.{next, sizeBy-enough, next-inside, never-far}
 use Rattle.paper.specs.Chain.{endless}
 use Rattle.paper.specs.Kind.{SizeRule, eight, sizeWord, countTimes, referent, noSize, Role, names, refers, holds, number, rowOf}
 use Rattle.paper.specs.References.{refsOk}
 use Rattle.paper.specs.Rename.{renameWord, renameWords, rename}
-use Rattle.paper.specs.Size.{Step, is, manyOf, sizeless, lost, Found, noneAt, tooFar, stepBy, scale, goOn, sizeBy, stepIn, sizeFound, exactSize}
+use Rattle.paper.specs.Size.{Step, is, manyOf, sizeless, lost, Found, tooFar, stepBy, scale, goOn, sizeBy, stepIn, sizeFound, exactSize}
 use Rattle.paper.specs.Table.{Record, Table, count, recordAt, kindOf, vlenOf, tailRoles}
 
 -- a step that goes on to the renamed type
@@ -90,13 +87,6 @@ goOn-rename type sizeless f g h = refl
 goOn-rename type lost f g h = refl
 
 module _ {A B : Table} {type name : ℕ → ℕ} (R : Renaming A B type name) (refs : (t : ℕ) → 1 ≤ t → t ≤ count A → refsOk A (recordAt A t) ≡ true) where
-  next-inside : (t : ℕ) → next (stepIn A t) ≤ count A
-  next-inside t = go (eqb (next (stepIn A t)) 0) refl
-    where
-      go : (z : Bool) → eqb (next (stepIn A t)) 0 ≡ z → next (stepIn A t) ≤ count A
-      go true e = let z = eqb-true (next (stepIn A t)) 0 e in omega arith
-      go false e = held-inside A refs t (next (stepIn A t)) (step-held A t (eqb-false (next (stepIn A t)) 0 e)) .2 .1
-
   sizeBy-rename : (k t : ℕ) → t ≤ count A → sizeBy (stepIn B) k (type t) ≡ sizeBy (stepIn A) k t
   sizeBy-rename zero zero h = ap (sizeBy (stepIn B) 0) (type-0 R)
   sizeBy-rename zero (suc t) h = sizeBy-end (stepIn B) (type (suc t)) (type-suc R t)
@@ -105,15 +95,11 @@ module _ {A B : Table} {type name : ℕ → ℕ} (R : Renaming A B type name) (r
       sizeBy-on (stepIn B) k (type (suc t)) (type-suc R t)
       ∙ ap (λ (s : Step). goOn s (λ (u : ℕ). sizeBy (stepIn B) k u)) (stepIn-rename R (suc t) h)
       ∙ goOn-rename type (stepIn A (suc t)) (λ (u : ℕ). sizeBy (stepIn B) k u) (λ (u : ℕ). sizeBy (stepIn A) k u)
-      (sizeBy-rename k (next (stepIn A (suc t))) (next-inside (suc t)))
+      (sizeBy-rename k (next (stepIn A (suc t))) (next-inside A refs (suc t)))
 
   module _ (ends : (t : ℕ) → 1 ≤ t → t ≤ count A → endless A t ≡ false) where
-    enough : (t : ℕ) → t ≤ count A → sizeBy (stepIn A) (count A) t ≡ tooFar → ⊥
-    enough zero h e = let z : _≡_ {A = ℕ} 0 1 = ap isFar (sym (sizeBy-void (stepIn A) (count A)) ∙ e) in omega arith
-    enough (suc t) h e = never-far A (suc t) (ends (suc t) (omega arith) h) e
-
     -- every type has the size of its renamed type, be it exact, none, or above all bounds
     pub exactSize-rename : (t : ℕ) → t ≤ count A → exactSize B (type t) ≡ exactSize A t
     unfolding exactSize
     exactSize-rename t h =
-        ap sizeFound (sizeBy-rename (count B) t h ∙ sizeBy-enough (stepIn A) t (R .fewer) (enough t h))
+        ap sizeFound (sizeBy-rename (count B) t h ∙ sizeBy-enough (stepIn A) t (R .fewer) (never-far A ends t h))

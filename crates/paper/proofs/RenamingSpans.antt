@@ -1,7 +1,7 @@
 -- The renaming law for members and their spans, and for the entries of a section (15).
 -- Assumes nothing.
-use Prim.Native.Nat.{ℕ, zero, suc, _+_, _*_, _≤_, _<_}
-use mathlib.Core.Path.{_≡_, refl, sym, ap, ap₂, _∙_}
+use Prim.Native.Nat.{ℕ, zero, suc, _+_, _*_, _≤_}
+use mathlib.Core.Path.{_≡_, refl, ap, ap₂, _∙_}
 use mathlib.Core.Bool.{Bool, true, false, not, cond, _&&_, _||_}
 use mathlib.Core.List.{List, [], _∷_, map}
 use mathlib.Core.Option.{Option, none, some}
@@ -22,9 +22,9 @@ use Rattle.paper.specs.References.{refsOk}
 use Rattle.paper.specs.Rename.{renameWords, rename}
 use Rattle.paper.specs.Section.{Entry, entriesIn, coversSize, entryCovers, placedFrom}
 use Rattle.paper.specs.Size.{exactSize, within, smallSize}
-use Rattle.paper.specs.Span.{Member, membersIn, Span, isRegularWord, isRegular, bitOffset, fieldWidth, spanIf, wholeSpan, plainSpan, fieldSpan, spanOfSize, spanOf, baseOf}
+use Rattle.paper.specs.Span.{Member, membersIn, isRegularWord, isRegular, bitOffset, fieldWidth, spanIf, wholeSpan, plainSpan, fieldSpan, spanOfSize, spanOf, baseOf}
 use Rattle.paper.specs.Table.{Record, Table, count, recordAt, kindOf, everyRoled}
-use Rattle.paper.specs.Tails.{intWord, offsetIn, widthIn}
+use Rattle.paper.specs.Tails.{offsetIn, widthIn}
 
 abbrev pub renameMember : (ℕ → ℕ) → (ℕ → ℕ) → Member → Member
 renameMember type name m = record { name = name (m .name); type = type (m .type); offset = m .offset }

@@ -1,21 +1,20 @@
 -- The renaming law for tail words (12): an INT's word and a linkage stand, and a parameter is void where its renamed one is.
 -- Assumes nothing.
-use Prim.Native.Nat.{ℕ, zero, suc, _+_, _*_, _≤_, _<_}
-use mathlib.Core.Path.{_≡_, refl, sym, ap, ap₂, _∙_, subst}
-use mathlib.Core.Bool.{Bool, true, false, not, _&&_, _||_}
+use Prim.Native.Nat.{ℕ, zero, suc, _+_, _*_, _≤_}
+use mathlib.Core.Path.{_≡_, refl, ap, ap₂, _∙_}
+use mathlib.Core.Bool.{not, _&&_, _||_}
 use mathlib.Core.List.{List, [], _∷_, _++_, map}
 use native.Mathlib.Omega.{arith}
-use lib.Dec.{eqb}
 use lib.ListN.{length, getD}
 use Rattle.paper.proofs.Choices.{when-same, isEmpty-map}
 use Rattle.paper.proofs.Renaming.{Renaming}
 use Rattle.paper.proofs.RenamingSizes.{type-0, name-0, getD-rename}
-use Rattle.paper.specs.Choice.{times, isEmpty, differ, member}
+use Rattle.paper.specs.Choice.{times}
 use Rattle.paper.specs.Fit.{Whole}
-use Rattle.paper.specs.Kind.{NameRule, RefRule, Role, names, refers, holds, number, voidOrPlain, offset0OrIdentifier, rows, rowOf}
+use Rattle.paper.specs.Kind.{Role, names, refers, number, voidOrPlain, offset0OrIdentifier, rows, rowOf}
 use Rattle.paper.specs.KindNo.{INT, VAR, FUNC-PROTO}
 use Rattle.paper.specs.Rename.{renameWord, renameWords, rename}
-use Rattle.paper.specs.Table.{Record, Table, bits, kindOf, vlenOf, rowIn, tailRoles, tailLength}
+use Rattle.paper.specs.Table.{Record, Table, kindOf, vlenOf, tailRoles, tailLength}
 use Rattle.paper.specs.Tails.{intWord, intWordOk, linkageWordOk, Parameter, parametersIn, parametersOf, isLast00, voidsLast, tailOk}
 
 -- ── the tail of a record of a kind ──

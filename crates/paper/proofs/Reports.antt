@@ -1,6 +1,6 @@
 -- Which numbers each phase says, and so what report 14 means.
 -- Assumes nothing.
-use Prim.Native.Nat.{ℕ, zero, suc, _+_, _≤_, _<_}
+use Prim.Native.Nat.{ℕ, zero, suc, _+_, _≤_}
 use mathlib.Core.Path.{_≡_, refl, sym, ap, _∙_, subst}
 use mathlib.Core.Bool.{Bool, true, false, cond, _||_}
 use mathlib.Core.List.{List, [], _∷_}
@@ -11,21 +11,17 @@ use lib.Dec.{leb, ltb}
 use lib.ListN.{length, take, drop}
 use Rattle.paper.proofs.Choices.{firstDue-none}
 use Rattle.paper.proofs.Endless.{Chain}
-use Rattle.paper.proofs.Gates.{some≢none, overTypes-none, overTypes-some, DueAt}
+use Rattle.paper.proofs.Gates.{some≢none, overTypes-none, overTypes-some}
 use Rattle.paper.proofs.Headers.{headerRules}
 use Rattle.paper.proofs.Insides.{chain-at}
-use Rattle.paper.specs.Answer.{Answer, report}
+use Rattle.paper.specs.Answer.{Answer}
 use Rattle.paper.specs.Chain.{endless}
 use Rattle.paper.specs.Choice.{Rule, _when_, firstDue, orElse}
 use Rattle.paper.specs.Gate.{naming, phase1, walkReport, phase2, shortSlices, firstOf, phase3, phase4, phase5, phase6, overTypes, tableReport, refusal}
-use Rattle.paper.specs.Header.{headerReport, lengthBad, openingBad, headerLengthBad, sectionsBad, stringsBad}
-use Rattle.paper.specs.Heads.{headBad}
-use Rattle.paper.specs.Layout.{layoutBad}
+use Rattle.paper.specs.Header.{headerReport}
 use Rattle.paper.specs.Limits.{typeLimit}
-use Rattle.paper.specs.Names.{nameBad}
 use Rattle.paper.specs.References.{refsOk, refBad}
 use Rattle.paper.specs.Table.{Record, Table, count, recordAt, kindIn, tailLength}
-use Rattle.paper.specs.Tails.{tailBad}
 use Rattle.paper.specs.Walk.{Walked, records, stopped, ahead, known, walkRecord, walkFrom, typeWords, walk, tableOf}
 
 -- ── an answer that is not 14 ──

@@ -1,20 +1,19 @@
 -- Of an accepted blob and its index, the size question answers the exact size, no size or overflow, and never 21 or 22.
 -- Assumes nothing.
-use Prim.Native.Nat.{ℕ, zero, suc, _+_, _-_, _*_, _≤_, _<_}
-use mathlib.Core.Path.{_≡_, refl, sym, ap, ap₂, _∙_}
-use mathlib.Core.Bool.{Bool, true, false, not, cond, _&&_, _||_, false≢true}
-use mathlib.Core.List.{List, [], _∷_}
+use Prim.Native.Nat.{ℕ, zero, suc, _+_, _*_, _≤_, _<_}
+use mathlib.Core.Path.{_≡_, refl, ap, ap₂, _∙_}
+use mathlib.Core.Bool.{Bool, true, false, not, cond, _&&_, _||_}
+use mathlib.Core.List.{List}
 use mathlib.Core.Option.{Option, none, some}
 use native.Mathlib.Omega.{arith}
-use borrow.Author.Tests.{le-leb, lt-ltb, leb-true, eqb-true, eqb-false}
-use lib.Dec.{leb, ltb, eqb}
+use borrow.Author.Tests.{le-leb, lt-ltb, leb-true, eqb-true}
+use lib.Dec.{leb, eqb}
 use lib.ListN.{length, getD}
 use Rattle.paper.proofs.Choices.{and-true}
-use Rattle.paper.proofs.Insides.{held-inside}
 use Rattle.paper.proofs.Joining.{Good, good-whole}
 use Rattle.paper.proofs.Places.{place-low, place-high, place-word}
 use Rattle.paper.proofs.Rows.{rowOf-every}
-use Rattle.paper.proofs.Sizes.{isFar, next, sizeBy-void, sizeBy-enough, never-far, step-held}
+use Rattle.paper.proofs.Sizes.{next, sizeBy-enough, next-inside, never-far}
 use Rattle.paper.specs.Answer.{Answer, report, value}
 use Rattle.paper.specs.Fit.{Fits}
 use Rattle.paper.specs.Header.{headerLength}
@@ -153,22 +152,11 @@ module _ (T : Table) (g : Good T) (fits : Fits T) (index : List ℕ) (long : cou
       ∙ ap (stepAtPlace (bytesOf T) index) (at t high)
       ∙ step-at-place t high
 
-  next-inside : (t : ℕ) → next (stepIn T t) ≤ count T
-  next-inside t = go (eqb (next (stepIn T t)) 0) refl
-    where
-      go : (z : Bool) → eqb (next (stepIn T t)) 0 ≡ z → next (stepIn T t) ≤ count T
-      go true e = let z = eqb-true (next (stepIn T t)) 0 e in omega arith
-      go false e = held-inside T (g .sound .refs) t (next (stepIn T t)) (step-held T t (eqb-false (next (stepIn T t)) 0 e)) .2 .1
-
   -- the size question of an accepted table's blob and an index with its places is answered by the exact size
   pub sizeOf-exact : (t : ℕ) → t ≤ count T → sizeOf (bytesOf T) index t ≡ answerOf (exactSize T t)
   unfolding sizeOf sizeAsked exactSize
   sizeOf-exact t h =
       ap sizeAnswer
-      (sizeBy-same (stepAt (bytesOf T) index) (stepIn T) (count T) step-at next-inside (length index) t h
-      ∙ sizeBy-enough (stepIn T) {k = count T} {m = length index} t (omega arith) (enough t h))
-      ∙ found-answer (sizeBy (stepIn T) (count T) t) (enough t h) (never-lost T (count T) t)
-    where
-      enough : (t : ℕ) → t ≤ count T → sizeBy (stepIn T) (count T) t ≡ tooFar → ⊥
-      enough zero h e = let z : _≡_ {A = ℕ} 0 1 = ap isFar (sym (sizeBy-void (stepIn T) (count T)) ∙ e) in omega arith
-      enough (suc t) h e = never-far T (suc t) (g .sound .ends (suc t) (omega arith) h) e
+      (sizeBy-same (stepAt (bytesOf T) index) (stepIn T) (count T) step-at (next-inside T (g .sound .refs)) (length index) t h
+      ∙ sizeBy-enough (stepIn T) {k = count T} {m = length index} t (omega arith) (never-far T (g .sound .ends) t h))
+      ∙ found-answer (sizeBy (stepIn T) (count T) t) (never-far T (g .sound .ends) t h) (never-lost T (count T) t)

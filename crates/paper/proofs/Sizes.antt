@@ -1,8 +1,8 @@
 -- Laws of exact sizes: reads beyond what is enough do not matter, and an accepted table never lacks them.
 -- Assumes nothing.
-use Prim.Native.Nat.{ℕ, zero, suc, _+_, _-_, _*_, _≤_, _<_}
+use Prim.Native.Nat.{ℕ, zero, suc, _+_, _-_, _≤_}
 use mathlib.Core.Path.{_≡_, refl, sym, ap, _∙_, subst}
-use mathlib.Core.Bool.{Bool, true, false, cond, _&&_, _||_, false≢true}
+use mathlib.Core.Bool.{Bool, true, false, cond, false≢true}
 use mathlib.Core.List.{List, [], _∷_, List·Memᴰ, List·Memᴰ·head, List·Memᴰ·tail}
 use native.Mathlib.Nat.{zero-add, suc-add, sub-add-cancel}
 use native.Mathlib.Omega.{arith}
@@ -11,16 +11,18 @@ use lib.Dec.{eqb}
 use lib.ListN.{getD}
 use Rattle.paper.proofs.Choices.{and-left}
 use Rattle.paper.proofs.Endless.{any-holds}
+use Rattle.paper.proofs.Insides.{held-inside}
 use Rattle.paper.proofs.Rows.{isHeld, isNumber, sizeRoles, rowOf-sizeRoles}
 use Rattle.paper.specs.Chain.{heldWord, heldIn, heldBy, walks, endless}
 use Rattle.paper.specs.Kind.{SizeRule, eight, sizeWord, countTimes, referent, noSize, Role, names, refers, holds, number, rowOf}
+use Rattle.paper.specs.References.{refsOk}
 use Rattle.paper.specs.Size.{Step, is, manyOf, sizeless, lost, Found, exactly, noneAt, lostAt, tooFar, stepBy, scale, goOn, sizeBy, stepIn}
 use Rattle.paper.specs.Table.{Table, count, recordAt, kindOf, vlenOf, tailRoles, rolesOf, wordsOf}
 
 -- ── what is found ──
 
 -- 22 and what else may be found, told apart
-abbrev pub isFar : Found → ℕ
+abbrev isFar : Found → ℕ
 isFar (exactly s) = 0
 isFar noneAt = 0
 isFar lostAt = 0
@@ -129,7 +131,20 @@ far-walks T (suc k) (suc t) e = go (stepIn T (suc t)) refl e (far-walks T k)
         let ne : u ≡ 0 → ⊥ = λ v. let z = far (sym (ap (sizeBy (stepIn T) k) v ∙ sizeBy-void (stepIn T) k) ∙ x) in omega arith in
         any-holds (walks T k) u (subst (λ (w : ℕ). List·Memᴰ w (heldBy T (suc t))) (ap next p) (step-held T (suc t) (λ v. ne (sym (ap next p) ∙ v)))) (on u x)
 
--- enough reads for a type from which no walk of n steps goes
-pub never-far : (T : Table) (t : ℕ) → endless T t ≡ false → sizeBy (stepIn T) (count T) t ≡ tooFar → ⊥
-unfolding endless
-never-far T t e x = false≢true (sym e ∙ far-walks T (count T) t x)
+-- ── in a table whose references and chains are good ──
+
+module _ (T : Table) (refs : (t : ℕ) → 1 ≤ t → t ≤ count T → refsOk T (recordAt T t) ≡ true) where
+  -- a step goes on to a type of the table, or to void
+  pub next-inside : (t : ℕ) → next (stepIn T t) ≤ count T
+  next-inside t = go (eqb (next (stepIn T t)) 0) refl
+    where
+      go : (z : Bool) → eqb (next (stepIn T t)) 0 ≡ z → next (stepIn T t) ≤ count T
+      go true e = let z = eqb-true (next (stepIn T t)) 0 e in omega arith
+      go false e = held-inside T refs t (next (stepIn T t)) (step-held T t (eqb-false (next (stepIn T t)) 0 e)) .2 .1
+
+module _ (T : Table) (ends : (t : ℕ) → 1 ≤ t → t ≤ count T → endless T t ≡ false) where
+  -- as many reads as there are types are enough
+  pub never-far : (t : ℕ) → t ≤ count T → sizeBy (stepIn T) (count T) t ≡ tooFar → ⊥
+  unfolding endless
+  never-far zero h x = let z = far (sym (sizeBy-void (stepIn T) (count T)) ∙ x) in omega arith
+  never-far (suc t) h x = false≢true (sym (ends (suc t) (omega arith) h) ∙ far-walks T (count T) (suc t) x)

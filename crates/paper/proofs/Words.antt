@@ -1,13 +1,13 @@
 -- Laws of `Word`: words and their bytes undo each other, and a word is read where it was put.
 -- Assumes nothing.
-use Prim.Native.Nat.{ℕ, zero, suc, _+_, _*_, _/_, _%_, _<_, _≤_}
-use mathlib.Core.Path.{_≡_, refl, sym, ap, _∙_, subst}
+use Prim.Native.Nat.{ℕ, suc, _+_, _*_, _/_, _%_, _<_, _≤_}
+use mathlib.Core.Path.{_≡_, refl, sym, ap, _∙_}
 use mathlib.Core.List.{List, [], _∷_, _++_, append-assoc}
 use native.Mathlib.Numerals.{add-one, add-two, add-three, add-four}
 use native.Mathlib.Nat.{div-div-eq-div-mul, div-one}
 use native.Mathlib.Omega.{arith}
 use borrow.Author.Tests.{le-leb, lt-leb}
-use lib.ListN.{length, getD, take, drop, set, length-drop, length-append, drop-of-length-le}
+use lib.ListN.{length, getD, take, drop, set, length-drop}
 use lib.Seq.{drop-cons, drop-at, length-take-le, sets, sets-eq}
 use Rattle.paper.specs.Word.{weigh, weights, wordOf, wordBytes, firstWord, wordAt, putWord}
 

@@ -5,7 +5,7 @@ use mathlib.Core.List.{List, [], _∷_}
 use lib.Dec.{eqb}
 use Rattle.paper.specs.Choice.{any}
 use Rattle.paper.specs.Kind.{Role, names, refers, holds, number}
-use Rattle.paper.specs.Table.{Record, Table, count, recordAt, rolesOf, wordsOf}
+use Rattle.paper.specs.Table.{Table, count, recordAt, rolesOf, wordsOf}
 
 -- one word's reference in front of the others: only a by-value one that is not void
 abbrev pub heldWord : Role → ℕ → List ℕ → List ℕ

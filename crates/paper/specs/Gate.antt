@@ -1,10 +1,10 @@
 -- The gate: the answer to a check, and both lent slices afterwards, of any bytes and any slices.
 use Prim.Native.Nat.{ℕ, zero, suc, _+_, _-_}
-use mathlib.Core.Bool.{Bool, cond, _||_}
+use mathlib.Core.Bool.{_||_}
 use mathlib.Core.List.{List, [], _∷_, _++_}
 use mathlib.Core.Option.{Option, none, some}
 use lib.Dec.{ltb}
-use lib.ListN.{length, replicate}
+use lib.ListN.{replicate}
 use Rattle.paper.specs.Answer.{Answer, report, accepted}
 use Rattle.paper.specs.Chain.{endless}
 use Rattle.paper.specs.Choice.{Rule, _when_, firstDue, orElse}

@@ -1,11 +1,10 @@
 -- The join: of tables, and of any two blobs, any lent places and any output slice.
 use Prim.Native.Nat.{ℕ, _+_, _-_}
-use mathlib.Core.Bool.{Bool}
 use mathlib.Core.List.{List, [], _∷_, _++_, map}
 use mathlib.Core.Option.{Option, none, some}
 use lib.Dec.{ltb}
 use lib.ListN.{length, drop}
-use Rattle.paper.specs.Answer.{Answer, report, value, inside}
+use Rattle.paper.specs.Answer.{Answer, value, inside}
 use Rattle.paper.specs.Choice.{_when_, firstDue, orElse}
 use Rattle.paper.specs.Gate.{refusal, naming, zeros}
 use Rattle.paper.specs.Limits.{typeLimit, byteLimit}

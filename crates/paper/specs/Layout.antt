@@ -1,17 +1,15 @@
 -- Report 15, "Layout": members and their spans, arrays, variables, functions and tags. Sections are in `Section`.
-use Prim.Native.Nat.{ℕ, zero, suc, _+_, _*_, _%_}
-use mathlib.Core.Bool.{Bool, true, false, not, cond, _&&_, _||_}
+use Prim.Native.Nat.{ℕ, _*_}
+use mathlib.Core.Bool.{Bool, true, not, cond, _&&_, _||_}
 use mathlib.Core.List.{List, [], _∷_, map}
-use mathlib.Core.Option.{Option, none, some}
 use lib.Dec.{leb, ltb, eqb}
 use lib.ListN.{getD}
 use Rattle.paper.specs.Choice.{member, differ, every}
-use Rattle.paper.specs.KindNo.{INT, ARRAY, STRUCT, UNION, ENUM, TYPEDEF, VOLATILE, CONST, RESTRICT, FUNC, VAR, DATASEC, DECL-TAG, TYPE-TAG, ENUM64}
-use Rattle.paper.specs.Limits.{sizeLimit}
+use Rattle.paper.specs.KindNo.{ARRAY, STRUCT, UNION, FUNC, VAR, DATASEC, DECL-TAG}
 use Rattle.paper.specs.Section.{sectionOk}
-use Rattle.paper.specs.Size.{exactSize, hasSize, hasSmallSize}
+use Rattle.paper.specs.Size.{hasSize, hasSmallSize}
 use Rattle.paper.specs.Span.{Member, membersOf, spanOf, bitOffset, endsBy, isRegular}
-use Rattle.paper.specs.Table.{Record, Table, count, recordAt, kindAt, kindOf, vlenOf, flagOf}
+use Rattle.paper.specs.Table.{Record, Table, recordAt, kindOf, vlenOf, flagOf}
 use Rattle.paper.specs.Tails.{Parameter, parametersOf, isLast00}
 
 -- "Every span ends by 8 times the struct's size"

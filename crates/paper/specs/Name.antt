@@ -1,11 +1,11 @@
 -- "Name at an offset", its second question, and identifiers.
-use Prim.Native.Nat.{ℕ, zero, suc}
+use Prim.Native.Nat.{ℕ}
 use mathlib.Core.Bool.{Bool, true, false, not, cond, _&&_, _||_}
 use mathlib.Core.List.{List, [], _∷_}
 use mathlib.Core.Option.{Option, none, some}
 use lib.Dec.{leb, ltb, eqb}
 use lib.ListN.{length, drop}
-use Rattle.paper.specs.Choice.{every, isEmpty}
+use Rattle.paper.specs.Choice.{every}
 use Rattle.paper.specs.Header.{stringsIn, strLen, headerReport}
 
 -- up to the first zero byte

@@ -1,7 +1,7 @@
 -- "Exact size": of a type of a table, and the size question over any blob and any index.
 use Prim.Native.Nat.{ℕ, zero, suc, _+_, _*_}
 use mathlib.Core.Bool.{Bool, true, false, not, cond, _&&_, _||_}
-use mathlib.Core.List.{List, [], _∷_}
+use mathlib.Core.List.{List}
 use mathlib.Core.Option.{Option, none, some}
 use lib.Dec.{leb, ltb, eqb}
 use lib.ListN.{length, getD}
@@ -10,7 +10,7 @@ use Rattle.paper.specs.Header.{headerLength}
 use Rattle.paper.specs.Kind.{SizeRule, eight, sizeWord, countTimes, referent, noSize, rowOf}
 use Rattle.paper.specs.KindNo.{ARRAY}
 use Rattle.paper.specs.Limits.{sizeLimit}
-use Rattle.paper.specs.Table.{Record, Table, count, recordAt, kindIn, kindOf}
+use Rattle.paper.specs.Table.{Table, count, recordAt, kindIn, kindOf}
 use Rattle.paper.specs.Walk.{known}
 use Rattle.paper.specs.Word.{wordAt}
 

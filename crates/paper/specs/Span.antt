@@ -3,7 +3,7 @@ use Prim.Native.Nat.{ℕ, zero, suc, _+_, _*_, _%_}
 use mathlib.Core.Bool.{Bool, true, false, not, cond, _&&_, _||_}
 use mathlib.Core.List.{List, [], _∷_}
 use mathlib.Core.Option.{Option, none, some}
-use lib.Dec.{leb, ltb, eqb}
+use lib.Dec.{leb, eqb}
 use Rattle.paper.specs.Choice.{member}
 use Rattle.paper.specs.KindNo.{INT, ENUM, TYPEDEF, VOLATILE, CONST, RESTRICT, TYPE-TAG, ENUM64}
 use Rattle.paper.specs.Size.{smallSize}
