@@ -1,8 +1,12 @@
+pub mod Headers
 pub mod Columns
 pub mod TailWords
 pub mod Left
-pub mod Steps
+pub mod WalkSteps
 pub mod Progress
 pub mod Findings
 pub mod Written
 pub mod Placing
+pub mod Scans
+pub mod Scales
+pub mod SizeSteps

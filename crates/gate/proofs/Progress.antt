@@ -17,7 +17,7 @@ use Rattle.gate.specs.declared.walk.Step.{Step}
 use Rattle.gate.specs.declared.walk.Step.the-variants.{Next, Cut, Unknown}
 use Rattle.gate.specs.Phase2.{TypeSection, Finding, counted, refused, findingOf, stepAt}
 use Rattle.gate.proofs.Left.{left, typeWords-left, left-length, left-head, left-drop, left-end}
-use Rattle.gate.proofs.Steps.{Way, head-cut, unknown, tail-cut, onward, stepAt-way, walkFrom-done, walkFrom-full, walkFrom-short, walkRecord-unknown, walkRecord-cut, walkRecord-onward}
+use Rattle.gate.proofs.WalkSteps.{Way, head-cut, unknown, tail-cut, onward, stepAt-way, walkFrom-done, walkFrom-full, walkFrom-short, walkRecord-unknown, walkRecord-cut, walkRecord-onward}
 
 -- ── a finding behind some records ──
 

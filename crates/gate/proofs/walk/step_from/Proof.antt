@@ -9,7 +9,7 @@ use Rattle.paper.specs.Table.{kindIn, tailLength}
 use Rattle.paper.specs.Walk.{known}
 use Rattle.gate.specs.declared.walk.Step.the-variants.{Next}
 use Rattle.gate.proofs.TailWords.{tailLength-few}
-use Rattle.gate.proofs.Steps.{nextPlace, knownAt, way-stepAt, head-cut, unknown, tail-cut, onward}
+use Rattle.gate.proofs.WalkSteps.{nextPlace, knownAt, way-stepAt, head-cut, unknown, tail-cut, onward}
 use borrow.Author.Needs.{needs}
 use Rattle.gate.proofs.walk.step_from.Statement.{statement}
 use Rattle.gate.proofs.walk.step_from.Tie as tie

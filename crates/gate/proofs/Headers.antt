@@ -1,0 +1,141 @@
+-- Laws of `Header`: the tests of phase 1 by the bytes and words that code reads, and what they make of a report.
+-- Assumes nothing.
+use Prim.Native.Nat.{ℕ, _+_, _-_, _%_, _<_, _≤_}
+use mathlib.Core.Path.{_≡_, refl, sym, ap, _∙_}
+use mathlib.Core.Bool.{Bool, true, false, not, _&&_, _||_}
+use mathlib.Core.List.{List, [], _∷_}
+use mathlib.Core.Option.{none, some}
+use native.Mathlib.Nat.{add-zero}
+use native.Mathlib.Omega.{arith}
+use borrow.Author.Tests.{eq-eqb, ne-eqb}
+use lib.Dec.{eqb}
+use lib.ListN.{length, getD, take, length-take}
+use lib.Seq.{getD-drop}
+use Rattle.paper.proofs.Choices.{or-left, or-right, same-true}
+use Rattle.paper.specs.Answer.{report}
+use Rattle.paper.specs.Choice.{differ, same}
+use Rattle.paper.specs.Gate.{phase1}
+use Rattle.paper.specs.Header.{opening, typeOff, typeLen, strOff, strLen, stringsIn, lengthBad, openingBad, headerLengthBad, sectionsBad, stringsBad, headerReport}
+use Rattle.paper.specs.Word.{wordAt}
+
+-- numbers that are not equal differ
+differ-other : (m n : ℕ) → (m ≡ n → ⊥) → differ m n ≡ true
+differ-other m n h = ap not (ne-eqb m n h)
+
+-- a test is what its result is
+pub tells : {r t v : Bool} → r ≡ t → r ≡ v → t ≡ v
+tells p q = sym p ∙ q
+
+-- ── report 2 ──
+
+pub openingBad-short : (b : List ℕ) → length b < 4 → openingBad b ≡ true
+unfolding openingBad
+openingBad-short b h = go (same (take 4 b) opening) refl
+  where
+    go : (t : Bool) → same (take 4 b) opening ≡ t → not t ≡ true
+    go true e = absurd (omega (arith, simp length-take at (ap length (same-true (take 4 b) opening e))))
+    go false e = refl
+
+-- four tests do not all pass exactly where one of them, turned, does
+not-and : (s t u v : Bool) → not (s && (t && (u && (v && true)))) ≡ (not s || not t || not u || not v)
+not-and true true true true = refl
+not-and true true true false = refl
+not-and true true false v = refl
+not-and true false u v = refl
+not-and false t u v = refl
+
+openingBad-bytes : (b : List ℕ) → 4 ≤ length b → openingBad b ≡ (differ (getD b 0 0) 0x9f || differ (getD b 1 0) 0xeb || differ (getD b 2 0) 1 || differ (getD b 3 0) 0)
+unfolding openingBad
+openingBad-bytes [] h = absurd (omega arith)
+openingBad-bytes (x ∷ []) h = absurd (omega arith)
+openingBad-bytes (x ∷ y ∷ []) h = absurd (omega arith)
+openingBad-bytes (x ∷ y ∷ z ∷ []) h = absurd (omega arith)
+openingBad-bytes (x ∷ y ∷ z ∷ w ∷ s) h = not-and (eqb x 0x9f) (eqb y 0xeb) (eqb z 1) (eqb w 0)
+
+module _ (b : List ℕ) (long : 4 ≤ length b) where
+  pub openingBad-first : (getD b 0 0 ≡ 0x9f → ⊥) → true ≡ openingBad b
+  openingBad-first h = sym (openingBad-bytes b long ∙ simp (ne-eqb _ _ h))
+
+  pub openingBad-second : getD b 0 0 ≡ 0x9f → (getD b 1 0 ≡ 0xeb → ⊥) → true ≡ openingBad b
+  openingBad-second e₀ h = sym (openingBad-bytes b long ∙ simp (eq-eqb _ _ e₀, ne-eqb _ _ h))
+
+  pub openingBad-third : getD b 0 0 ≡ 0x9f → getD b 1 0 ≡ 0xeb → (getD b 2 0 ≡ 1 → ⊥) → true ≡ openingBad b
+  openingBad-third e₀ e₁ h = sym (openingBad-bytes b long ∙ simp (eq-eqb _ _ e₀, eq-eqb _ _ e₁, ne-eqb _ _ h))
+
+  pub openingBad-fourth : getD b 0 0 ≡ 0x9f → getD b 1 0 ≡ 0xeb → getD b 2 0 ≡ 1 → differ (getD b 3 0) 0 ≡ openingBad b
+  openingBad-fourth e₀ e₁ e₂ = sym (openingBad-bytes b long ∙ simp (eq-eqb _ _ e₀, eq-eqb _ _ e₁, eq-eqb _ _ e₂))
+
+-- ── report 4, from the words that are read ──
+
+module _ (b : List ℕ) where
+  pub sectionsBad-offset : {w : ℕ} → w ≡ wordAt b 8 → (w ≡ 0 → ⊥) → true ≡ sectionsBad b
+  unfolding sectionsBad typeOff
+  sectionsBad-offset e h = sym (or-left _ (or-left _ (or-left _ (differ-other _ _ (λ z. h (e ∙ z))))))
+
+  pub sectionsBad-multiple : {w : ℕ} → w ≡ wordAt b 12 → (w % 4 ≡ 0 → ⊥) → true ≡ sectionsBad b
+  unfolding sectionsBad typeLen
+  sectionsBad-multiple e h =
+      sym (or-left _ (or-left _ (or-right (differ (typeOff b) 0) (differ-other _ _ (λ z. h (ap (λ (x : ℕ). x % 4) e ∙ z))))))
+
+  pub sectionsBad-apart : {v w : ℕ} → v ≡ wordAt b 16 → w ≡ wordAt b 12 → (v ≡ w → ⊥) → true ≡ sectionsBad b
+  unfolding sectionsBad typeLen strOff
+  sectionsBad-apart d e h = sym (or-left _ (or-right (differ (typeOff b) 0 || differ (typeLen b % 4) 0) (differ-other _ _ (λ z. h (d ∙ z ∙ sym e)))))
+
+  pub sectionsBad-sum : {u v w x : ℕ} → u ≡ wordAt b 8 → v ≡ wordAt b 12 → w ≡ wordAt b 16 → x ≡ wordAt b 20
+      → u ≡ 0 → v % 4 ≡ 0 → w ≡ v → differ (24 + v + x) (length b) ≡ sectionsBad b
+  unfolding sectionsBad typeOff typeLen strOff strLen
+  sectionsBad-sum {u} {v} {w} {x} d e f g h₀ h₄ same =
+      rw (← d, ← e, ← f, ← g) (rw (eq-eqb u 0 h₀, eq-eqb (v % 4) 0 h₄, eq-eqb w v same) refl)
+
+  -- ── report 5, from the words and bytes that are read ──
+
+  stringsIn-first : getD (stringsIn b) 0 0 ≡ getD b (24 + wordAt b 12) 0
+  unfolding stringsIn typeLen
+  stringsIn-first = getD-drop (24 + wordAt b 12) b 0 0 ∙ ap (λ (i : ℕ). getD b i 0) (add-zero (24 + wordAt b 12))
+
+  pub stringsBad-empty : {n : ℕ} → n ≡ wordAt b 20 → n ≡ 0 → true ≡ stringsBad b
+  unfolding stringsBad strLen
+  stringsBad-empty e z = sym (or-left _ (or-left _ (eq-eqb _ _ (sym e ∙ z))))
+
+  pub stringsBad-first : {m x : ℕ} → m ≡ wordAt b 12 → x ≡ getD b (24 + m) 0 → (x ≡ 0 → ⊥) → true ≡ stringsBad b
+  unfolding stringsBad
+  stringsBad-first {m} {x} e d h =
+      let at : x ≡ getD (stringsIn b) 0 0 = d ∙ ap (λ (i : ℕ). getD b (24 + i) 0) e ∙ sym stringsIn-first in
+      sym (or-left _ (or-right (eqb (strLen b) 0) (differ-other _ _ (λ z. h (at ∙ z)))))
+
+  pub stringsBad-last : {m n x y : ℕ} → m ≡ wordAt b 12 → n ≡ wordAt b 20 → x ≡ getD b (24 + m) 0 → y ≡ getD b (24 + m + (n - 1)) 0
+      → (n ≡ 0 → ⊥) → x ≡ 0 → differ y 0 ≡ stringsBad b
+  unfolding stringsBad stringsIn typeLen strLen
+  stringsBad-last {m} {n} {x} {y} e f d g h z =
+      let first : getD (stringsIn b) 0 0 ≡ 0 = stringsIn-first ∙ ap (λ (i : ℕ). getD b (24 + i) 0) (sym e) ∙ sym d ∙ z in
+      rw (eq-eqb _ _ first, ← f, ← e, ne-eqb n 0 h, getD-drop, ← g) refl
+
+  -- ── the smallest report ──
+
+  module _ (e₁ : lengthBad b ≡ false) where
+    pub phase1-opening : openingBad b ≡ true → phase1 b ≡ some (report 2 0)
+    unfolding phase1 headerReport
+    phase1-opening e = simp (e₁, e)
+
+    module _ (e₂ : openingBad b ≡ false) where
+      pub phase1-header : headerLengthBad b ≡ true → phase1 b ≡ some (report 3 0)
+      unfolding phase1 headerReport
+      phase1-header e = simp (e₁, e₂, e)
+
+      module _ (e₃ : headerLengthBad b ≡ false) where
+        pub phase1-sections : sectionsBad b ≡ true → phase1 b ≡ some (report 4 0)
+        unfolding phase1 headerReport
+        phase1-sections e = simp (e₁, e₂, e₃, e)
+
+        module _ (e₄ : sectionsBad b ≡ false) where
+          pub phase1-strings : stringsBad b ≡ true → phase1 b ≡ some (report 5 0)
+          unfolding phase1 headerReport
+          phase1-strings e = simp (e₁, e₂, e₃, e₄, e)
+
+          pub phase1-silent : stringsBad b ≡ false → phase1 b ≡ none
+          unfolding phase1 headerReport
+          phase1-silent e = simp (e₁, e₂, e₃, e₄, e)
+
+  pub phase1-length : lengthBad b ≡ true → phase1 b ≡ some (report 1 0)
+  unfolding phase1 headerReport
+  phase1-length e = simp e

@@ -1,0 +1,50 @@
+-- What the size question in code reads off one record, in the paper's words, and its rules as numbers.
+use Prim.Native.Nat.{ℕ}
+use mathlib.Core.Bool.{Bool, cond, not, _&&_, _||_}
+use mathlib.Core.List.{List, [], _∷_}
+use lib.Dec.{leb, eqb}
+use lib.ListN.{length, getD}
+use Rattle.gate.specs.declared.sizes.Step.{Step}
+use Rattle.gate.specs.declared.sizes.Step.the-variants.{Is, ManyOf, Sizeless, Lost}
+use Rattle.paper.specs.Kind.{SizeRule, eight, sizeWord, countTimes, referent, noSize, rowOf}
+use Rattle.paper.specs.KindNo.{ARRAY}
+use Rattle.paper.specs.Size as size
+use Rattle.paper.specs.Size.{is, manyOf, sizeless, lost, stepBy}
+use Rattle.paper.specs.Table.{kindIn}
+use Rattle.paper.specs.Walk.{known}
+use Rattle.paper.specs.Word.{wordAt}
+
+abbrev pub stepAsPaper : Step → size.Step
+stepAsPaper (Is s) = is s
+stepAsPaper (ManyOf n u) = manyOf n (u .0)
+stepAsPaper Sizeless = sizeless
+stepAsPaper Lost = lost
+
+-- ── rules as numbers ──
+
+abbrev pub codeOf : SizeRule → ℕ
+codeOf noSize = 0
+codeOf eight = 1
+codeOf sizeWord = 2
+codeOf countTimes = 3
+codeOf referent = 4
+
+abbrev pub ruleOf : ℕ → SizeRule
+ruleOf code = getD (noSize ∷ eight ∷ sizeWord ∷ countTimes ∷ referent ∷ []) code noSize
+
+-- ── a record by the bytes from its place on ──
+
+-- the kind is known, and an array's tail is inside
+unfoldable pub readable : ℕ → ℕ → Bool
+readable kind len = known kind && (not (eqb kind ARRAY) || leb 24 len)
+
+unfoldable pub stepOf : List ℕ → size.Step
+stepOf s =
+    let kind = kindIn (wordAt s 4) in
+    cond (readable kind (length s)) (stepBy (rowOf kind .size) (wordAt s 8) (wordAt s 12) (wordAt s 20)) lost
+
+-- ── counts ──
+
+-- a product of counts, cut where every size but 0 overflows
+unfoldable pub cut : ℕ → ℕ
+cut n = cond (leb n 4294967296) n 4294967296
