@@ -88,11 +88,15 @@ left-all b index t = record { bound = omega arith; rest = ap sizeAnswer (scale-o
 
 module _ {b index : List ℕ} {t₀ t count reads : ℕ} (left : Left b index t₀ t count reads) where
   pub left-void : t ≡ 0 → report 1 0 ≡ sizeOf b index t₀
-  left-void e = sym (ap (λ (u : ℕ). sizeAnswer (scale count (sizeBy (stepAt b index) reads u))) e ∙ ap (λ (x : Found). sizeAnswer (scale count x)) (sizeBy-void (stepAt b index) reads)) ∙ left .rest
+  left-void e =
+      let none : sizeBy (stepAt b index) reads t ≡ noneAt = ap (sizeBy (stepAt b index) reads) e ∙ sizeBy-void (stepAt b index) reads in
+      sym (ap (λ (x : Found). sizeAnswer (scale count x)) none) ∙ left .rest
 
   module _ (some : t ≡ 0 → ⊥) where
     pub left-far : reads ≡ 0 → report 22 0 ≡ sizeOf b index t₀
-    left-far e = sym (ap (λ (k : ℕ). sizeAnswer (scale count (sizeBy (stepAt b index) k t))) e ∙ ap (λ (x : Found). sizeAnswer (scale count x)) (sizeBy-far (stepAt b index) t some)) ∙ left .rest
+    left-far e =
+        let far : sizeBy (stepAt b index) reads t ≡ tooFar = rw e (sizeBy-far (stepAt b index) t some) in
+        sym (ap (λ (x : Found). sizeAnswer (scale count x)) far) ∙ left .rest
 
     module _ (more : reads ≡ 0 → ⊥) {x : Step} (at : x ≡ stepAt b index t) where
       -- what the record says decides, or leads on

@@ -108,5 +108,6 @@ module _ (b index : List ℕ) (t : ℕ) where
         let same : leb 24 (length (drop p b)) ≡ leb (p + 24) (length b) = rw length-drop (leb-shift 24 p (length b) (omega arith)) in
         rw (lt-ltb _ _ inside, le-leb _ _ h, le-leb _ _ c, wordAt-drop b p 4, wordAt-drop b p 8, wordAt-drop b p 12, wordAt-drop b p 20, same) refl
 
-    pub stepAt-part : 24 ≤ getD index t 0 → getD index t 0 + 12 ≤ length b → {x : Step} → x ≡ stepOf (take (length b - getD index t 0) (drop (getD index t 0) b)) → x ≡ stepAt b index t
+    pub stepAt-part : 24 ≤ getD index t 0 → getD index t 0 + 12 ≤ length b → {x : Step}
+        → x ≡ stepOf (take (length b - getD index t 0) (drop (getD index t 0) b)) → x ≡ stepAt b index t
     stepAt-part h c e = e ∙ ap stepOf (part-rest b (getD index t 0)) ∙ sym (stepAt-inside h c)
