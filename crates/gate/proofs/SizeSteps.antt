@@ -1,12 +1,12 @@
 -- Laws of one step of the size question: what a record says, from the words that are read.
 -- Assumes nothing.
 use Prim.Native.Nat.{ℕ, zero, suc, _+_, _-_, _/_, _%_, _<_, _≤_}
-use mathlib.Core.Path.{_≡_, refl, sym, ap, _∙_}
-use mathlib.Core.Bool.{Bool, true, false, not}
+use mathlib.Core.Path.{_≡_, refl, sym, ap, ap₂, _∙_}
+use mathlib.Core.Bool.{Bool, true, false, not, cond, _&&_, _||_}
 use mathlib.Core.List.{List, [], _∷_, map}
 use native.Mathlib.Omega.{arith}
-use borrow.Author.Tests.{lt-ltb, le-ltb, le-leb, lt-leb, leb-true, leb-false, not-true, not-false}
-use lib.Dec.{leb}
+use borrow.Author.Tests.{lt-ltb, le-ltb, le-leb, lt-leb, leb-true, leb-false, not-true, not-false, eq-eqb, ne-eqb}
+use lib.Dec.{leb, eqb}
 use lib.ListN.{length, getD, take, drop, length-drop, List·getD-map}
 use lib.Seq.{drop-drop}
 use Rattle.gate.proofs.Scans.{part-rest}
@@ -14,6 +14,8 @@ use Rattle.gate.specs.SizeStep.{codeOf, ruleOf, readable, stepOf}
 use Rattle.paper.proofs.Choices.{and-left, and-right}
 use Rattle.paper.specs.Kind.{Row, SizeRule, eight, sizeWord, countTimes, referent, noSize, rows, rowOf}
 use Rattle.paper.specs.Size.{Step, lost, stepBy, stepAtPlace, stepAt}
+use Rattle.paper.specs.KindNo.{ARRAY}
+use Rattle.paper.specs.Table.{kindIn}
 use Rattle.paper.specs.Walk.{known}
 use Rattle.paper.specs.Word.{wordAt}
 
@@ -34,43 +36,48 @@ ruleOf-other (suc (suc (suc zero))) a b c d = absurd (c refl)
 ruleOf-other (suc (suc (suc (suc zero)))) a b c d = absurd (d refl)
 ruleOf-other (suc (suc (suc (suc (suc n))))) a b c d = refl
 
--- the rules of all kinds, computed once from the rows
-abbrev pub codes : List ℕ
-codes = 0 ∷ 2 ∷ 1 ∷ 3 ∷ 2 ∷ 2 ∷ 2 ∷ 0 ∷ 4 ∷ 4 ∷ 4 ∷ 4 ∷ 0 ∷ 0 ∷ 4 ∷ 2 ∷ 2 ∷ 0 ∷ 4 ∷ 2 ∷ []
+-- ── a record that can be read ──
 
-codes-rows : codes ≡ map (λ (r : Row). codeOf (r .size)) rows
-unfolding rows
-codes-rows = refl
+module _ (k n : ℕ) {f : Bool} (flag : f ≡ known k) where
+  pub readable-unknown : not f ≡ true → true ≡ not (readable k n)
+  unfolding readable
+  readable-unknown e = ap (λ (b : Bool). not (b && (not (eqb k ARRAY) || leb 24 n))) (sym (not-true f e) ∙ flag)
 
-pub codes-kind : (k : ℕ) → getD codes k 0 ≡ codeOf (rowOf k .size)
-unfolding rowOf
-codes-kind k =
-    ap (λ (l : List ℕ). getD l k 0) codes-rows ∙ List·getD-map (λ (r : Row). codeOf (r .size)) rows k _
+  pub readable-other : not f ≡ false → (k ≡ ARRAY → ⊥) → false ≡ not (readable k n)
+  unfolding readable
+  readable-other e ne =
+      ap₂ (λ (b c : Bool). not (b && (not c || leb 24 n))) (sym (not-false f e) ∙ flag) (sym (ne-eqb k ARRAY ne))
+
+  pub readable-array : not f ≡ false → k ≡ ARRAY → not (leb 24 n) ≡ not (readable k n)
+  unfolding readable
+  readable-array e q =
+      ap₂ (λ (b c : Bool). not (b && (not c || leb 24 n))) (sym (not-false f e) ∙ flag) (sym (eq-eqb k ARRAY q))
 
 -- ── a record by the bytes from its place on ──
 
-pub readable-known : (k n : ℕ) → readable k n ≡ true → k < 20
-unfolding readable
-readable-known k n e = omega (arith, leb-true k 19 (and-right (leb 1 k) (leb k 19) (and-left (known k) _ e)))
+module _ (s : List ℕ) {w : ℕ} (info : w ≡ wordAt s 4) {k : ℕ} (kind : k ≡ kindIn w) {t : Bool} (test : t ≡ not (readable k (length s))) where
+  -- what the record says, by its kind
+  abbrev says : ℕ → Step
+  says x = cond (readable x (length s)) (stepBy (rowOf x .size) (wordAt s 8) (wordAt s 12) (wordAt s 20)) lost
 
-module _ (s : List ℕ) {w : ℕ} (info : w ≡ wordAt s 4) {t : Bool} (test : t ≡ not (readable (w / 16777216 % 32) (length s))) where
-  pub stepOf-unreadable : t ≡ true → lost ≡ stepOf s
+  stepOf-says : says k ≡ stepOf s
   unfolding stepOf
-  stepOf-unreadable e =
-      rw (← info) (rw (not-true (readable (w / 16777216 % 32) (length s)) (sym test ∙ e)) refl)
+  stepOf-says = ap says (kind ∙ ap kindIn info)
 
-  readable-here : t ≡ false → readable (w / 16777216 % 32) (length s) ≡ true
-  readable-here e = not-false (readable (w / 16777216 % 32) (length s)) (sym test ∙ e)
+  abbrev choose : Bool → Step
+  choose b = cond b (stepBy (rowOf k .size) (wordAt s 8) (wordAt s 12) (wordAt s 20)) lost
 
-  pub kind-known : t ≡ false → w / 16777216 % 32 < 20
-  kind-known e = readable-known (w / 16777216 % 32) (length s) (readable-here e)
+  pub stepOf-unreadable : t ≡ true → lost ≡ stepOf s
+  stepOf-unreadable e = sym (ap choose (not-true (readable k (length s)) (sym test ∙ e))) ∙ stepOf-says
 
   pub stepOf-readable : t ≡ false → {third element n r : ℕ} {x : Step} → third ≡ wordAt s 8 → element ≡ wordAt s 12 → n ≡ wordAt s 20
-      → r ≡ codeOf (rowOf (w / 16777216 % 32) .size) → x ≡ stepBy (ruleOf r) third element n → x ≡ stepOf s
-  unfolding stepOf
-  stepOf-readable e {third} {element} {n} {r} e₈ e₁₂ e₂₀ code d =
-      let rule : ruleOf r ≡ rowOf (w / 16777216 % 32) .size = ap ruleOf code ∙ ruleOf-codeOf _ in
-      rw (← info, ← e₈, ← e₁₂, ← e₂₀) (rw (readable-here e, ← rule) d)
+      → r ≡ codeOf (rowOf k .size) → x ≡ stepBy (ruleOf r) third element n → x ≡ stepOf s
+  stepOf-readable e {r = r} e₈ e₁₂ e₂₀ code d =
+      let rule : ruleOf r ≡ rowOf k .size = ap ruleOf code ∙ ruleOf-codeOf _ in
+      d
+      ∙ (λ i. stepBy (rule i) (e₈ i) (e₁₂ i) (e₂₀ i))
+      ∙ sym (ap choose (not-false (readable k (length s)) (sym test ∙ e)))
+      ∙ stepOf-says
 
 -- ── the record of a type ──
 

@@ -1,10 +1,11 @@
-// Kinds: what an info word says, and how many words follow a head. A kind's row is a place of each table.
+// Kinds: what an info word says, how many words follow a head, where a size comes from. A kind's row is a place of each table.
 ghost use mathlib.Core.Path.{_≡_};
 ghost use Prim.Native.Nat.{_<_};
 ghost use lib.ListN.{length};
 ghost use Rattle.paper.specs.Kind.{rowOf};
 ghost use Rattle.paper.specs.Table.{kindIn, vlenIn, tailLength};
 ghost use Rattle.paper.specs.Walk.{known};
+ghost use Rattle.gate.specs.SizeStep.{codeOf};
 
 // Words of a tail that stand once, by kind.
 const ONCE: [u32; 32] = [
@@ -78,6 +79,42 @@ const EACH: [u32; 32] = [
     0,
 ];
 
+// Where the size of each kind comes from: 1 eight, 2 the size word, 3 count times element, 4 the referent, 0 nowhere.
+const SIZE_RULES: [u32; 32] = [
+    0,
+    2, // INT
+    1, // PTR
+    3, // ARRAY
+    2, // STRUCT
+    2, // UNION
+    2, // ENUM
+    0,
+    4, // TYPEDEF
+    4, // VOLATILE
+    4, // CONST
+    4, // RESTRICT
+    0,
+    0,
+    4, // VAR
+    2, // DATASEC
+    2, // FLOAT
+    0,
+    4, // TYPE_TAG
+    2, // ENUM64
+    0,
+    0,
+    0,
+    0,
+    0,
+    0,
+    0,
+    0,
+    0,
+    0,
+    0,
+    0,
+];
+
 // The kind of an info word.
 pub(crate) fn kind_of(info: u32) -> u32
     ensures { λ r. ⌜ r ≡ kindIn info ⌝ }
@@ -121,4 +158,12 @@ pub(crate) fn tail_words(info: u32) -> u32
 {
     let kind = kind_of(info);
     once(kind) + vlen_of(info) * each(kind)
+}
+
+// The rule for a kind's size.
+pub(crate) fn size_rule(kind: u32) -> u32
+    requires { ⌜ kind < 32 ⌝ }
+    ensures { λ r. ⌜ r ≡ codeOf (rowOf kind .size) ⌝ }
+{
+    SIZE_RULES[kind as usize]
 }

@@ -1,13 +1,15 @@
 // The exact size of a type, asked of any blob and any index. Counts are multiplied down the chain of records.
+use crate::kinds::is_known;
+use crate::kinds::kind_of;
+use crate::kinds::size_rule;
 use paper::Place;
 use paper::Sized;
 use paper::TypeNo;
 ghost use mathlib.Core.Path.{_≡_};
-ghost use Prim.Native.Nat.{_*_, _<_, _≤_};
+ghost use Prim.Native.Nat.{_*_, _≤_};
 ghost use mathlib.Core.Bool.{not};
-ghost use Rattle.gate.specs.SizeStep.{codeOf, cut, readable, ruleOf, stepAsPaper, stepOf};
+ghost use Rattle.gate.specs.SizeStep.{cut, readable, ruleOf, stepAsPaper, stepOf};
 ghost use Rattle.paper.specs.Answer.{sizedAsPaper};
-ghost use Rattle.paper.specs.Kind.{rowOf};
 ghost use Rattle.paper.specs.Size.{exactly, sizeAnswer, sizeOf, stepAt, stepBy};
 
 // What one record says of a size: it, so many times another type's, none, or that it cannot be read.
@@ -18,20 +20,8 @@ enum Step {
     Lost,
 }
 
-// Where the size of each kind that is known comes from: 1 eight, 2 the size word, 3 count times element,
-// 4 the referent, 0 nowhere.
-const RULES: [u8; 20] = [0, 2, 1, 3, 2, 2, 2, 0, 4, 4, 4, 4, 0, 0, 4, 2, 2, 0, 4, 2];
-
-// The rule of a kind.
-fn rule(kind: usize) -> u8
-    requires { ⌜ kind < 20 ⌝ }
-    ensures { λ r. ⌜ r ≡ codeOf (rowOf kind .size) ⌝ }
-{
-    RULES[kind]
-}
-
 // By rule: from a record's third word, its element and its element count.
-fn step_by(rule: u8, third: u32, element: u32, n: u32) -> Step
+fn step_by(rule: u32, third: u32, element: u32, n: u32) -> Step
     ensures { λ r. ⌜ stepAsPaper r ≡ stepBy (ruleOf rule) third element n ⌝ }
 {
     match rule {
@@ -47,10 +37,7 @@ fn step_by(rule: u8, third: u32, element: u32, n: u32) -> Step
 fn unreadable(kind: u32, len: usize) -> bool
     ensures { λ r. ⌜ r ≡ not (readable kind len) ⌝ }
 {
-    if kind < 1 {
-        return true;
-    }
-    if 19 < kind {
+    if !is_known(kind) {
         return true;
     }
     if kind != 3 {
@@ -63,14 +50,14 @@ fn unreadable(kind: u32, len: usize) -> bool
 fn step_of(s: &[u8]) -> Step
     ensures { λ r. ⌜ stepAsPaper r ≡ stepOf (now (s .entry)) ⌝ }
 {
-    let kind = words::read(s, Place(4)) / 16777216 % 32;
+    let kind = kind_of(words::read(s, Place(4)));
     if unreadable(kind, s.len()) {
         return Step::Lost;
     }
     let third = words::read(s, Place(8));
     let element = words::read(s, Place(12));
     let n = words::read(s, Place(20));
-    step_by(rule(kind as usize), third, element, n)
+    step_by(size_rule(kind), third, element, n)
 }
 
 // What the record of a type says: 21 where the index or the blob does not reach it.
