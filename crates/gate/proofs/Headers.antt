@@ -44,7 +44,8 @@ not-and true true false v = refl
 not-and true false u v = refl
 not-and false t u v = refl
 
-openingBad-bytes : (b : List ℕ) → 4 ≤ length b → openingBad b ≡ (differ (getD b 0 0) 0x9f || differ (getD b 1 0) 0xeb || differ (getD b 2 0) 1 || differ (getD b 3 0) 0)
+openingBad-bytes : (b : List ℕ) → 4 ≤ length b
+    → openingBad b ≡ (differ (getD b 0 0) 0x9f || differ (getD b 1 0) 0xeb || differ (getD b 2 0) 1 || differ (getD b 3 0) 0)
 unfolding openingBad
 openingBad-bytes [] h = absurd (omega arith)
 openingBad-bytes (x ∷ []) h = absurd (omega arith)

@@ -69,7 +69,8 @@ started {b} {n} {size} done =
     }
 
 -- it begins with a cleared index
-pub placing-start : {b : List ℕ} {n size : ℕ} {index : List ℕ} → WalkDone b n size → index ≡ zeros size → Placing b n (length index) 0 headerLength index
+pub placing-start : {b : List ℕ} {n size : ℕ} {index : List ℕ} → WalkDone b n size → index ≡ zeros size
+    → Placing b n (length index) 0 headerLength index
 placing-start {size} done e = rw (e, length-replicate {A = ℕ} size 0) (started done)
 
 module _ {b : List ℕ} {n size k at : ℕ} {index : List ℕ} (p : Placing b n size k at index) where

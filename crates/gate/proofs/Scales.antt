@@ -64,7 +64,8 @@ sizeAnswer-cut q (exactly (suc s)) = go (leb q 4294967296) refl
 
 -- ── one read ──
 
-pub sizeBy-read : (step : ℕ → Step) (reads t : ℕ) → (t ≡ 0 → ⊥) → (reads ≡ 0 → ⊥) → sizeBy step reads t ≡ goOn (step t) (λ (u : ℕ). sizeBy step (reads - 1) u)
+pub sizeBy-read : (step : ℕ → Step) (reads t : ℕ) → (t ≡ 0 → ⊥) → (reads ≡ 0 → ⊥)
+    → sizeBy step reads t ≡ goOn (step t) (λ (u : ℕ). sizeBy step (reads - 1) u)
 sizeBy-read step reads zero h m = absurd (h refl)
 sizeBy-read step zero (suc t) h m = absurd (m refl)
 sizeBy-read step (suc reads) (suc t) h m =

@@ -113,5 +113,6 @@ pub part-rest : (b : List ℕ) (p : ℕ) → take (length b - p) (drop p b) ≡ 
 part-rest b p = take-all (length b - p) (drop p b) (simp length-drop (omega arith))
 
 -- from where it begins up to where it ends, a part of a slice is the name
-pub part-name : {b : List ℕ} {off p n : ℕ} → Beginning b off p → Ending (take (length b - p) (drop p b)) n → take n (take (length b - p) (drop p b)) ≡ nameAt b off
+pub part-name : {b : List ℕ} {off p n : ℕ} → Beginning b off p → Ending (take (length b - p) (drop p b)) n
+    → take n (take (length b - p) (drop p b)) ≡ nameAt b off
 part-name {b} {off} {p} begins ends = ends .until ∙ ap untilZero (part-rest b p) ∙ begins .name

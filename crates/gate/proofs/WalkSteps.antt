@@ -78,6 +78,7 @@ module _ (rest : List ℕ → Walked) (k n i t : ℕ) (ws : List ℕ) where
   unfolding walkRecord
   walkRecord-cut e h = rw (e, lt-leb _ _ h)
 
-  pub walkRecord-onward : known (kindIn i) ≡ true → tailLength i ≤ length ws → walkRecord rest k n i t ws ≡ ahead (recordFrom n i t ws) (rest (drop (tailLength i) ws))
+  pub walkRecord-onward : known (kindIn i) ≡ true → tailLength i ≤ length ws
+      → walkRecord rest k n i t ws ≡ ahead (recordFrom n i t ws) (rest (drop (tailLength i) ws))
   unfolding walkRecord
   walkRecord-onward e h = rw (e, le-leb _ _ h)

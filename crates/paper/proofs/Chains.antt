@@ -43,7 +43,8 @@ walks-le T {m} {k} t h e = walks-fewer-by T (k - m) m t (rw (sub-add-cancel h) e
 -- ── renaming ──
 
 -- what a record holds is inside its table, where its words are
-heldWord-below : (A : Table) (ρ : Role) (w : ℕ) (us : List ℕ) → inside A ρ w ≡ true → Below (suc (count A)) us → Below (suc (count A)) (heldWord ρ w us)
+heldWord-below : (A : Table) (ρ : Role) (w : ℕ) (us : List ℕ) → inside A ρ w ≡ true → Below (suc (count A)) us
+    → Below (suc (count A)) (heldWord ρ w us)
 heldWord-below A (names rule) w us h b = b
 heldWord-below A (refers rule) w us h b = b
 heldWord-below A number w us h b = b

@@ -97,7 +97,8 @@ module _ (a b : List ℕ) (bytes-a : Bytes a) (bytes-b : Bytes b) (places work r
   join-count = ap count join-table ∙ count-join (tableOf a) (tableOf b)
 
   -- it is accepted, whatever places are lent beyond one for each type
-  pub join-accepted : (places′ work′ : ℕ) → count (tableOf a) + count (tableOf b) < places′ → count (tableOf a) + count (tableOf b) < work′ → refusal (joinedBytes a b) places′ work′ ≡ none
+  pub join-accepted : (places′ work′ : ℕ) → count (tableOf a) + count (tableOf b) < places′
+      → count (tableOf a) + count (tableOf b) < work′ → refusal (joinedBytes a b) places′ work′ ≡ none
   unfolding joinedBytes A B
   join-accepted places′ work′ p w =
       let n = count-join A B in
@@ -116,7 +117,8 @@ module _ (a b : List ℕ) (bytes-a : Bytes a) (bytes-b : Bytes b) (places work r
   unfolding A B
   join-name-first n h = ap (λ (T : Table). nameIn (T .strings) n) join-table ∙ first-renaming A B (good-A .closed) (good-B .closed) .same-name n h
 
-  pub join-name-second : (n : ℕ) → n < length (tableOf b .strings) → nameIn (tableOf (joinedBytes a b) .strings) (raise (length (tableOf a .strings) - 1) n) ≡ nameIn (tableOf b .strings) n
+  pub join-name-second : (n : ℕ) → n < length (tableOf b .strings)
+      → nameIn (tableOf (joinedBytes a b) .strings) (raise (length (tableOf a .strings) - 1) n) ≡ nameIn (tableOf b .strings) n
   unfolding A B
   join-name-second n h = ap (λ (T : Table). nameIn (T .strings) (raise (length (A .strings) - 1) n)) join-table ∙ second-renaming A B (good-A .closed) (good-B .closed) .same-name n h
 
@@ -125,6 +127,7 @@ module _ (a b : List ℕ) (bytes-a : Bytes a) (bytes-b : Bytes b) (places work r
   unfolding A B
   join-size-first t h = ap (λ (T : Table). exactSize T t) join-table ∙ size-rename (first-renaming A B (good-A .closed) (good-B .closed)) good-A t h
 
-  pub join-size-second : (t : ℕ) → t ≤ count (tableOf b) → exactSize (tableOf (joinedBytes a b)) (raise (count (tableOf a)) t) ≡ exactSize (tableOf b) t
+  pub join-size-second : (t : ℕ) → t ≤ count (tableOf b)
+      → exactSize (tableOf (joinedBytes a b)) (raise (count (tableOf a)) t) ≡ exactSize (tableOf b) t
   unfolding A B
   join-size-second t h = ap (λ (T : Table). exactSize T (raise (count A) t)) join-table ∙ size-rename (second-renaming A B (good-A .closed) (good-B .closed)) good-B t h

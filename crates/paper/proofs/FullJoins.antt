@@ -57,11 +57,13 @@ refusal-due a b places work room =
     (orElse-due (refusedInside 17 (refusal b places work)) (limitReport a b room) (inside-17 (refusal b places work))
     (limits-due (ltb typeLimit (count (tableOf a) + count (tableOf b))) (ltb byteLimit (length (joinedBytes a b))) (ltb room (length (joinedBytes a b)))))
 
-outcome-handed : (whole : List ℕ) (places work : ℕ) (out : List ℕ) (o : Option Answer) → NotZero o → handed (joinOutcome whole places work out o) ≡ unless o whole
+outcome-handed : (whole : List ℕ) (places work : ℕ) (out : List ℕ) (o : Option Answer) → NotZero o
+    → handed (joinOutcome whole places work out o) ≡ unless o whole
 outcome-handed whole places work out none h = ap {B = Option (List ℕ)} some (take-append-seam whole (drop (length whole) out))
 outcome-handed whole places work out (some a) h = ap (λ (t : Bool). cond t (some (take (a .p) out)) none) h
 
-joinFull-bytes : (out a b : List ℕ) → length out ≡ byteLimit → joinFull out a b ≡ unless (joinRefusal a b fullPlaces fullPlaces byteLimit) (joinedBytes a b)
+joinFull-bytes : (out a b : List ℕ) → length out ≡ byteLimit
+    → joinFull out a b ≡ unless (joinRefusal a b fullPlaces fullPlaces byteLimit) (joinedBytes a b)
 unfolding joinFull join
 joinFull-bytes out a b e =
     outcome-handed (joinedBytes a b) fullPlaces fullPlaces out (joinRefusal a b fullPlaces fullPlaces (length out)) (refusal-due a b fullPlaces fullPlaces (length out))
@@ -80,7 +82,8 @@ not-above m n = go (leb m n) refl
     go true e = e ∙ sym (ap not (le-ltb n m (leb-true m n e)))
     go false e = e ∙ sym (ap not (lt-ltb n m (leb-false m n e)))
 
-limits-unless : (x y : Bool) (bytes : List ℕ) → unless (naming 0 (firstDue (18 when x ∷ 19 when y ∷ 20 when y ∷ []))) bytes ≡ cond (not x && not y) (some bytes) none
+limits-unless : (x y : Bool) (bytes : List ℕ)
+    → unless (naming 0 (firstDue (18 when x ∷ 19 when y ∷ 20 when y ∷ []))) bytes ≡ cond (not x && not y) (some bytes) none
 limits-unless true y bytes = refl
 limits-unless false true bytes = refl
 limits-unless false false bytes = refl
@@ -116,6 +119,7 @@ module _ (out a b : List ℕ) (full : length out ≡ byteLimit) where
       ∙ ap (λ (y : Option Answer). unless (orElse (refusedInside 16 (refusal a fullPlaces fullPlaces)) (orElse (refusedInside 17 y) (limitReport a b byteLimit))) (joinedBytes a b)) p
       ∙ go (refusal a fullPlaces fullPlaces) x
     where
-      go : (o : Option Answer) (x : Answer) → unless (orElse (refusedInside 16 o) (orElse (refusedInside 17 (some x)) (limitReport a b byteLimit))) (joinedBytes a b) ≡ none
+      go : (o : Option Answer) (x : Answer)
+          → unless (orElse (refusedInside 16 o) (orElse (refusedInside 17 (some x)) (limitReport a b byteLimit))) (joinedBytes a b) ≡ none
       go none x = refl
       go (some a) x = refl

@@ -133,7 +133,8 @@ fits-allowed A B a b fa fb e =
     fits-join A B a b fa fb (leb-true (count J) typeLimit (and-left (leb (count J) typeLimit) _ e)) (leb-true (length (bytesOf J)) byteLimit (and-right (leb (count J) typeLimit) _ e))
 
 -- a join whose bytes go into the next: within the limits both are made, else nothing is
-grouped : (XY J : Table) (next : List ℕ → Option (List ℕ)) → (allowed XY ≡ true → next (bytesOf XY) ≡ result J) → (allowed J ≡ true → allowed XY ≡ true) → andThen (result XY) next ≡ result J
+grouped : (XY J : Table) (next : List ℕ → Option (List ℕ)) → (allowed XY ≡ true → next (bytesOf XY) ≡ result J)
+    → (allowed J ≡ true → allowed XY ≡ true) → andThen (result XY) next ≡ result J
 grouped XY J next on part = go (allowed XY) refl (allowed J) refl
   where
     go : (s : Bool) → allowed XY ≡ s → (t : Bool) → allowed J ≡ t → andThen (cond s (some (bytesOf XY)) none) next ≡ result J
@@ -188,7 +189,8 @@ module _ (o₁ o₂ o₃ o₄ : List ℕ) (f₁ : length o₁ ≡ byteLimit) (f�
       right : Option (List ℕ)
       right = andThen (joinFull o₃ b c) (λ (bc : List ℕ). joinFull o₄ a bc)
 
-      go : (x : Option Answer) → refusal a fullPlaces fullPlaces ≡ x → (y : Option Answer) → refusal b fullPlaces fullPlaces ≡ y → (z : Option Answer) → refusal c fullPlaces fullPlaces ≡ z → left ≡ right
+      go : (x : Option Answer) → refusal a fullPlaces fullPlaces ≡ x → (y : Option Answer) → refusal b fullPlaces fullPlaces ≡ y
+          → (z : Option Answer) → refusal c fullPlaces fullPlaces ≡ z → left ≡ right
       go none p none q none r =
           left-grouped a b c ba bb bc p q r o₁ o₂ f₁ f₂
           ∙ ap result (joinTables-assoc (tableOf a) (tableOf b) (tableOf c) (good a ba p .closed) (good b bb q .closed))

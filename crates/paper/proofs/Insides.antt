@@ -54,7 +54,8 @@ inside-word T (refers rule) w p q = refOk-inside T rule w q
 inside-word T (holds rule) w p q = refOk-inside T rule w q
 inside-word T number w p q = refl
 
-inside-words : (T : Table) (ρs : List Role) (ws : List ℕ) → everyRoled (nameWordOk (T .strings)) ρs ws ≡ true → everyRoled (refWordOk T) ρs ws ≡ true → everyRoled (inside T) ρs ws ≡ true
+inside-words : (T : Table) (ρs : List Role) (ws : List ℕ) → everyRoled (nameWordOk (T .strings)) ρs ws ≡ true
+    → everyRoled (refWordOk T) ρs ws ≡ true → everyRoled (inside T) ρs ws ≡ true
 inside-words T [] ws p q = refl
 inside-words T (ρ ∷ ρs) [] p q = refl
 inside-words T (ρ ∷ ρs) (w ∷ ws) p q =
@@ -74,7 +75,8 @@ module _ {T : Table} (s : Sound T) (some-strings : 1 ≤ length (T .strings)) wh
 abbrev IsType : Table → ℕ → Type 0
 IsType T u = (1 ≤ u) × (u ≤ count T)
 
-heldWord-inside : (T : Table) (ρ : Role) (w : ℕ) (us : List ℕ) (u : ℕ) → refWordOk T ρ w ≡ true → (List·Memᴰ u us → IsType T u) → List·Memᴰ u (heldWord ρ w us) → IsType T u
+heldWord-inside : (T : Table) (ρ : Role) (w : ℕ) (us : List ℕ) (u : ℕ) → refWordOk T ρ w ≡ true → (List·Memᴰ u us → IsType T u)
+    → List·Memᴰ u (heldWord ρ w us) → IsType T u
 heldWord-inside T (names rule) w us u e h m = h m
 heldWord-inside T (refers rule) w us u e h m = h m
 heldWord-inside T number w us u e h m = h m

@@ -116,7 +116,8 @@ module _ (A B : Table) (types : count A + count B < wordBound) (strings : length
   up-word (holds rule) w e h = let l = leb-true w (count B) e in raise-below (count A) w wordBound (omega arith)
   up-word number w e h = h
 
-  up-words : (ρs : List Role) (ws : List ℕ) → everyRoled (inside B) ρs ws ≡ true → Below wordBound ws → Below wordBound (renameWords (raise (count A)) (raise (length (A .strings) - 1)) ρs ws)
+  up-words : (ρs : List Role) (ws : List ℕ) → everyRoled (inside B) ρs ws ≡ true → Below wordBound ws
+      → Below wordBound (renameWords (raise (count A)) (raise (length (A .strings) - 1)) ρs ws)
   up-words [] ws e h = h
   up-words (ρ ∷ ρs) [] e h = tt
   up-words (ρ ∷ ρs) (w ∷ ws) e h =
@@ -131,7 +132,8 @@ module _ (A B : Table) (types : count A + count B < wordBound) (strings : length
       below-append wordBound (wordsOf (up r)) (flat (map up rs)) (up-words (rolesOf r) (wordsOf r) (h 0 (omega arith)) (below-left wordBound (wordsOf r) (flat rs) b))
       (up-flat rs (λ i l. h (suc i) (omega arith)) (below-right wordBound (wordsOf r) (flat rs) b))
 
-pub fits-join : (A B : Table) → Good A → Good B → Fits A → Fits B → count (joinTables A B) ≤ typeLimit → length (bytesOf (joinTables A B)) ≤ byteLimit → Fits (joinTables A B)
+pub fits-join : (A B : Table) → Good A → Good B → Fits A → Fits B → count (joinTables A B) ≤ typeLimit
+    → length (bytesOf (joinTables A B)) ≤ byteLimit → Fits (joinTables A B)
 unfolding joinTables
 fits-join A B a b fa fb few short =
     let up = raised A in

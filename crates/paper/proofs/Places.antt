@@ -99,7 +99,8 @@ firstWord-at (w ∷ ws) s (suc j) fit h =
     ap (λ (n : ℕ). firstWord (drop n (bytesOfWords (w ∷ ws) ++ s))) four ∙ firstWord-at ws s j (fit .1) (omega arith)
 
 -- word j of a record is read 4 * j bytes behind the record's place
-pub place-word : (T : Table) → Fits T → (t : ℕ) → t < count T → (j : ℕ) → j < length (wordsOf (getD (T .records) t nothing)) → wordAt (bytesOf T) (getD (placesOf T) t 0 + 4 * j) ≡ getD (wordsOf (getD (T .records) t nothing)) j 0
+pub place-word : (T : Table) → Fits T → (t : ℕ) → t < count T → (j : ℕ) → j < length (wordsOf (getD (T .records) t nothing))
+    → wordAt (bytesOf T) (getD (placesOf T) t 0 + 4 * j) ≡ getD (wordsOf (getD (T .records) t nothing)) j 0
 unfolding wordAt
 place-word T fits t h j inside =
     let before : List ℕ = flat (take t (T .records)) in
@@ -118,7 +119,8 @@ module _ (b : List ℕ) (bytes : Bytes b) (silent : headerReport b ≡ none) (rs
   blob-place-high = omega (arith, place-high (tableOf b) t h, ap length (bytesOf-tableOf b bytes silent rs e))
 
   -- word j of such a record is read in the blob 4 * j bytes behind the record's place
-  pub blob-place-word : (j : ℕ) → j < length (wordsOf (getD (tableOf b .records) t nothing)) → wordAt b (getD (placesOf (tableOf b)) t 0 + 4 * j) ≡ getD (wordsOf (getD (tableOf b .records) t nothing)) j 0
+  pub blob-place-word : (j : ℕ) → j < length (wordsOf (getD (tableOf b .records) t nothing))
+      → wordAt b (getD (placesOf (tableOf b)) t 0 + 4 * j) ≡ getD (wordsOf (getD (tableOf b .records) t nothing)) j 0
   blob-place-word j inside =
       ap (λ (s : List ℕ). wordAt s (getD (placesOf (tableOf b)) t 0 + 4 * j)) (sym (bytesOf-tableOf b bytes silent rs e))
       ∙ place-word (tableOf b) (tableOf-fits b bytes silent rs e) t h j inside

@@ -65,7 +65,8 @@ module _ (type name : ℕ → ℕ) where
   rename-nothing e = λ i. record { nameOff = e i; info = 0; third = 0; tail = [] }
 
   module _ (type′ name′ : ℕ → ℕ) where
-    renameWord-compose : (ρ : Role) (w : ℕ) → renameWord type′ name′ ρ (renameWord type name ρ w) ≡ renameWord (λ n. type′ (type n)) (λ n. name′ (name n)) ρ w
+    renameWord-compose : (ρ : Role) (w : ℕ)
+        → renameWord type′ name′ ρ (renameWord type name ρ w) ≡ renameWord (λ n. type′ (type n)) (λ n. name′ (name n)) ρ w
     renameWord-compose (names rule) w = refl
     renameWord-compose (refers rule) w = refl
     renameWord-compose (holds rule) w = refl

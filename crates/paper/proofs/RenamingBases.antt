@@ -97,7 +97,8 @@ module _ {A B : Table} {type name : ℕ → ℕ} (R : Renaming A B type name) (r
   baseFrom-inside zero t h = h
   baseFrom-inside (suc k) t h = go (isAlias (kindAt A t)) refl (λ le. baseFrom-inside k (recordAt A t .third) le)
     where
-      go : (a : Bool) → isAlias (kindAt A t) ≡ a → (recordAt A t .third ≤ count A → baseFrom A k (recordAt A t .third) ≤ count A) → cond a (baseFrom A k (recordAt A t .third)) t ≤ count A
+      go : (a : Bool) → isAlias (kindAt A t) ≡ a → (recordAt A t .third ≤ count A → baseFrom A k (recordAt A t .third) ≤ count A)
+          → cond a (baseFrom A k (recordAt A t .third)) t ≤ count A
       go true p on = on (third-inside t p)
       go false p on = h
 

@@ -43,7 +43,8 @@ inside-ref A (refers rule) w r e = leb-true w (count A) e
 inside-ref A (holds rule) w r e = leb-true w (count A) e
 inside-ref A number w r e = absurd (false≢true r)
 
-inside-at : (A : Table) (i : ℕ) (ρs : List Role) (ws : List ℕ) → everyRoled (inside A) ρs ws ≡ true → isRef (getD ρs i number) ≡ true → getD ws i 0 ≤ count A
+inside-at : (A : Table) (i : ℕ) (ρs : List Role) (ws : List ℕ) → everyRoled (inside A) ρs ws ≡ true
+    → isRef (getD ρs i number) ≡ true → getD ws i 0 ≤ count A
 inside-at A i [] ws e r = absurd (false≢true r)
 inside-at A i (ρ ∷ ρs) [] e r = omega arith
 inside-at A zero (ρ ∷ ρs) (w ∷ ws) e r = inside-ref A ρ w r (and-left (inside A ρ w) _ e)
@@ -126,7 +127,8 @@ module _ {A B : Table} {type name : ℕ → ℕ} (R : Renaming A B type name)
   memberOk-rename r m third h =
       ap₂ (λ (n : ℕ) (s : Option Span). endsBy (8 * n) s) third (spanOf-rename R sound-refs ends (flagOf r) m h)
 
-  membersOk-rename : (r : Record) → Inside A r → Whole r → member (kindOf r) (STRUCT ∷ UNION ∷ []) ≡ true → membersOk B (rename type name r) ≡ membersOk A r
+  membersOk-rename : (r : Record) → Inside A r → Whole r → member (kindOf r) (STRUCT ∷ UNION ∷ []) ≡ true
+      → membersOk B (rename type name r) ≡ membersOk A r
   unfolding membersOk offsetsOk rename
   membersOk-rename r in-A w e =
       let k = members-kind r e in

@@ -33,7 +33,8 @@ module _ (type name : ℕ → ℕ) (type-0 : type 0 ≡ 0) (name-0 : name 0 ≡ 
   renameWord-0 number = refl
 
   -- a renamed word, by its place
-  pub getD-rename : (i : ℕ) (ρs : List Role) (ws : List ℕ) → getD (renameWords type name ρs ws) i 0 ≡ renameWord type name (getD ρs i number) (getD ws i 0)
+  pub getD-rename : (i : ℕ) (ρs : List Role) (ws : List ℕ)
+      → getD (renameWords type name ρs ws) i 0 ≡ renameWord type name (getD ρs i number) (getD ws i 0)
   getD-rename i [] ws = refl
   getD-rename i (ρ ∷ ρs) [] = sym (renameWord-0 (getD (ρ ∷ ρs) i number))
   getD-rename zero (ρ ∷ ρs) (w ∷ ws) = refl

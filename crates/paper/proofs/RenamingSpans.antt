@@ -89,7 +89,8 @@ placedFrom-rename type end free [] = refl
 placedFrom-rename type end free (e ∷ es) =
     ap (λ (t : Bool). leb free (e .offset) && leb (e .offset + e .size) end && t) (placedFrom-rename type end (e .offset + e .size) es)
 
-pub offsets-rename : (type name : ℕ → ℕ) (flag : ℕ) (ms : List Member) → map (bitOffset flag) (map (renameMember type name) ms) ≡ map (bitOffset flag) ms
+pub offsets-rename : (type name : ℕ → ℕ) (flag : ℕ) (ms : List Member)
+    → map (bitOffset flag) (map (renameMember type name) ms) ≡ map (bitOffset flag) ms
 offsets-rename type name flag [] = refl
 offsets-rename type name flag (m ∷ ms) = ap {B = List ℕ} (λ os. bitOffset flag m ∷ os) (offsets-rename type name flag ms)
 
@@ -100,13 +101,15 @@ module _ {A B : Table} {type name : ℕ → ℕ} (R : Renaming A B type name) wh
   unfolding isRegular rename
   isRegular-rename r = and-cong (eqb (kindOf r) INT) (λ e. ap isRegularWord (intWord-rename R r (eqb-true _ _ e)))
 
-  plainSpan-rename : (base : Record) (m : Member) (size : ℕ) → plainSpan (rename type name base) (renameMember type name m) size ≡ plainSpan base m size
+  plainSpan-rename : (base : Record) (m : Member) (size : ℕ)
+      → plainSpan (rename type name base) (renameMember type name m) size ≡ plainSpan base m size
   unfolding plainSpan rename
   plainSpan-rename base m size =
       cond-cong (eqb (kindOf base) INT) (wholeSpan (bitOffset 0 m) size)
       (λ e. ap (λ (w : ℕ). spanIf true (bitOffset 0 m + offsetIn w) (widthIn w)) (intWord-rename R base (eqb-true _ _ e)))
 
-  fieldSpan-rename : (base : Record) (m : Member) (size : ℕ) → fieldSpan (rename type name base) (renameMember type name m) size ≡ fieldSpan base m size
+  fieldSpan-rename : (base : Record) (m : Member) (size : ℕ)
+      → fieldSpan (rename type name base) (renameMember type name m) size ≡ fieldSpan base m size
   unfolding fieldSpan rename
   fieldSpan-rename base m size =
       ap (λ (t : Bool). cond (not (eqb (kindOf base) INT) || t)
@@ -116,7 +119,8 @@ module _ {A B : Table} {type name : ℕ → ℕ} (R : Renaming A B type name) wh
       (isRegular-rename base)
 
   module _ (refs : (t : ℕ) → 1 ≤ t → t ≤ count A → refsOk A (recordAt A t) ≡ true) (ends : (t : ℕ) → 1 ≤ t → t ≤ count A → endless A t ≡ false) where
-    spanOfSize-rename : (flag : ℕ) (m : Member) (s : Option ℕ) → m .type ≤ count A → spanOfSize B flag (renameMember type name m) s ≡ spanOfSize A flag m s
+    spanOfSize-rename : (flag : ℕ) (m : Member) (s : Option ℕ) → m .type ≤ count A
+        → spanOfSize B flag (renameMember type name m) s ≡ spanOfSize A flag m s
     spanOfSize-rename flag m none h = refl
     spanOfSize-rename flag m (some size) h =
         ap (λ (base : Record). cond (eqb flag 1) (fieldSpan base (renameMember type name m) size) (plainSpan base (renameMember type name m) size))

@@ -43,7 +43,8 @@ module _ {A B : Table} {type name : ℕ → ℕ} (R : Renaming A B type name) wh
       (ap (λ (ρs : List Role). getD ρs i number) (tailRoles-kind r c e) ∙ h (vlenOf r))
 
   -- the third word, by the role that it has in every record of the kind
-  pub third-role : (r : Record) (c : ℕ) {ρ : Role} → kindOf r ≡ c → rowOf c .thirdRole ≡ ρ → rename type name r .third ≡ renameWord type name ρ (r .third)
+  pub third-role : (r : Record) (c : ℕ) {ρ : Role} → kindOf r ≡ c → rowOf c .thirdRole ≡ ρ
+      → rename type name r .third ≡ renameWord type name ρ (r .third)
   unfolding rename
   third-role r c e h = ap (λ (ρ : Role). renameWord type name ρ (r .third)) (ap (λ (k : ℕ). rowOf k .thirdRole) e ∙ h)
 
@@ -65,14 +66,16 @@ module _ {A B : Table} {type name : ℕ → ℕ} (R : Renaming A B type name) wh
   parametersIn-rename (suc v) (n ∷ t ∷ ws) h =
       ap {B = List Parameter} (λ ps. record { name = name n; type = type t } ∷ ps) (parametersIn-rename v ws (omega arith))
 
-  pub parametersOf-rename : (r : Record) → Whole r → kindOf r ≡ FUNC-PROTO → parametersOf (rename type name r) ≡ map (renameParameter type name) (parametersOf r)
+  pub parametersOf-rename : (r : Record) → Whole r → kindOf r ≡ FUNC-PROTO
+      → parametersOf (rename type name r) ≡ map (renameParameter type name) (parametersOf r)
   unfolding rename rowOf rows
   parametersOf-rename r w e =
       let len : length (r .tail) ≡ 0 + vlenOf r * 2 = tail-length r FUNC-PROTO w e in
       ap (λ (ρs : List Role). parametersIn (renameWords type name ρs (r .tail))) (tailRoles-kind r FUNC-PROTO e)
       ∙ parametersIn-rename (vlenOf r) (r .tail) (omega arith)
 
-  pub isLast00-rename : (p : Parameter) (ps : List Parameter) → isLast00 (renameParameter type name p) (map (renameParameter type name) ps) ≡ isLast00 p ps
+  pub isLast00-rename : (p : Parameter) (ps : List Parameter)
+      → isLast00 (renameParameter type name p) (map (renameParameter type name) ps) ≡ isLast00 p ps
   unfolding isLast00
   isLast00-rename p ps = ap₂ _&&_ (ap₂ _&&_ (isEmpty-map (renameParameter type name) ps) (R .type-zero (p .type))) (R .name-zero (p .name))
 

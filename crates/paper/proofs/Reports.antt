@@ -55,7 +55,8 @@ either-not14 true true k w h = h
 either-not14 true false k w h = λ e. omega arith
 either-not14 false c k w h = λ e. omega arith
 
-walkRecord-not14 : (rest : List ℕ → Walked) (k n i t : ℕ) (ws : List ℕ) → ((left : List ℕ) → WalkNot14 (rest left)) → WalkNot14 (walkRecord rest k n i t ws)
+walkRecord-not14 : (rest : List ℕ → Walked) (k n i t : ℕ) (ws : List ℕ) → ((left : List ℕ) → WalkNot14 (rest left))
+    → WalkNot14 (walkRecord rest k n i t ws)
 unfolding walkRecord
 walkRecord-not14 rest k n i t ws h =
     let r : Record = record { nameOff = n; info = i; third = t; tail = take (tailLength i) ws } in
@@ -153,7 +154,8 @@ report-14 b places work a e n =
     let at5 = past (overTypes phase4 T) _ a n (not14-4 b T places work) (at4 .1) in
     go (overTypes phase5 T) refl (overTypes phase6 T) (not14-6 b T places work) (at5 .0) (at5 .1)
   where
-    go : (o : Option Answer) → overTypes phase5 (tableOf b) ≡ o → (p : Option Answer) → Not14 p → overTypes phase4 (tableOf b) ≡ none → orElse o p ≡ some a → Chain (tableOf b) (a .t)
+    go : (o : Option Answer) → overTypes phase5 (tableOf b) ≡ o → (p : Option Answer) → Not14 p
+        → overTypes phase4 (tableOf b) ≡ none → orElse o p ≡ some a → Chain (tableOf b) (a .t)
     go none x (some y) h good q = absurd (h (ap number-in q ∙ n))
     go none x none h good q = absurd (some≢none (sym q))
     go (some y) x p h good q = phase5-chain (tableOf b) good a (x ∙ q)

@@ -53,7 +53,8 @@ allowed-kept : (type name : ℕ → ℕ) (vs : Values) (ρ : Role) (w : ℕ) →
 allowed-kept type name free ρ w h = refl
 allowed-kept type name (oneOf ws) ρ w h = ap (allowed (oneOf ws)) (number-kept type name ρ w h)
 
-pub allowed-third : (type name : ℕ → ℕ) (k w : ℕ) → allowed (rowOf k .thirdValues) (renameWord type name (rowOf k .thirdRole) w) ≡ allowed (rowOf k .thirdValues) w
+pub allowed-third : (type name : ℕ → ℕ) (k w : ℕ)
+    → allowed (rowOf k .thirdValues) (renameWord type name (rowOf k .thirdRole) w) ≡ allowed (rowOf k .thirdValues) w
 allowed-third type name k w =
     allowed-kept type name (rowOf k .thirdValues) (rowOf k .thirdRole) w
     (rowOf-every (λ (r : Row). thirdKept (r .thirdValues) (r .thirdRole)) (unfold rows in refl) k)

@@ -16,7 +16,8 @@ use Rattle.paper.specs.Walk.{Walked, records, stopped, ahead, known, wal
 -- ── one step ──
 
 -- a whole record is found, whatever follows it
-pub walkRecord-whole : (rest : List ℕ → Walked) (k : ℕ) (r : Record) (ws : List ℕ) → Whole r → walkRecord rest k (r .nameOff) (r .info) (r .third) (r .tail ++ ws) ≡ ahead r (rest ws)
+pub walkRecord-whole : (rest : List ℕ → Walked) (k : ℕ) (r : Record) (ws : List ℕ) → Whole r
+    → walkRecord rest k (r .nameOff) (r .info) (r .third) (r .tail ++ ws) ≡ ahead r (rest ws)
 unfolding walkRecord
 walkRecord-whole rest k r ws h =
     let fits : tailLength (r .info) ≤ length (r .tail ++ ws) = omega (arith, length-append (r .tail) ws, h .whole-tail) in
@@ -35,7 +36,8 @@ pub record Stepped (rest : List ℕ → Walked) (n i t : ℕ) (ws : List ℕ) (r
   pub all : rs ≡ recordFrom n i t ws ∷ later
 
 -- both tests of a step pass where it does not stop
-through : (a b : Bool) (w : Walked) (k : ℕ) (rs : List Record) → cond a (cond b w (stopped 6 k)) (stopped 7 k) ≡ records rs → (a ≡ true) × (b ≡ true) × (w ≡ records rs)
+through : (a b : Bool) (w : Walked) (k : ℕ) (rs : List Record) → cond a (cond b w (stopped 6 k)) (stopped 7 k) ≡ records rs
+    → (a ≡ true) × (b ≡ true) × (w ≡ records rs)
 through true true w k rs e = (refl, refl, e)
 through true false w k rs e = absurd (let z : _≡_ {A = ℕ} 0 1 = cc in omega arith)
 through false b w k rs e = absurd (let z : _≡_ {A = ℕ} 0 1 = cc in omega arith)
@@ -46,7 +48,8 @@ ahead-records r (records later) rs e = (later, refl, cc)
 ahead-records r (stopped n t) rs e = absurd (let z : _≡_ {A = ℕ} 0 1 = cc in omega arith)
 
 -- a step that does not stop has found its record and gone on
-pub walkRecord-stepped : (rest : List ℕ → Walked) (k n i t : ℕ) (ws : List ℕ) (rs : List Record) → walkRecord rest k n i t ws ≡ records rs → Stepped rest n i t ws rs
+pub walkRecord-stepped : (rest : List ℕ → Walked) (k n i t : ℕ) (ws : List ℕ) (rs : List Record)
+    → walkRecord rest k n i t ws ≡ records rs → Stepped rest n i t ws rs
 unfolding walkRecord
 walkRecord-stepped rest k n i t ws rs e =
     let p = through (known (kindIn i)) (leb (tailLength i) (length ws)) (ahead (recordFrom n i t ws) (rest (drop (tailLength i) ws))) k rs e in
@@ -81,7 +84,8 @@ found-none : (room : ℕ) (rs : List Record) → rs ≡ [] → Found room [] rs
 found-none room rs e = rw e (record { flat-found = refl; whole-found = tt; few-found = omega arith })
 
 -- a step in front of what is found later
-found-step : (room n i t : ℕ) (ws : List ℕ) (rest : List ℕ → Walked) (rs : List Record) (s : Stepped rest n i t ws rs) → Found room (drop (tailLength i) ws) (s .later) → Found (suc room) (n ∷ i ∷ t ∷ ws) rs
+found-step : (room n i t : ℕ) (ws : List ℕ) (rest : List ℕ → Walked) (rs : List Record) (s : Stepped rest n i t ws rs)
+    → Found room (drop (tailLength i) ws) (s .later) → Found (suc room) (n ∷ i ∷ t ∷ ws) rs
 found-step room n i t ws rest rs s f =
     rw (s .all) (record {
       flat-found = ap (λ (l : List ℕ). n ∷ i ∷ t ∷ l) (ap (λ (l : List ℕ). take (tailLength i) ws ++ l) (f .flat-found) ∙ take-append-drop (tailLength i) ws);

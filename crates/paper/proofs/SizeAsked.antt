@@ -93,7 +93,8 @@ countsTail countTimes n = leb 3 n
 countsTail referent n = true
 countsTail noSize n = true
 
-stepBy-same : (s : SizeRule) (k : ℕ) → countsTail s k ≡ true → {third third′ element element′ n n′ : ℕ} → third ≡ third′ → (3 ≤ k → (element ≡ element′) × (n ≡ n′)) → stepBy s third element n ≡ stepBy s third′ element′ n′
+stepBy-same : (s : SizeRule) (k : ℕ) → countsTail s k ≡ true → {third third′ element element′ n n′ : ℕ} → third ≡ third′
+    → (3 ≤ k → (element ≡ element′) × (n ≡ n′)) → stepBy s third element n ≡ stepBy s third′ element′ n′
 stepBy-same eight k c e h = refl
 stepBy-same sizeWord k c e h = ap is e
 stepBy-same countTimes k c e h = let w = h (leb-true 3 k c) in ap₂ manyOf (w .1) (w .0)

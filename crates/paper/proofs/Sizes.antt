@@ -68,7 +68,8 @@ module _ (step : ℕ → Step) where
 
 -- ── a step goes on to a type that is held by value ──
 
-pub heldIn-getD : (i : ℕ) (ρs : List Role) (ws : List ℕ) → isHeld (getD ρs i number) ≡ true → (getD ws i 0 ≡ 0 → ⊥) → List·Memᴰ (getD ws i 0) (heldIn ρs ws)
+pub heldIn-getD : (i : ℕ) (ρs : List Role) (ws : List ℕ) → isHeld (getD ρs i number) ≡ true → (getD ws i 0 ≡ 0 → ⊥)
+    → List·Memᴰ (getD ws i 0) (heldIn ρs ws)
 heldIn-getD i [] ws h n = absurd (false≢true h)
 heldIn-getD i (ρ ∷ ρs) [] h n = absurd (n refl)
 heldIn-getD zero (names rule ∷ ρs) (w ∷ ws) h n = absurd (false≢true h)
@@ -122,7 +123,8 @@ far-walks T zero t e = refl
 far-walks T (suc k) zero e = let z = far e in absurd (omega arith)
 far-walks T (suc k) (suc t) e = go (stepIn T (suc t)) refl e (far-walks T k)
   where
-    go : (s : Step) → stepIn T (suc t) ≡ s → goOn s (λ (u : ℕ). sizeBy (stepIn T) k u) ≡ tooFar → ((u : ℕ) → sizeBy (stepIn T) k u ≡ tooFar → walks T k u ≡ true) → walks T (suc k) (suc t) ≡ true
+    go : (s : Step) → stepIn T (suc t) ≡ s → goOn s (λ (u : ℕ). sizeBy (stepIn T) k u) ≡ tooFar
+        → ((u : ℕ) → sizeBy (stepIn T) k u ≡ tooFar → walks T k u ≡ true) → walks T (suc k) (suc t) ≡ true
     go (is s) p q on = let z = far q in absurd (omega arith)
     go sizeless p q on = let z = far q in absurd (omega arith)
     go lost p q on = let z = far q in absurd (omega arith)

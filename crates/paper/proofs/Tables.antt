@@ -25,7 +25,8 @@ abbrev pub headerOf : ℕ → ℕ → List ℕ
 headerOf types strings = opening ++ bytesOfWords (headerLength ∷ 0 ∷ types ∷ types ∷ strings ∷ [])
 
 -- the header, then the records, then the strings
-pub bytesOf-parts : (T : Table) → bytesOf T ≡ headerOf (typeLenOf (T .records)) (length (T .strings)) ++ (bytesOfWords (flat (T .records)) ++ T .strings)
+pub bytesOf-parts : (T : Table)
+    → bytesOf T ≡ headerOf (typeLenOf (T .records)) (length (T .strings)) ++ (bytesOfWords (flat (T .records)) ++ T .strings)
 unfolding bytesOf
 bytesOf-parts T = refl
 
@@ -90,7 +91,8 @@ tableOf-bytesOf T h =
 -- ── phase 1 passes a built blob ──
 
 -- the header's facts hold where the blob is short enough and the strings begin and end with 0
-pub bytesOf-facts : (T : Table) → Fits T → length (bytesOf T) ≤ byteLimit → 1 ≤ length (T .strings) → getD (T .strings) 0 0 ≡ 0 → getD (T .strings) (length (T .strings) - 1) 0 ≡ 0 → HeaderFacts (bytesOf T)
+pub bytesOf-facts : (T : Table) → Fits T → length (bytesOf T) ≤ byteLimit → 1 ≤ length (T .strings) → getD (T .strings) 0 0 ≡ 0
+    → getD (T .strings) (length (T .strings) - 1) 0 ≡ 0 → HeaderFacts (bytesOf T)
 unfolding wordAt bytesOf
 bytesOf-facts T h short some first last =
     record {
@@ -108,5 +110,6 @@ bytesOf-facts T h short some first last =
     }
 
 -- and so phase 1 is silent
-pub headerReport-bytesOf : (T : Table) → Fits T → length (bytesOf T) ≤ byteLimit → 1 ≤ length (T .strings) → getD (T .strings) 0 0 ≡ 0 → getD (T .strings) (length (T .strings) - 1) 0 ≡ 0 → headerReport (bytesOf T) ≡ none
+pub headerReport-bytesOf : (T : Table) → Fits T → length (bytesOf T) ≤ byteLimit → 1 ≤ length (T .strings)
+    → getD (T .strings) 0 0 ≡ 0 → getD (T .strings) (length (T .strings) - 1) 0 ≡ 0 → headerReport (bytesOf T) ≡ none
 headerReport-bytesOf T h short some first last = facts-headerReport (bytesOf T) (bytesOf-facts T h short some first last)

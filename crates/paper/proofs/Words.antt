@@ -35,7 +35,8 @@ wordOf-bound ha hb hc hd = omega arith
 
 -- ── a word at a place ──
 
-pub drop-four : (b : List ℕ) (p : ℕ) → p + 4 ≤ length b → drop p b ≡ getD b p 0 ∷ getD b (p + 1) 0 ∷ getD b (p + 2) 0 ∷ getD b (p + 3) 0 ∷ drop (p + 4) b
+pub drop-four : (b : List ℕ) (p : ℕ) → p + 4 ≤ length b
+    → drop p b ≡ getD b p 0 ∷ getD b (p + 1) 0 ∷ getD b (p + 2) 0 ∷ getD b (p + 3) 0 ∷ drop (p + 4) b
 drop-four b p h =
     rw (add-one, add-two, add-three, add-four)
     (drop-cons b p 0 (omega arith)
@@ -43,7 +44,8 @@ drop-four b p h =
     ∙ ap {B = List ℕ} (λ s. getD b (suc p) 0 ∷ s) (drop-cons b (suc (suc p)) 0 (omega arith)
     ∙ ap {B = List ℕ} (λ s. getD b (suc (suc p)) 0 ∷ s) (drop-cons b (suc (suc (suc p))) 0 (omega arith)))))
 
-pub wordAt-inside : (b : List ℕ) (p : ℕ) → p + 4 ≤ length b → wordAt b p ≡ wordOf (getD b p 0) (getD b (p + 1) 0) (getD b (p + 2) 0) (getD b (p + 3) 0)
+pub wordAt-inside : (b : List ℕ) (p : ℕ) → p + 4 ≤ length b
+    → wordAt b p ≡ wordOf (getD b p 0) (getD b (p + 1) 0) (getD b (p + 2) 0) (getD b (p + 3) 0)
 unfolding wordAt
 wordAt-inside b p h = ap firstWord (drop-four b p h)
 
@@ -69,7 +71,8 @@ unfolding putWord
 putWord-outside b p w h = simp (lt-leb _ _ h)
 
 -- four bytes stored one after the other
-pub putWord-stores : (b : List ℕ) (p w : ℕ) → p + 4 ≤ length b → set (set (set (set b p (w % 256)) (p + 1) (w / 256 % 256)) (p + 2) (w / 65536 % 256)) (p + 3) (w / 16777216 % 256) ≡ putWord b p w
+pub putWord-stores : (b : List ℕ) (p w : ℕ) → p + 4 ≤ length b
+    → set (set (set (set b p (w % 256)) (p + 1) (w / 256 % 256)) (p + 2) (w / 65536 % 256)) (p + 3) (w / 16777216 % 256) ≡ putWord b p w
 putWord-stores b p w h =
     rw (add-one, add-two, add-three)
     (ap (λ (x : ℕ). sets b p (x % 256 ∷ w / 256 % 256 ∷ w / 65536 % 256 ∷ w / 16777216 % 256 ∷ [])) (sym (div-one w))
