@@ -30,4 +30,5 @@ pub mod Neutral
 pub mod SizeAsked
 pub mod Reports
 pub mod Demands
+pub mod Outcomes
 pub mod Bench
