@@ -23,7 +23,7 @@ use Rattle.paper.specs.Answer.{Answer}
 use Rattle.paper.specs.Gate.{naming, phase1}
 use Rattle.paper.specs.Header.{strLen, typeLen, stringsIn, headerReport}
 use Rattle.paper.specs.Name.{untilZero, nameIn, nameless, nameAt}
-use Rattle.paper.specs.Size.{isSome}
+use Rattle.paper.specs.Choice.{isSome}
 use Rattle.paper.specs.Word.{wordAt}
 
 -- ── a scan ──

@@ -16,7 +16,7 @@ use Rattle.paper.proofs.RenamingSizes.{type-0, name-0, getD-rename, exa
 use Rattle.paper.proofs.RenamingSpans.{renameMember, renameEntry, memberRoles, entryRoles, membersIn-rename, entriesIn-rename, members-every, entries-every, placedFrom-rename, offsets-rename, isRegular-rename, spanOf-rename, entryCovers-rename}
 use Rattle.paper.proofs.RenamingTails.{renameParameter, tailRoles-kind, tail-length, tail-number, third-role, parametersOf-rename, isLast00-rename}
 use Rattle.paper.specs.Chain.{endless}
-use Rattle.paper.specs.Choice.{times, every, member}
+use Rattle.paper.specs.Choice.{times, every, member, isSome}
 use Rattle.paper.specs.Fit.{Whole}
 use Rattle.paper.specs.Kind.{Role, names, refers, holds, number, rows, rowOf}
 use Rattle.paper.specs.KindNo.{ARRAY, STRUCT, UNION, FUNC, FUNC-PROTO, VAR, DATASEC, DECL-TAG}
@@ -24,7 +24,7 @@ use Rattle.paper.specs.Layout.{memberOk, notFalling, offsetsOk, membersO
 use Rattle.paper.specs.References.{refOk, refWordOk, refsOk}
 use Rattle.paper.specs.Rename.{renameWord, renameWords, rename}
 use Rattle.paper.specs.Section.{Entry, entriesIn, entriesOf, entryCovers, placedFrom, sectionOk}
-use Rattle.paper.specs.Size.{isSome, within, hasSize, smallSize, hasSmallSize}
+use Rattle.paper.specs.Size.{within, hasSize, smallSize, hasSmallSize}
 use Rattle.paper.specs.Span.{Member, Span, membersIn, membersOf, bitOffset, endsBy, isRegular}
 use Rattle.paper.specs.Table.{Record, Table, count, recordAt, kindAt, kindOf, vlenOf, flagOf, tailRoles, rolesOf, wordsOf, everyRoled}
 use Rattle.paper.specs.Tails.{Parameter, parametersOf}

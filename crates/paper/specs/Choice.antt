@@ -29,6 +29,10 @@ module _ {A : Type 0} where
   isEmpty [] = true
   isEmpty (x ∷ xs) = false
 
+  abbrev pub isSome : Option A → Bool
+  isSome none = false
+  isSome (some a) = true
+
   -- the first answer that there is
   abbrev pub orElse : Option A → Option A → Option A
   orElse (some a) o = some a

@@ -20,5 +20,11 @@ use Rattle.paper.specs.Rename.{rename}
 use Rattle.paper.specs.Join.{joinTables, joinedBytes, limitReport, joinRefusal, join}
 
 unfoldable pub computes : Unit {0}
-unfolding reportAsPaper checkedAsPaper sizedAsPaper joinedAsPaper wordAt putWord rows rowOf tailLength tailRoles typeOff typeLen strOff strLen stringsIn lengthBad openingBad headerLengthBad sectionsBad stringsBad headerReport walkRecord typeWords walk tableOf bytesOf placesOf nameIn nameless nameAt isDigit isLetter isSectionName spareZero headOk headBad nameOk namesOk nameBad intWordOk linkageWordOk isLast00 tailOk tailBad isPlain refOk refsOk refBad heldBy endless stepIn exactSize hasSize smallSize hasSmallSize stepAtPlace stepAt sizeAsked sizeOf baseOf isRegularWord isRegular wholeSpan plainSpan fieldSpan spanOf entryCovers sectionOk memberOk offsetsOk membersOk arrayOk functionOk partsOf tagOk layoutOk layoutBad phase1 phase2 shortSlices phase3 phase4 phase5 phase6 overTypes tableReport refusal indexOf gate rename joinTables joinedBytes limitReport joinRefusal join
+unfolding reportAsPaper checkedAsPaper sizedAsPaper joinedAsPaper wordAt putWord rows rowOf tailLength tailRoles typeOff typeLen strOff
+    strLen stringsIn lengthBad openingBad headerLengthBad sectionsBad stringsBad headerReport walkRecord typeWords walk tableOf
+    bytesOf placesOf nameIn nameless nameAt isDigit isLetter isSectionName spareZero headOk headBad nameOk namesOk nameBad intWordOk
+    linkageWordOk isLast00 tailOk tailBad isPlain refOk refsOk refBad heldBy endless stepIn exactSize hasSize smallSize hasSmallSize
+    stepAtPlace stepAt sizeAsked sizeOf baseOf isRegularWord isRegular wholeSpan plainSpan fieldSpan spanOf entryCovers sectionOk
+    memberOk offsetsOk membersOk arrayOk functionOk partsOf tagOk layoutOk layoutBad phase1 phase2 shortSlices phase3 phase4 phase5
+    phase6 overTypes tableReport refusal indexOf gate rename joinTables joinedBytes limitReport joinRefusal join
 computes = tt

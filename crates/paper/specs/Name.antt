@@ -5,7 +5,7 @@ use mathlib.Core.List.{List, [], _∷_}
 use mathlib.Core.Option.{Option, none, some}
 use lib.Dec.{leb, ltb, eqb}
 use lib.ListN.{length, drop}
-use Rattle.paper.specs.Choice.{every}
+use Rattle.paper.specs.Choice.{every, isSome}
 use Rattle.paper.specs.Header.{stringsIn, strLen, headerReport}
 
 -- up to the first zero byte
@@ -16,10 +16,6 @@ untilZero (c ∷ cs) = cond (eqb c 0) [] (c ∷ untilZero cs)
 -- the name at an offset of a string section
 unfoldable pub nameIn : List ℕ → ℕ → List ℕ
 nameIn strings off = untilZero (drop off strings)
-
-abbrev isSome : Option ℕ → Bool
-isSome (some n) = true
-isSome none = false
 
 -- the second question: "the blob would get any of reports 1 to 5, or the offset is not below the string length"
 unfoldable pub nameless : List ℕ → ℕ → Bool

@@ -6,6 +6,7 @@ use mathlib.Core.Option.{Option, none, some}
 use lib.Dec.{leb, ltb, eqb}
 use lib.ListN.{length, getD}
 use Rattle.paper.specs.Answer.{Answer, report, value}
+use Rattle.paper.specs.Choice.{isSome}
 use Rattle.paper.specs.Header.{headerLength}
 use Rattle.paper.specs.Kind.{SizeRule, eight, sizeWord, countTimes, referent, noSize, rowOf}
 use Rattle.paper.specs.KindNo.{ARRAY}
@@ -72,10 +73,6 @@ unfoldable pub exactSize : Table → ℕ → Option ℕ
 exactSize T t = sizeFound (sizeBy (stepIn T) (count T) t)
 
 -- "must have a size"
-abbrev pub isSome : Option ℕ → Bool
-isSome none = false
-isSome (some s) = true
-
 unfoldable pub hasSize : Table → ℕ → Bool
 hasSize T t = isSome (exactSize T t)
 
