@@ -5,8 +5,8 @@
 //!     second census  --seed S --cases N [--ops 1,2,3,4] [--small]
 //!     second check FILE
 //!
-//! With `--edges` in place of a seed and a count, the first three write the
-//! fixed cases of every rule's edges.
+//! With `--edges` the first three put the fixed cases of every rule's edges in
+//! front; without a count, those are all.
 
 use second::generate::{cases, Scale, Wanted};
 use second::report::meaning;
@@ -20,7 +20,7 @@ second vectors --seed S --cases N [--ops 1,2,3,4] [--small] [--only R]
 second antt    --seed S --cases N [--ops 1,2,3,4] [--only R]
 second census  --seed S --cases N [--ops 1,2,3,4] [--small]
 second check FILE
-(--edges in place of a seed and a count: the fixed cases of every rule's edges)";
+(--edges: the fixed cases of every rule's edges in front, and nothing else without --cases)";
 
 fn main() -> ExitCode {
     let arguments: Vec<String> = std::env::args().skip(1).collect();
@@ -56,12 +56,13 @@ fn act(arguments: &[String]) -> Result<Vec<u8>, String> {
 fn wanted(arguments: &[String]) -> Result<Wanted, String> {
     let mut wanted = Wanted {
         seed: 1,
-        cases: 100,
+        cases: 0,
         ops: vec![1, 2, 3, 4],
         scale: Scale::Full,
         only: None,
         edges: false,
     };
+    let mut count = None;
     let mut rest = arguments.iter();
     while let Some(argument) = rest.next() {
         match argument.as_str() {
@@ -80,12 +81,13 @@ fn wanted(arguments: &[String]) -> Result<Wanted, String> {
         let numbers = numbers.map_err(|_| format!("not a number: {value}"))?;
         match argument.as_str() {
             "--seed" => wanted.seed = numbers[0],
-            "--cases" => wanted.cases = numbers[0] as usize,
+            "--cases" => count = Some(numbers[0] as usize),
             "--only" => wanted.only = Some(numbers[0] as u32),
             "--ops" => wanted.ops = numbers.iter().map(|op| *op as u32).collect(),
             _ => return Err(USAGE.to_string()),
         }
     }
+    wanted.cases = count.unwrap_or(if wanted.edges { 0 } else { 100 });
     if wanted.ops.is_empty() || !wanted.ops.iter().all(|op| (CHECK..=JOIN).contains(op)) {
         return Err("ops are 1, 2, 3 and 4".to_string());
     }

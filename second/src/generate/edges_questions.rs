@@ -7,6 +7,7 @@ use crate::table::{Kind, ALL_KINDS};
 use crate::vectors::{bytes_of, Case, JOIN, NAME, SIZE};
 
 pub fn cases(found: &mut Vec<Case>) {
+    benches(found);
     uniform_blobs(found);
     every_kind_number(found);
     array_tails(found);
@@ -14,6 +15,37 @@ pub fn cases(found: &mut Vec<Case>) {
     products(found);
     name_offsets(found);
     joins(found);
+}
+
+/// The paper's benches that are sizes and names: T, a pointer to itself,
+/// `int a[5][6]` and zero elements of what overflows. `products` has the rest.
+fn benches(found: &mut Vec<Case>) {
+    let mut m = Make::new();
+    let name = m.string("t");
+    m.raw(name, 1 << 24, 2, &[0x0100_0010]);
+    ask_size(found, &m.blob(), &[0, 24], 1);
+    for offset in 0..4 {
+        ask_name(found, &m.blob(), offset);
+    }
+    let mut m = Make::new();
+    m.ptr(1);
+    ask_size(found, &m.blob(), &index_of(&m), 1);
+    let mut m = Make::new();
+    m.int(4);
+    let mut outer = 1;
+    for count in [6, 5, 65_536, 65_536, 0] {
+        outer = m.array(outer, 1, count);
+        ask_size(found, &m.blob(), &index_of(&m), outer);
+    }
+}
+
+fn ask_name(found: &mut Vec<Case>, blob: &[u8], offset: u32) {
+    found.push(Case {
+        op: NAME,
+        x: offset,
+        a: blob.to_vec(),
+        ..Case::default()
+    });
 }
 
 fn ask_size(found: &mut Vec<Case>, blob: &[u8], index: &[u32], number: u32) {
@@ -119,23 +151,13 @@ fn name_offsets(found: &mut Vec<Case>) {
     let blob = m.blob();
     let offsets = (0..m.strings.len() as u32 + 3).chain([1 << 31, u32::MAX - 100, u32::MAX]);
     for offset in offsets {
-        found.push(Case {
-            op: NAME,
-            x: offset,
-            a: blob.clone(),
-            ..Case::default()
-        });
+        ask_name(found, &blob, offset);
     }
     let strings_at = blob.len() - m.strings.len();
     for at in (0..24).chain([strings_at, blob.len() - 1]) {
         let mut turned = blob.clone();
         turned[at] ^= 1;
-        found.push(Case {
-            op: NAME,
-            x: 1,
-            a: turned,
-            ..Case::default()
-        });
+        ask_name(found, &turned, 1);
     }
 }
 

@@ -44,7 +44,7 @@ pub struct Wanted {
     pub scale: Scale,
     /// Only cases with this answer number.
     pub only: Option<u32>,
-    /// The fixed cases of every rule's edges instead of a seed's.
+    /// The fixed cases of every rule's edges, in front of a seed's.
     pub edges: bool,
 }
 
@@ -52,16 +52,15 @@ pub struct Wanted {
 const MOST_TRIES: usize = 20_000;
 
 pub fn cases(wanted: &Wanted) -> Vec<Case> {
-    if wanted.edges {
-        return edges::cases()
-            .into_iter()
-            .filter(|case| answers(case, wanted))
-            .collect();
-    }
-    let mut r = Random::new(wanted.seed);
     let mut found = Vec::new();
+    if wanted.edges {
+        found.extend(edges::cases());
+        found.retain(|case| answers(case, wanted));
+    }
+    let all = found.len() + wanted.cases;
+    let mut r = Random::new(wanted.seed);
     let mut tries = 0;
-    while found.len() < wanted.cases && tries < MOST_TRIES {
+    while found.len() < all && tries < MOST_TRIES {
         let case = one(&mut r, wanted);
         if answers(&case, wanted) {
             found.push(case);

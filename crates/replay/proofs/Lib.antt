@@ -1,0 +1,4 @@
+pub mod Summing
+pub mod Words
+pub mod Parts
+pub mod Runs

@@ -1,0 +1,82 @@
+-- What the bytes of a case say, when two answers agree, and an answer in the paper's record.
+use Prim.Native.Nat.{ℕ}
+use mathlib.Core.Bool.{Bool, cond, _&&_}
+use mathlib.Core.List.{List}
+use lib.Dec.{eqb}
+use lib.ListN.{length}
+use Rattle.paper.specs.Answer as paper
+use Rattle.paper.specs.Name.{nameless, nameAt}
+use Rattle.paper.specs.Word.{wordAt, bytesOfWords}
+use Rattle.replay.specs.Sum.{sumOf}
+use Rattle.replay.specs.declared.cases.Head.{Head}
+use Rattle.replay.specs.declared.cases.Seen.{Seen}
+use Rattle.replay.specs.declared.cases.Opening.{Opening}
+use Rattle.replay.specs.declared.cases.Opening.the-variants.{Cases, Foreign}
+use Rattle.replay.specs.declared.ops.Answer.{Answer}
+
+-- "op, index places, work places, output bytes, x, y, length of a, length of b"
+abbrev pub headOf : List ℕ → Head
+headOf s =
+    record {
+      op = wordAt s 0;
+      index = wordAt s 4;
+      work = wordAt s 8;
+      output = wordAt s 12;
+      x = wordAt s 16;
+      y = wordAt s 20;
+      a = wordAt s 24;
+      b = wordAt s 28;
+    }
+
+-- "number, inner, t, p, index sum, work sum, output sum"
+abbrev pub seenOf : List ℕ → Seen
+seenOf s =
+    record {
+      number = wordAt s 0;
+      inner = wordAt s 4;
+      t = wordAt s 8;
+      p = wordAt s 12;
+      index = wordAt s 16;
+      work = wordAt s 20;
+      output = wordAt s 24;
+    }
+
+-- "53 43 52 56, version 1, the number of cases"
+abbrev pub openingOf : List ℕ → Opening
+openingOf s = cond (eqb (wordAt s 0) 1448231763 && eqb (wordAt s 4) 1) (Cases (wordAt s 8)) Foreign
+
+-- all seven numbers are equal
+abbrev pub sameSeen : Seen → Seen → Bool
+sameSeen u v =
+    eqb (u .number) (v .number)
+    && (eqb (u .inner) (v .inner)
+    && (eqb (u .t) (v .t)
+    && (eqb (u .p) (v .p)
+    && (eqb (u .index) (v .index)
+    && (eqb (u .work) (v .work)
+    && eqb (u .output) (v .output))))))
+
+-- an answer in the paper's record
+abbrev pub asPaper : Answer → paper.Answer
+asPaper r = record { number = r .number; inner = r .inner; t = r .t; p = r .p }
+
+-- a number and a value, with no report inside and no type
+abbrev pub plainly : ℕ → ℕ → paper.Answer
+plainly number p = record { number = number; inner = 0; t = 0; p = p }
+
+-- op 3: "1 if the blob would get 1 to 5 or the offset is not below the string length, else 0", and the part's length
+abbrev pub named : List ℕ → ℕ → paper.Answer
+named b off = plainly (cond (nameless b off) 1 0) (length (nameAt b off))
+
+-- what is seen of a call: its answer, and the sums of what was lent, the index, the work and the output
+abbrev pub seenWith : paper.Answer → List ℕ → List ℕ → List ℕ → Seen
+seenWith r index work output =
+    record {
+      number = r .number;
+      inner = r .inner;
+      t = r .t;
+      p = r .p;
+      index = sumOf (bytesOfWords index);
+      work = sumOf (bytesOfWords work);
+      output = sumOf output;
+    }

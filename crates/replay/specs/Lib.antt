@@ -1,0 +1,4 @@
+pub mod Sum
+pub mod Case
+pub mod Count
+pub mod Run

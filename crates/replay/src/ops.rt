@@ -1,0 +1,117 @@
+// A function for each op: the call, its answer in the paper's numbers, and the sums of what was lent to it.
+use crate::cases::Head;
+use crate::cases::Seen;
+use crate::sums;
+use paper::NameOff;
+use paper::Sized;
+use paper::TypeNo;
+ghost use mathlib.Core.Path.{_≡_};
+ghost use Prim.Native.Nat.{_/_, _<_};
+ghost use lib.ListN.{length};
+ghost use Rattle.paper.specs.Answer.{sizedAsPaper};
+ghost use Rattle.paper.specs.Name.{nameAt};
+ghost use Rattle.paper.specs.Size.{sizeOf};
+ghost use Rattle.replay.specs.Case.{asPaper, named, plainly, seenWith};
+ghost use Rattle.replay.specs.Run.{runOf};
+
+// What a call answers, in the paper's numbers.
+struct Answer {
+    number: u32,
+    inner: u32,
+    t: u32,
+    p: u32,
+}
+
+// What running a case gives: what was seen, or that the op is not there yet, or that there is no such op.
+pub(crate) enum Ran {
+    Saw(Seen),
+    Waits,
+    Unknown,
+}
+
+// An answer with the sums of what was lent.
+fn seen(r: Answer, index: &[u32], work: &[u32], output: &[u8]) -> Seen
+    ensures { λ s. ⌜ s ≡ seenWith (asPaper r) (now (index .entry)) (now (work .entry)) (now (output .entry)) ⌝ }
+{
+    Seen {
+        number: r.number,
+        inner: r.inner,
+        t: r.t,
+        p: r.p,
+        index: sums::of_places(index),
+        work: sums::of_places(work),
+        output: sums::of_bytes(output),
+    }
+}
+
+// An answer with no report inside and no type.
+fn plain(number: u32, p: u32) -> Answer
+    ensures { λ r. ⌜ asPaper r ≡ plainly number p ⌝ }
+{
+    Answer {
+        number,
+        inner: 0,
+        t: 0,
+        p,
+    }
+}
+
+fn sized(s: Sized) -> Answer
+    ensures { λ r. ⌜ asPaper r ≡ sizedAsPaper s ⌝ }
+{
+    match s {
+        Sized::Exact(p) => plain(0, p),
+        Sized::NoSize => plain(1, 0),
+        Sized::Overflow => plain(2, 0),
+        Sized::Lost => plain(21, 0),
+        Sized::TooFar => plain(22, 0),
+    }
+}
+
+// Op 2: the size of type x in a; b is the index.
+fn size(x: u32, a: &[u8], given: &[u32], index: &[u32], work: &[u32], output: &[u8]) -> Seen
+    ensures { λ s. ⌜ s ≡ seenWith (sizeOf (now (a .entry)) (now (given .entry)) x) (now (index .entry)) (now (work .entry)) (now (output .entry)) ⌝ }
+{
+    seen(sized(gate::size(a, given, TypeNo(x))), index, work, output)
+}
+
+// Op 3: the name in a at offset x; the part stands for the output.
+fn name(x: u32, a: &[u8], index: &[u32], work: &[u32]) -> Seen
+    requires { ⌜ length (now a) < 4294967296 ⌝ }
+    ensures { λ s. ⌜ s ≡ seenWith (named (now (a .entry)) x) (now (index .entry)) (now (work .entry)) (nameAt (now (a .entry)) x) ⌝ }
+{
+    let part = gate::name(a, NameOff(x));
+    let p = part.len() as u32;
+    if gate::nameless(a, NameOff(x)) {
+        return seen(plain(1, p), index, work, part);
+    }
+    seen(plain(0, p), index, work, part)
+}
+
+// A case by its op. Check and join wait for their entry points.
+pub(crate) fn run(
+    h: Head,
+    a: &[u8],
+    b: &[u8],
+    given: &mut [u32],
+    index: &mut [u32],
+    work: &mut [u32],
+    output: &mut [u8],
+) -> Ran
+    requires { ⌜ (length (now a) < 4294967296) × (length (now given) ≡ length (now b) / 4) ⌝ }
+    ensures { λ r. ⌜ r ≡ runOf h (now (a .entry)) (now (b .entry)) (length (now (index .entry))) (length (now (work .entry))) (length (now (output .entry))) ⌝ }
+{
+    sums::fill_places(index);
+    sums::fill_places(work);
+    sums::fill_bytes(output);
+    let op = h.op;
+    match op {
+        1 | 4 => Ran::Waits,
+        2 => {
+            sums::places(b, given);
+            Ran::Saw(size(h.x, a, given, index, work, output))
+        }
+        3 => Ran::Saw(name(h.x, a, index, work)),
+        _ => Ran::Unknown,
+    }
+}
