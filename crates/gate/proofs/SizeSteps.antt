@@ -1,18 +1,17 @@
 -- Laws of one step of the size question: what a record says, from the words that are read.
 -- Assumes nothing.
-use Prim.Native.Nat.{ℕ, zero, suc, _+_, _-_, _/_, _%_, _<_, _≤_}
+use Prim.Native.Nat.{ℕ, zero, suc, _+_, _-_, _<_, _≤_}
 use mathlib.Core.Path.{_≡_, refl, sym, ap, ap₂, _∙_}
 use mathlib.Core.Bool.{Bool, true, false, not, cond, _&&_, _||_}
-use mathlib.Core.List.{List, [], _∷_, map}
+use mathlib.Core.List.{List}
 use native.Mathlib.Omega.{arith}
 use borrow.Author.Tests.{lt-ltb, le-ltb, le-leb, lt-leb, leb-true, leb-false, not-true, not-false, eq-eqb, ne-eqb}
 use lib.Dec.{leb, eqb}
-use lib.ListN.{length, getD, take, drop, length-drop, List·getD-map}
+use lib.ListN.{length, getD, take, drop, length-drop}
 use lib.Seq.{drop-drop}
 use Rattle.gate.proofs.Scans.{part-rest}
 use Rattle.gate.specs.SizeStep.{codeOf, ruleOf, readable, stepOf}
-use Rattle.paper.proofs.Choices.{and-left, and-right}
-use Rattle.paper.specs.Kind.{Row, SizeRule, eight, sizeWord, countTimes, referent, noSize, rows, rowOf}
+use Rattle.paper.specs.Kind.{SizeRule, eight, sizeWord, countTimes, referent, noSize, rowOf}
 use Rattle.paper.specs.Size.{Step, lost, stepBy, stepAtPlace, stepAt}
 use Rattle.paper.specs.KindNo.{ARRAY}
 use Rattle.paper.specs.Table.{kindIn}

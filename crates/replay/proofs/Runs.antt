@@ -12,7 +12,6 @@ use Rattle.replay.specs.Case.{named, seenWith}
 use Rattle.replay.specs.Run.{lentPlaces, lentBytes, runOf}
 use Rattle.replay.specs.declared.cases.Head.{Head}
 use Rattle.replay.specs.declared.cases.Seen.{Seen}
-use Rattle.replay.specs.declared.ops.Ran.{Ran}
 use Rattle.replay.specs.declared.ops.Ran.the-variants.{Saw, Waits, Unknown}
 
 module _ (h : Head) (a b : List ℕ) (index work output : ℕ) where

@@ -2,9 +2,7 @@
 -- Assumes nothing.
 use Prim.Native.Nat.{_-_, _≤_}
 use native.Mathlib.Omega.{arith}
-use borrow.Author.Needs.{needs}
 use lib.ListN.{length, drop}
-use Rattle.paper.specs.Word.{bytesOfWords}
 use Rattle.replay.specs.Sum.{sumOf}
 use Rattle.replay.proofs.Summing.{Summing, summing-start, summing-end, summing-byte, left-none}
 use Rattle.replay.proofs.sums.of_bytes.Statement.{statement}
