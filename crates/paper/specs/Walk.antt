@@ -1,4 +1,4 @@
--- Phase 2, reports 6 to 8, the places, and how bytes and tables are joined: `tableOf` and `bytesOf`.
+-- Phase 2, reports 6 to 8; the table that a blob holds and the blob that holds a table; the places.
 use Prim.Native.Nat.{ℕ, zero, suc, _+_, _*_}
 use mathlib.Core.Bool.{Bool, cond, _&&_}
 use mathlib.Core.List.{List, [], _∷_, _++_}
@@ -62,7 +62,7 @@ abbrev pub flat : List Record → List ℕ
 flat [] = []
 flat (r ∷ rs) = wordsOf r ++ flat rs
 
--- the bytes of a section of words
+-- how many bytes some records take
 abbrev pub typeLenOf : List Record → ℕ
 typeLenOf rs = 4 * length (flat rs)
 

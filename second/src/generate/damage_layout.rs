@@ -94,13 +94,7 @@ fn var(r: &mut Random, m: &mut Make) {
 
 /// Components around the count, for every kind of target.
 fn tag(r: &mut Random, m: &mut Make) {
-    let kind = r.pick(&[
-        Kind::Struct,
-        Kind::Union,
-        Kind::Func,
-        Kind::Var,
-        Kind::Typedef,
-    ]);
+    let kind = r.pick(&TAGGABLE);
     let target = some_of(r, m, kind);
     let count = component_count(m, target);
     let component = match r.below(5) {

@@ -138,13 +138,7 @@ fn grow_section(r: &mut Random, m: &mut Make) -> u32 {
 }
 
 fn grow_tag(r: &mut Random, m: &mut Make) -> u32 {
-    let kind = r.pick(&[
-        Kind::Struct,
-        Kind::Union,
-        Kind::Func,
-        Kind::Var,
-        Kind::Typedef,
-    ]);
+    let kind = r.pick(&TAGGABLE);
     let target = some_of(r, m, kind);
     let below = component_count(m, target);
     let component = if below == 0 || r.one_in(3) {

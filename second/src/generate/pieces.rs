@@ -10,6 +10,15 @@ use crate::size::{size, SizeAnswer};
 use crate::table::{Kind, Table};
 use crate::walk::phase_2;
 
+/// What a DECL_TAG may point at.
+pub const TAGGABLE: [Kind; 5] = [
+    Kind::Struct,
+    Kind::Union,
+    Kind::Func,
+    Kind::Var,
+    Kind::Typedef,
+];
+
 /// The table as the walk of phase 2 reads it, if it reads it at all.
 pub fn table_of(m: &Make) -> Option<Table> {
     let blob = m.blob();
