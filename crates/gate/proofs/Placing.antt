@@ -16,7 +16,7 @@ use Rattle.paper.specs.Walk.{typeWords, walk, tableOf, flat, placesFrom, places
 use Rattle.paper.specs.Word.{wordAt}
 use Rattle.paper.proofs.Blobs.{tableOf-found}
 use Rattle.paper.proofs.Places.{length-placesOf}
-use Rattle.paper.proofs.Sections.{Found}
+use Rattle.paper.proofs.Sections.{WholeWalk}
 use Rattle.gate.specs.Phase2.{WalkDone}
 use Rattle.gate.proofs.Findings.{finding-records, counted-count}
 use Rattle.gate.proofs.Left.{left, typeWords-left, left-length, left-head, left-drop}
@@ -54,7 +54,7 @@ pub record Placing (b : List ℕ) (n size k at : ℕ) (index : List ℕ) : Type 
   pub places-left : placesFrom at (drop k (tableOf b .records)) ≡ drop k (placesOf (tableOf b))
   pub filled : index ≡ written (placesOf (tableOf b)) size k
 
-found : {b : List ℕ} {n size : ℕ} → WalkDone b n size → Found typeLimit (typeWords b) (tableOf b .records)
+found : {b : List ℕ} {n size : ℕ} → WalkDone b n size → WholeWalk typeLimit (typeWords b) (tableOf b .records)
 found {b} done = tableOf-found b _ (finding-records (walk b) (done .finds) .0)
 
 started : {b : List ℕ} {n size : ℕ} → WalkDone b n size → Placing b n size 0 headerLength (zeros size)

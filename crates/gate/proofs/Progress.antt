@@ -15,9 +15,9 @@ use Rattle.paper.specs.Word.{wordAt}
 use Rattle.paper.proofs.Sections.{recordFrom}
 use Rattle.gate.specs.declared.walk.Step.{Step}
 use Rattle.gate.specs.declared.walk.Step.the-variants.{Next, Cut, Unknown}
-use Rattle.gate.specs.Phase2.{TypeSection, Finding, counted, refused, findingOf, stepAt}
+use Rattle.gate.specs.Phase2.{TypeSection, Finding, counted, refused, findingOf, stepFrom}
 use Rattle.gate.proofs.Left.{left, typeWords-left, left-length, left-head, left-drop, left-end}
-use Rattle.gate.proofs.WalkSteps.{Way, head-cut, unknown, tail-cut, onward, stepAt-way, walkFrom-done, walkFrom-full, walkFrom-short, walkRecord-unknown, walkRecord-cut, walkRecord-onward}
+use Rattle.gate.proofs.WalkSteps.{Way, head-cut, unknown, tail-cut, onward, stepFrom-way, walkFrom-done, walkFrom-full, walkFrom-short, walkRecord-unknown, walkRecord-cut, walkRecord-onward}
 
 -- ── a finding behind some records ──
 
@@ -149,5 +149,5 @@ module _ (b : List ℕ) (end count at : ℕ) (st : Standing b end count at) (mor
         },
       )
 
-  pub standing-step : {s : Step} → stepAt b at end ≡ s → Told b end count at s
-  standing-step e = told (rw e at (stepAt-way b at end))
+  pub standing-step : {s : Step} → stepFrom b at end ≡ s → Told b end count at s
+  standing-step e = told (rw e at (stepFrom-way b at end))

@@ -1,4 +1,4 @@
--- Laws of `stepAt`: a step in the bytes is a step of the walk over the words that are left.
+-- Laws of `stepFrom`: a step in the bytes is a step of the walk over the words that are left.
 -- Assumes nothing.
 use Prim.Native.Nat.{ℕ, zero, suc, _+_, _*_, _≤_, _<_}
 use mathlib.Core.Path.{_≡_, refl}
@@ -14,7 +14,7 @@ use Rattle.paper.specs.Word.{wordAt}
 use Rattle.paper.proofs.Sections.{recordFrom}
 use Rattle.gate.specs.declared.walk.Step.{Step}
 use Rattle.gate.specs.declared.walk.Step.the-variants.{Next, Cut, Unknown}
-use Rattle.gate.specs.Phase2.{stepAt}
+use Rattle.gate.specs.Phase2.{stepFrom}
 
 -- ── how a step goes ──
 
@@ -32,9 +32,9 @@ pub data Way (b : List ℕ) (at end : ℕ) : Step → Type 0 where
   tail-cut : at + 12 ≤ end → knownAt b at ≡ true → end < nextPlace b at → Way b at end Cut
   onward : at + 12 ≤ end → knownAt b at ≡ true → nextPlace b at ≤ end → Way b at end (Next (record { 0 = nextPlace b at }))
 
-pub stepAt-way : (b : List ℕ) (at end : ℕ) → Way b at end (stepAt b at end)
-unfolding stepAt
-stepAt-way b at end = go (leb (at + 12) end) refl (knownAt b at) refl (leb (nextPlace b at) end) refl
+pub stepFrom-way : (b : List ℕ) (at end : ℕ) → Way b at end (stepFrom b at end)
+unfolding stepFrom
+stepFrom-way b at end = go (leb (at + 12) end) refl (knownAt b at) refl (leb (nextPlace b at) end) refl
   where
     go : (t : Bool) → leb (at + 12) end ≡ t → (k : Bool) → knownAt b at ≡ k → (n : Bool) → leb (nextPlace b at) end ≡ n → Way b at end (cond t (cond k (cond n (Next (record { 0 = nextPlace b at })) Cut) Unknown) Cut)
     go false e k ek n en = head-cut (leb-false _ _ e)
@@ -42,13 +42,13 @@ stepAt-way b at end = go (leb (at + 12) end) refl (knownAt b at) refl (leb (next
     go true e true ek false en = tail-cut (leb-true _ _ e) ek (leb-false _ _ en)
     go true e true ek true en = onward (leb-true _ _ e) ek (leb-true _ _ en)
 
--- and back: each way is that of `stepAt`
-pub way-stepAt : {b : List ℕ} {at end : ℕ} {s : Step} → Way b at end s → stepAt b at end ≡ s
-unfolding stepAt
-way-stepAt (head-cut h) = simp (lt-leb _ _ h)
-way-stepAt (unknown h k) = simp (le-leb _ _ h, k)
-way-stepAt (tail-cut h k n) = simp (le-leb _ _ h, k, lt-leb _ _ n)
-way-stepAt (onward h k n) = simp (le-leb _ _ h, k, le-leb _ _ n)
+-- and back: each way is that of `stepFrom`
+pub way-stepFrom : {b : List ℕ} {at end : ℕ} {s : Step} → Way b at end s → stepFrom b at end ≡ s
+unfolding stepFrom
+way-stepFrom (head-cut h) = simp (lt-leb _ _ h)
+way-stepFrom (unknown h k) = simp (le-leb _ _ h, k)
+way-stepFrom (tail-cut h k n) = simp (le-leb _ _ h, k, lt-leb _ _ n)
+way-stepFrom (onward h k n) = simp (le-leb _ _ h, k, le-leb _ _ n)
 
 -- ── a step of the walk ──
 

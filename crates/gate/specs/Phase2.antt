@@ -44,8 +44,8 @@ pub record WalkDone (b : List ℕ) (n places : ℕ) : Type 0 where
   pub enough : n + 1 ≤ places
 
 -- one step from a place: the place behind the record there, or why there is none
-unfoldable pub stepAt : List ℕ → ℕ → ℕ → Step
-stepAt b at end =
+unfoldable pub stepFrom : List ℕ → ℕ → ℕ → Step
+stepFrom b at end =
     let info = wordAt b (at + 4) in
     let next = at + 12 + 4 * tailLength info in
     cond (leb (at + 12) end)

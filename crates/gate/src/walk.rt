@@ -8,7 +8,7 @@ use paper::TypeNo;
 ghost use mathlib.Core.Path.{_≡_};
 ghost use Prim.Native.Nat.{_≤_};
 ghost use Rattle.paper.specs.Walk as paper;
-ghost use Rattle.gate.specs.Phase2.{TypeSection, findingOf, walkedAsPaper, stepAt};
+ghost use Rattle.gate.specs.Phase2.{TypeSection, findingOf, walkedAsPaper, stepFrom};
 
 // What stands at a record's place: the place behind the record, or why there is none.
 pub(crate) enum Step {
@@ -26,7 +26,7 @@ pub(crate) enum Walked {
 // One step, from a record's place in a section that ends at `end`. Differences are taken, since a sum could pass 32 bits.
 fn step_from(b: &[u8], at: Place, end: Place) -> Step
     requires { ⌜ at .0 ≤ end .0 ⌝ }
-    ensures { λ r. ⌜ r ≡ stepAt (now (b .entry)) (at .0) (end .0) ⌝ }
+    ensures { λ r. ⌜ r ≡ stepFrom (now (b .entry)) (at .0) (end .0) ⌝ }
 {
     let room = end.0 - at.0;
     if room < 12 {

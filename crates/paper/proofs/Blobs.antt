@@ -16,7 +16,7 @@ use Rattle.paper.specs.Word.{wordOf, wordBytes, firstWord, wordAt, bytes
 use Rattle.paper.proofs.Words.{wordBytes-wordOf}
 use Rattle.paper.proofs.Bytes.{below-take, below-drop, words-fit, length-words, bytesOfWords-words}
 use Rattle.paper.proofs.Headers.{HeaderFacts, headerReport-facts}
-use Rattle.paper.proofs.Sections.{Found, flat-walkFrom}
+use Rattle.paper.proofs.Sections.{WholeWalk, flat-walkFrom}
 use Rattle.paper.proofs.Tables.{headerOf, bytesOf-parts}
 
 -- ── the parts of a blob ──
@@ -117,7 +117,7 @@ unfolding tableOf
 records-tableOf b e = ap recordsIn e
 
 -- what the walk of a blob has found
-pub tableOf-found : (b : List ℕ) (rs : List Record) → walk b ≡ records rs → Found typeLimit (typeWords b) (tableOf b .records)
+pub tableOf-found : (b : List ℕ) (rs : List Record) → walk b ≡ records rs → WholeWalk typeLimit (typeWords b) (tableOf b .records)
 unfolding walk
 tableOf-found b rs e = rw (records-tableOf b e) (flat-walkFrom typeLimit 1 (typeWords b) rs e)
 

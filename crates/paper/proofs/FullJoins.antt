@@ -72,8 +72,8 @@ joinFull-bytes out a b e =
 -- ── within the limits ──
 
 -- a table that the limits allow
-abbrev pub allowed : Table → Bool
-allowed T = leb (count T) typeLimit && leb (length (bytesOf T)) byteLimit
+abbrev pub withinLimits : Table → Bool
+withinLimits T = leb (count T) typeLimit && leb (length (bytesOf T)) byteLimit
 
 not-above : (m n : ℕ) → leb m n ≡ not (ltb n m)
 not-above m n = go (leb m n) refl
@@ -90,7 +90,7 @@ limits-unless false false bytes = refl
 
 -- two accepted tables are joined unless the limits forbid it
 joined-unless : (a b : List ℕ) → Accepted a → Accepted b
-    → unless (joinRefusal a b fullPlaces fullPlaces byteLimit) (joinedBytes a b) ≡ cond (allowed (joinTables (tableOf a) (tableOf b))) (some (joinedBytes a b)) none
+    → unless (joinRefusal a b fullPlaces fullPlaces byteLimit) (joinedBytes a b) ≡ cond (withinLimits (joinTables (tableOf a) (tableOf b))) (some (joinedBytes a b)) none
 unfolding joinRefusal limitReport joinedBytes
 joined-unless a b p q =
     let A = tableOf a in
@@ -103,7 +103,7 @@ joined-unless a b p q =
 
 module _ (out a b : List ℕ) (full : length out ≡ byteLimit) where
   pub joined-accepted : Accepted a → Accepted b
-      → joinFull out a b ≡ cond (allowed (joinTables (tableOf a) (tableOf b))) (some (joinedBytes a b)) none
+      → joinFull out a b ≡ cond (withinLimits (joinTables (tableOf a) (tableOf b))) (some (joinedBytes a b)) none
   joined-accepted p q = joinFull-bytes out a b full ∙ joined-unless a b p q
 
   pub first-refused : {x : Answer} → refusal a fullPlaces fullPlaces ≡ some x → joinFull out a b ≡ none

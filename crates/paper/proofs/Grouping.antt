@@ -12,7 +12,7 @@ use lib.ListN.{length, drop, length-append}
 use lib.Seq.{drop-append-le}
 use Rattle.paper.proofs.Acceptance.{accepted-fits, accepted-good, good-accepted}
 use Rattle.paper.proofs.Choices.{and-left, and-right, and-true}
-use Rattle.paper.proofs.FullJoins.{allowed, joined-accepted, first-refused, second-refused}
+use Rattle.paper.proofs.FullJoins.{withinLimits, joined-accepted, first-refused, second-refused}
 use Rattle.paper.proofs.Joining.{Good, count-join, length-strings}
 use Rattle.paper.proofs.JoinFits.{good-join, fits-join}
 use Rattle.paper.proofs.Names.{Closed}
@@ -97,8 +97,8 @@ module _ (A B : Table) (a : Closed (A .strings)) (b : Closed (B .strings)) where
       omega arith
 
   -- the parts of a table within the limits are within them
-  allowed-parts : allowed (joinTables A B) ≡ true → (allowed A ≡ true) × (allowed B ≡ true)
-  allowed-parts e =
+  withinLimits-parts : withinLimits (joinTables A B) ≡ true → (withinLimits A ≡ true) × (withinLimits B ≡ true)
+  withinLimits-parts e =
       let n = leb-true (count (joinTables A B)) typeLimit (and-left (leb (count (joinTables A B)) typeLimit) _ e) in
       let l = leb-true (length (bytesOf (joinTables A B))) byteLimit (and-right (leb (count (joinTables A B)) typeLimit) _ e) in
       let c = count-join A B in
@@ -115,29 +115,29 @@ module _ (A B : Table) (a : Closed (A .strings)) (b : Closed (B .strings)) where
 
 -- the bytes of a table within the limits, else nothing
 abbrev result : Table → Option (List ℕ)
-result T = cond (allowed T) (some (bytesOf T)) none
+result T = cond (withinLimits T) (some (bytesOf T)) none
 
 -- the blob of an accepted table's join, and that of the next
-module _ (T : Table) (g : Good T) (f : (allowed T ≡ true) → Fits T) (e : allowed T ≡ true) where
-  allowed-accepted : Accepted (bytesOf T)
-  allowed-accepted =
+module _ (T : Table) (g : Good T) (f : (withinLimits T ≡ true) → Fits T) (e : withinLimits T ≡ true) where
+  withinLimits-accepted : Accepted (bytesOf T)
+  withinLimits-accepted =
       let n = leb-true (count T) typeLimit (and-left (leb (count T) typeLimit) _ e) in
       good-accepted T g (f e) (leb-true (length (bytesOf T)) byteLimit (and-right (leb (count T) typeLimit) _ e)) fullPlaces fullPlaces (omega arith) (omega arith)
 
-  allowed-table : tableOf (bytesOf T) ≡ T
-  allowed-table = tableOf-bytesOf T (f e)
+  withinLimits-table : tableOf (bytesOf T) ≡ T
+  withinLimits-table = tableOf-bytesOf T (f e)
 
-fits-allowed : (A B : Table) → Good A → Good B → Fits A → Fits B → allowed (joinTables A B) ≡ true → Fits (joinTables A B)
-fits-allowed A B a b fa fb e =
+fits-withinLimits : (A B : Table) → Good A → Good B → Fits A → Fits B → withinLimits (joinTables A B) ≡ true → Fits (joinTables A B)
+fits-withinLimits A B a b fa fb e =
     let J = joinTables A B in
     fits-join A B a b fa fb (leb-true (count J) typeLimit (and-left (leb (count J) typeLimit) _ e)) (leb-true (length (bytesOf J)) byteLimit (and-right (leb (count J) typeLimit) _ e))
 
 -- a join whose bytes go into the next: within the limits both are made, else nothing is
-grouped : (XY J : Table) (next : List ℕ → Option (List ℕ)) → (allowed XY ≡ true → next (bytesOf XY) ≡ result J)
-    → (allowed J ≡ true → allowed XY ≡ true) → andThen (result XY) next ≡ result J
-grouped XY J next on part = go (allowed XY) refl (allowed J) refl
+grouped : (XY J : Table) (next : List ℕ → Option (List ℕ)) → (withinLimits XY ≡ true → next (bytesOf XY) ≡ result J)
+    → (withinLimits J ≡ true → withinLimits XY ≡ true) → andThen (result XY) next ≡ result J
+grouped XY J next on part = go (withinLimits XY) refl (withinLimits J) refl
   where
-    go : (s : Bool) → allowed XY ≡ s → (t : Bool) → allowed J ≡ t → andThen (cond s (some (bytesOf XY)) none) next ≡ result J
+    go : (s : Bool) → withinLimits XY ≡ s → (t : Bool) → withinLimits J ≡ t → andThen (cond s (some (bytesOf XY)) none) next ≡ result J
     go true x t y = on x
     go false x true y = absurd (false≢true (sym x ∙ part y))
     go false x false y = ap (λ (t : Bool). cond t (some (bytesOf J)) none) (sym y)
@@ -155,22 +155,22 @@ module _ (a b c : List ℕ) (ba : Bytes a) (bb : Bytes b) (bc : Bytes c) (p : Ac
     left-grouped =
         let J = joinTables (tableOf a) (tableOf b) in
         let g = good-join (tableOf a) (tableOf b) (good a ba p) (good b bb q) in
-        let f = fits-allowed (tableOf a) (tableOf b) (good a ba p) (good b bb q) (fits a ba p) (fits b bb q) in
+        let f = fits-withinLimits (tableOf a) (tableOf b) (good a ba p) (good b bb q) (fits a ba p) (fits b bb q) in
         ap (λ (x : Option (List ℕ)). andThen x (λ (ab : List ℕ). joinFull o′ ab c)) (joined-accepted o a b full p q)
         ∙ grouped J (joinTables J (tableOf c)) (λ (ab : List ℕ). joinFull o′ ab c)
-        (λ e. joined-accepted o′ (bytesOf J) c full′ (allowed-accepted J g f e) r ∙ ap (λ (T : Table). result (joinTables T (tableOf c))) (allowed-table J g f e))
-        (λ e. allowed-parts J (tableOf c) (g .closed) (good c bc r .closed) e .0)
+        (λ e. joined-accepted o′ (bytesOf J) c full′ (withinLimits-accepted J g f e) r ∙ ap (λ (T : Table). result (joinTables T (tableOf c))) (withinLimits-table J g f e))
+        (λ e. withinLimits-parts J (tableOf c) (g .closed) (good c bc r .closed) e .0)
 
     right-grouped : andThen (joinFull o b c) (λ (bc : List ℕ). joinFull o′ a bc) ≡ result (joinTables (tableOf a) (joinTables (tableOf b) (tableOf c)))
     unfolding joinedBytes
     right-grouped =
         let J = joinTables (tableOf b) (tableOf c) in
         let g = good-join (tableOf b) (tableOf c) (good b bb q) (good c bc r) in
-        let f = fits-allowed (tableOf b) (tableOf c) (good b bb q) (good c bc r) (fits b bb q) (fits c bc r) in
+        let f = fits-withinLimits (tableOf b) (tableOf c) (good b bb q) (good c bc r) (fits b bb q) (fits c bc r) in
         ap (λ (x : Option (List ℕ)). andThen x (λ (bc : List ℕ). joinFull o′ a bc)) (joined-accepted o b c full q r)
         ∙ grouped J (joinTables (tableOf a) J) (λ (bc : List ℕ). joinFull o′ a bc)
-        (λ e. joined-accepted o′ a (bytesOf J) full′ p (allowed-accepted J g f e) ∙ ap (λ (T : Table). result (joinTables (tableOf a) T)) (allowed-table J g f e))
-        (λ e. allowed-parts (tableOf a) J (good a ba p .closed) (g .closed) e .1)
+        (λ e. joined-accepted o′ a (bytesOf J) full′ p (withinLimits-accepted J g f e) ∙ ap (λ (T : Table). result (joinTables (tableOf a) T)) (withinLimits-table J g f e))
+        (λ e. withinLimits-parts (tableOf a) J (good a ba p .closed) (g .closed) e .1)
 
 -- nothing is handed on where the next join refuses whatever it is given
 andThen-none : (o : Option (List ℕ)) (next : List ℕ → Option (List ℕ)) → ((b : List ℕ) → next b ≡ none) → andThen o next ≡ none

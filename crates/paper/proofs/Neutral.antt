@@ -11,7 +11,7 @@ use borrow.Author.Tests.{le-leb}
 use lib.ListN.{length, drop}
 use Rattle.paper.proofs.Acceptance.{accepted-fits, accepted-bytes, accepted-short, accepted-good}
 use Rattle.paper.proofs.Choices.{and-true}
-use Rattle.paper.proofs.FullJoins.{allowed, joined-accepted}
+use Rattle.paper.proofs.FullJoins.{withinLimits, joined-accepted}
 use Rattle.paper.proofs.Names.{Closed}
 use Rattle.paper.proofs.Rename.{rename-id}
 use Rattle.paper.specs.Computes.{computes}
@@ -58,9 +58,9 @@ empty-table = refl
 
 module _ (out : List ℕ) (full : length out ≡ byteLimit) (b : List ℕ) (bytes : Bytes b) (p : Accepted b) where
   -- an accepted table is within the limits, and its bytes are the blob's
-  handed-back : (T : Table) → T ≡ tableOf b → cond (allowed T) (some (bytesOf T)) none ≡ some b
+  handed-back : (T : Table) → T ≡ tableOf b → cond (withinLimits T) (some (bytesOf T)) none ≡ some b
   handed-back T e =
-      ap (λ (U : Table). cond (allowed U) (some (bytesOf U)) none) e
+      ap (λ (U : Table). cond (withinLimits U) (some (bytesOf U)) none) e
       ∙ ap (λ (t : Bool). cond t (some (bytesOf (tableOf b))) none)
       (and-true (le-leb (count (tableOf b)) typeLimit (accepted-fits b fullPlaces fullPlaces p bytes .types-fit)) (le-leb (length (bytesOf (tableOf b))) byteLimit (accepted-short b fullPlaces fullPlaces p bytes)))
       ∙ ap {B = Option (List ℕ)} some (accepted-bytes b fullPlaces fullPlaces p bytes)

@@ -74,18 +74,18 @@ walkFrom-flat (suc room) k (r ∷ rs) h few =
     ∙ ap (ahead r) (walkFrom-flat room (suc k) rs (h .1) (omega arith))
 
 -- what a walk that goes through has found: whole records, of just these words, and no more of them than there is room for
-pub record Found (room : ℕ) (ws : List ℕ) (rs : List Record) : Type 0 where
+pub record WholeWalk (room : ℕ) (ws : List ℕ) (rs : List Record) : Type 0 where
   pub flat-found : flat rs ≡ ws
   pub whole-found : EveryWhole rs
   pub few-found : length rs ≤ room
 
 -- no words, no records
-found-none : (room : ℕ) (rs : List Record) → rs ≡ [] → Found room [] rs
+found-none : (room : ℕ) (rs : List Record) → rs ≡ [] → WholeWalk room [] rs
 found-none room rs e = rw e (record { flat-found = refl; whole-found = tt; few-found = omega arith })
 
 -- a step in front of what is found later
 found-step : (room n i t : ℕ) (ws : List ℕ) (rest : List ℕ → Walked) (rs : List Record) (s : Stepped rest n i t ws rs)
-    → Found room (drop (tailLength i) ws) (s .later) → Found (suc room) (n ∷ i ∷ t ∷ ws) rs
+    → WholeWalk room (drop (tailLength i) ws) (s .later) → WholeWalk (suc room) (n ∷ i ∷ t ∷ ws) rs
 found-step room n i t ws rest rs s f =
     rw (s .all) (record {
       flat-found = ap (λ (l : List ℕ). n ∷ i ∷ t ∷ l) (ap (λ (l : List ℕ). take (tailLength i) ws ++ l) (f .flat-found) ∙ take-append-drop (tailLength i) ws);
@@ -94,7 +94,7 @@ found-step room n i t ws rest rs s f =
     })
 
 -- where a walk goes through, the words of what it found are the words that it walked
-pub flat-walkFrom : (room k : ℕ) (ws : List ℕ) (rs : List Record) → walkFrom room k ws ≡ records rs → Found room ws rs
+pub flat-walkFrom : (room k : ℕ) (ws : List ℕ) (rs : List Record) → walkFrom room k ws ≡ records rs → WholeWalk room ws rs
 flat-walkFrom zero k [] rs e = found-none zero rs (cc)
 flat-walkFrom zero k (n ∷ ws) rs e = absurd (let z : _≡_ {A = ℕ} 0 1 = cc in omega arith)
 flat-walkFrom (suc room) k [] rs e = found-none (suc room) rs (cc)

@@ -9,7 +9,7 @@ use Rattle.paper.specs.Table.{kindIn, tailLength}
 use Rattle.paper.specs.Walk.{known}
 use Rattle.gate.specs.declared.walk.Step.the-variants.{Next}
 use Rattle.gate.proofs.TailWords.{tailLength-few}
-use Rattle.gate.proofs.WalkSteps.{nextPlace, knownAt, way-stepAt, head-cut, unknown, tail-cut, onward}
+use Rattle.gate.proofs.WalkSteps.{nextPlace, knownAt, way-stepFrom, head-cut, unknown, tail-cut, onward}
 use borrow.Author.Needs.{needs}
 use Rattle.gate.proofs.walk.step_from.Statement.{statement}
 use Rattle.gate.proofs.walk.step_from.Tie as tie
@@ -27,7 +27,7 @@ sub-room : tie.Need-sub-room
 sub-room c = search needs
 
 returns : tie.Need-returns
-returns c = sym (way-stepAt (head-cut (omega arith)))
+returns c = sym (way-stepFrom (head-cut (omega arith)))
 
 add-is-known : tie.Need-add-is-known
 add-is-known c = search needs
@@ -42,7 +42,7 @@ is-known-requires : tie.Need-is-known-requires
 is-known-requires c κs = search needs
 
 returns-2 : tie.Need-returns-2
-returns-2 c = sym (way-stepAt (unknown (omega arith) (known-here (c .before) ∙ not-true (c .before .is-known .result) (c .if2 .taken))))
+returns-2 c = sym (way-stepFrom (unknown (omega arith) (known-here (c .before) ∙ not-true (c .before .is-known .result) (c .if2 .taken))))
 
 tail-words-requires : tie.Need-tail-words-requires
 tail-words-requires c κs = search needs
@@ -54,7 +54,7 @@ returns-3 : tie.Need-returns-3
 returns-3 c =
     let e = c .before .before in
     let next = next-here (c .before) in
-    sym (way-stepAt (tail-cut (omega arith) (known-here (e .before) ∙ not-false (e .before .is-known .result) (e .if2 .left)) (omega arith)))
+    sym (way-stepFrom (tail-cut (omega arith) (known-here (e .before) ∙ not-false (e .before .is-known .result) (e .if2 .left)) (omega arith)))
 
 add-t8 : tie.Need-add-t8
 add-t8 c = search needs
@@ -67,7 +67,7 @@ returns-4 c =
     let e = c .before .before .before in
     let next = next-here (c .before .before) in
     ap (λ (p : ℕ). Next (record { 0 = p })) (sym next)
-    ∙ sym (way-stepAt (onward (omega arith) (known-here (e .before) ∙ not-false (e .before .is-known .result) (e .if2 .left)) (omega arith)))
+    ∙ sym (way-stepFrom (onward (omega arith) (known-here (e .before) ∙ not-false (e .before .is-known .result) (e .if2 .left)) (omega arith)))
 
 pub step-from-spec : {M : Type 1} → statement M
 step-from-spec =
