@@ -98,13 +98,13 @@ module _ (A B : Table) where
   -- the second's, raised, at theirs
   pub second-record : (t : ℕ) → recordAt (joinTables A B) (raise (count A) t) ≡ raised A (recordAt B t)
   unfolding joinTables
-  second-record zero = sym (rename-nothing (raise (count A)) (raise (length (A .strings) - 1)) refl)
+  second-record zero = sym (rename-nothing _ _ refl)
   second-record (suc t) =
       let up = raised A in
       ap (recordAt (joinTables A B)) (suc-add t (count A))
       ∙ ap (λ (i : ℕ). getD (A .records ++ map up (B .records)) i nothing) (add-comm t (count A))
       ∙ getD-append-add (A .records) (map up (B .records)) t nothing
-      ∙ ap (getD (map up (B .records)) t) (sym (rename-nothing (raise (count A)) (raise (length (A .strings) - 1)) refl))
+      ∙ ap (getD (map up (B .records)) t) (sym (rename-nothing _ _ refl))
       ∙ List·getD-map up (B .records) t nothing
 
 module _ (A B : Table) (a : Closed (A .strings)) (b : Closed (B .strings)) where
