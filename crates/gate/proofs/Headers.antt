@@ -15,8 +15,8 @@ use Rattle.paper.proofs.Choices.{or-left, or-right, same-true}
 use Rattle.paper.specs.Answer.{report}
 use Rattle.paper.specs.Choice.{differ, same}
 use Rattle.paper.specs.Gate.{phase1}
-use Rattle.paper.specs.Header.{opening, typeOff, typeLen, strOff, strLen, stringsIn, lengthBad, openingBad, headerLengthBad, sectionsBad, stringsBad, headerReport}
-use Rattle.paper.specs.Word.{wordAt}
+use Rattle.paper.specs.Header.{orderOf, opening, typeOff, typeLen, strOff, strLen, stringsIn, lengthBad, openingBad, headerLengthBad, sectionsBad, stringsBad, headerReport}
+use Rattle.paper.specs.Word.{lowFirst, wordAt}
 
 -- numbers that are not equal differ
 differ-other : (m n : ℕ) → (m ≡ n → ⊥) → differ m n ≡ true
@@ -29,11 +29,11 @@ tells p q = sym p ∙ q
 -- ── report 2 ──
 
 pub openingBad-short : (b : List ℕ) → length b < 4 → openingBad b ≡ true
-unfolding openingBad
-openingBad-short b h = go (same (take 4 b) opening) refl
+unfolding orderOf openingBad
+openingBad-short b h = go (same (take 4 b) (opening lowFirst)) refl
   where
-    go : (t : Bool) → same (take 4 b) opening ≡ t → not t ≡ true
-    go true e = absurd (omega (arith, simp length-take at (ap length (same-true (take 4 b) opening e))))
+    go : (t : Bool) → same (take 4 b) (opening lowFirst) ≡ t → not t ≡ true
+    go true e = absurd (omega (arith, simp length-take at (ap length (same-true (take 4 b) (opening lowFirst) e))))
     go false e = refl
 
 -- four tests do not all pass exactly where one of them, turned, does
@@ -46,7 +46,7 @@ not-and false t u v = refl
 
 openingBad-bytes : (b : List ℕ) → 4 ≤ length b
     → openingBad b ≡ (differ (getD b 0 0) 0x9f || differ (getD b 1 0) 0xeb || differ (getD b 2 0) 1 || differ (getD b 3 0) 0)
-unfolding openingBad
+unfolding orderOf openingBad
 openingBad-bytes [] h = absurd (omega arith)
 openingBad-bytes (x ∷ []) h = absurd (omega arith)
 openingBad-bytes (x ∷ y ∷ []) h = absurd (omega arith)
@@ -69,44 +69,44 @@ module _ (b : List ℕ) (long : 4 ≤ length b) where
 -- ── report 4, from the words that are read ──
 
 module _ (b : List ℕ) where
-  pub sectionsBad-offset : {w : ℕ} → w ≡ wordAt b 8 → (w ≡ 0 → ⊥) → true ≡ sectionsBad b
-  unfolding sectionsBad typeOff
+  pub sectionsBad-offset : {w : ℕ} → w ≡ wordAt lowFirst b 8 → (w ≡ 0 → ⊥) → true ≡ sectionsBad b
+  unfolding orderOf sectionsBad typeOff
   sectionsBad-offset e h = sym (or-left _ (or-left _ (or-left _ (differ-other _ _ (λ z. h (e ∙ z))))))
 
-  pub sectionsBad-multiple : {w : ℕ} → w ≡ wordAt b 12 → (w % 4 ≡ 0 → ⊥) → true ≡ sectionsBad b
-  unfolding sectionsBad typeLen
+  pub sectionsBad-multiple : {w : ℕ} → w ≡ wordAt lowFirst b 12 → (w % 4 ≡ 0 → ⊥) → true ≡ sectionsBad b
+  unfolding orderOf sectionsBad typeLen
   sectionsBad-multiple e h =
       sym (or-left _ (or-left _ (or-right (differ (typeOff b) 0) (differ-other _ _ (λ z. h (ap (λ (x : ℕ). x % 4) e ∙ z))))))
 
-  pub sectionsBad-apart : {v w : ℕ} → v ≡ wordAt b 16 → w ≡ wordAt b 12 → (v ≡ w → ⊥) → true ≡ sectionsBad b
-  unfolding sectionsBad typeLen strOff
+  pub sectionsBad-apart : {v w : ℕ} → v ≡ wordAt lowFirst b 16 → w ≡ wordAt lowFirst b 12 → (v ≡ w → ⊥) → true ≡ sectionsBad b
+  unfolding orderOf sectionsBad typeLen strOff
   sectionsBad-apart d e h = sym (or-left _ (or-right (differ (typeOff b) 0 || differ (typeLen b % 4) 0) (differ-other _ _ (λ z. h (d ∙ z ∙ sym e)))))
 
-  pub sectionsBad-sum : {u v w x : ℕ} → u ≡ wordAt b 8 → v ≡ wordAt b 12 → w ≡ wordAt b 16 → x ≡ wordAt b 20
+  pub sectionsBad-sum : {u v w x : ℕ} → u ≡ wordAt lowFirst b 8 → v ≡ wordAt lowFirst b 12 → w ≡ wordAt lowFirst b 16 → x ≡ wordAt lowFirst b 20
       → u ≡ 0 → v % 4 ≡ 0 → w ≡ v → differ (24 + v + x) (length b) ≡ sectionsBad b
-  unfolding sectionsBad typeOff typeLen strOff strLen
+  unfolding orderOf sectionsBad typeOff typeLen strOff strLen
   sectionsBad-sum {u} {v} {w} {x} d e f g h₀ h₄ same =
       rw (← d, ← e, ← f, ← g) (rw (eq-eqb u 0 h₀, eq-eqb (v % 4) 0 h₄, eq-eqb w v same) refl)
 
   -- ── report 5, from the words and bytes that are read ──
 
-  stringsIn-first : getD (stringsIn b) 0 0 ≡ getD b (24 + wordAt b 12) 0
-  unfolding stringsIn typeLen
-  stringsIn-first = getD-drop (24 + wordAt b 12) b 0 0 ∙ ap (λ (i : ℕ). getD b i 0) (add-zero (24 + wordAt b 12))
+  stringsIn-first : getD (stringsIn b) 0 0 ≡ getD b (24 + wordAt lowFirst b 12) 0
+  unfolding orderOf stringsIn typeLen
+  stringsIn-first = getD-drop (24 + wordAt lowFirst b 12) b 0 0 ∙ ap (λ (i : ℕ). getD b i 0) (add-zero (24 + wordAt lowFirst b 12))
 
-  pub stringsBad-empty : {n : ℕ} → n ≡ wordAt b 20 → n ≡ 0 → true ≡ stringsBad b
-  unfolding stringsBad strLen
+  pub stringsBad-empty : {n : ℕ} → n ≡ wordAt lowFirst b 20 → n ≡ 0 → true ≡ stringsBad b
+  unfolding orderOf stringsBad strLen
   stringsBad-empty e z = sym (or-left _ (or-left _ (eq-eqb _ _ (sym e ∙ z))))
 
-  pub stringsBad-first : {m x : ℕ} → m ≡ wordAt b 12 → x ≡ getD b (24 + m) 0 → (x ≡ 0 → ⊥) → true ≡ stringsBad b
+  pub stringsBad-first : {m x : ℕ} → m ≡ wordAt lowFirst b 12 → x ≡ getD b (24 + m) 0 → (x ≡ 0 → ⊥) → true ≡ stringsBad b
   unfolding stringsBad
   stringsBad-first {m} {x} e d h =
       let at : x ≡ getD (stringsIn b) 0 0 = d ∙ ap (λ (i : ℕ). getD b (24 + i) 0) e ∙ sym stringsIn-first in
       sym (or-left _ (or-right (eqb (strLen b) 0) (differ-other _ _ (λ z. h (at ∙ z)))))
 
-  pub stringsBad-last : {m n x y : ℕ} → m ≡ wordAt b 12 → n ≡ wordAt b 20 → x ≡ getD b (24 + m) 0 → y ≡ getD b (24 + m + (n - 1)) 0
+  pub stringsBad-last : {m n x y : ℕ} → m ≡ wordAt lowFirst b 12 → n ≡ wordAt lowFirst b 20 → x ≡ getD b (24 + m) 0 → y ≡ getD b (24 + m + (n - 1)) 0
       → (n ≡ 0 → ⊥) → x ≡ 0 → differ y 0 ≡ stringsBad b
-  unfolding stringsBad stringsIn typeLen strLen
+  unfolding orderOf stringsBad stringsIn typeLen strLen
   stringsBad-last {m} {n} {x} {y} e f d g h z =
       let first : getD (stringsIn b) 0 0 ≡ 0 = stringsIn-first ∙ ap (λ (i : ℕ). getD b (24 + i) 0) (sym e) ∙ sym d ∙ z in
       rw (eq-eqb _ _ first, ← f, ← e, ne-eqb n 0 h, getD-drop, ← g) refl

@@ -11,7 +11,7 @@ use Rattle.paper.specs.Header.{headerLength}
 use Rattle.paper.specs.Limits.{typeLimit}
 use Rattle.paper.specs.Table.{Record, tailLength}
 use Rattle.paper.specs.Walk.{Walked, records, stopped, ahead, walkFrom, walk}
-use Rattle.paper.specs.Word.{wordAt}
+use Rattle.paper.specs.Word.{lowFirst, wordAt}
 use Rattle.paper.proofs.Sections.{recordFrom}
 use Rattle.gate.specs.declared.walk.Step.{Step}
 use Rattle.gate.specs.declared.walk.Step.the-variants.{Next, Cut, Unknown}
@@ -52,19 +52,19 @@ module _ (b : List ℕ) (end : ℕ) (inside : end ≤ length b) (room k at : ℕ
       ap findingOf (walkFrom-short room k (left b at end) (omega arith) (omega arith))
   walkFrom-step (unknown h e) =
       ap (λ (ws : List ℕ). findingOf (walkFrom (suc room) k ws)) (left-head b end inside at h)
-      ∙ ap findingOf (walkRecord-unknown _ k _ (wordAt b (at + 4)) _ _ e)
+      ∙ ap findingOf (walkRecord-unknown _ k _ (wordAt lowFirst b (at + 4)) _ _ e)
   walkFrom-step (tail-cut h e n) =
       let len = left-length b end inside (at + 12) in
       ap (λ (ws : List ℕ). findingOf (walkFrom (suc room) k ws)) (left-head b end inside at h)
-      ∙ ap findingOf (walkRecord-cut _ k _ (wordAt b (at + 4)) _ _ e (omega arith))
+      ∙ ap findingOf (walkRecord-cut _ k _ (wordAt lowFirst b (at + 4)) _ _ e (omega arith))
   walkFrom-step (onward h e n) =
       let len = left-length b end inside (at + 12) in
       let tail = left b (at + 12) end in
       let rest : List ℕ → Walked = λ ws. walkFrom room (suc k) ws in
-      let words = tailLength (wordAt b (at + 4)) in
+      let words = tailLength (wordAt lowFirst b (at + 4)) in
       ap (λ (ws : List ℕ). findingOf (walkFrom (suc room) k ws)) (left-head b end inside at h)
-      ∙ ap findingOf (walkRecord-onward rest k _ (wordAt b (at + 4)) _ tail e (omega arith))
-      ∙ findingOf-ahead (recordFrom (wordAt b at) (wordAt b (at + 4)) (wordAt b (at + 8)) tail) (rest (drop words tail))
+      ∙ ap findingOf (walkRecord-onward rest k _ (wordAt lowFirst b (at + 4)) _ tail e (omega arith))
+      ∙ findingOf-ahead (recordFrom (wordAt lowFirst b at) (wordAt lowFirst b (at + 4)) (wordAt lowFirst b (at + 8)) tail) (rest (drop words tail))
       ∙ ap (λ (ws : List ℕ). behind 1 (findingOf (rest ws))) (left-drop b end inside words (at + 12) n)
 
 -- ── where a walk stands ──
@@ -135,7 +135,7 @@ module _ (b : List ℕ) (end count at : ℕ) (st : Standing b end count at) (mor
   told (unknown h e) = stepped (unknown h e)
   told (tail-cut h e n) = stepped (tail-cut h e n)
   told (onward h e n) =
-      let rest : ℕ → Finding = λ k. findingOf (walkFrom (typeLimit - (count + 1)) k (left b (at + 12 + 4 * tailLength (wordAt b (at + 4))) end)) in (
+      let rest : ℕ → Finding = λ k. findingOf (walkFrom (typeLimit - (count + 1)) k (left b (at + 12 + 4 * tailLength (wordAt lowFirst b (at + 4))) end)) in (
         omega arith,
         record {
           inside = st .inside;

@@ -21,10 +21,10 @@ use Rattle.gate.specs.declared.header.Sections.{Sections}
 use Rattle.paper.specs.declared.Report.{Report}
 use Rattle.paper.specs.Answer.{Answer}
 use Rattle.paper.specs.Gate.{naming, phase1}
-use Rattle.paper.specs.Header.{strLen, typeLen, stringsIn, headerReport}
+use Rattle.paper.specs.Header.{orderOf, strLen, typeLen, stringsIn, headerReport}
 use Rattle.paper.specs.Name.{untilZero, nameIn, nameless, nameAt}
 use Rattle.paper.specs.Choice.{isSome}
-use Rattle.paper.specs.Word.{wordAt}
+use Rattle.paper.specs.Word.{lowFirst, wordAt}
 
 -- ── a scan ──
 
@@ -99,8 +99,8 @@ module _ (b : List ℕ) (off : ℕ) where
   beginning-nameless e = record { inside = omega arith; name = rw (e, drop-length b) refl }
 
   -- else it begins so far into the strings
-  pub beginning-named : nameless b off ≡ false → {w : ℕ} → w ≡ wordAt b 12 → Beginning b off (24 + w + off)
-  unfolding nameAt nameIn stringsIn typeLen
+  pub beginning-named : nameless b off ≡ false → {w : ℕ} → w ≡ wordAt lowFirst b 12 → Beginning b off (24 + w + off)
+  unfolding orderOf nameAt nameIn stringsIn typeLen
   beginning-named e {w} d =
       let sum = headerReport-facts b (named-header e) .sum in
       record {

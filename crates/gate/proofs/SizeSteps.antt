@@ -11,12 +11,14 @@ use lib.ListN.{length, getD, take, drop, length-drop}
 use lib.Seq.{drop-drop}
 use Rattle.gate.proofs.Scans.{part-rest}
 use Rattle.gate.specs.SizeStep.{codeOf, ruleOf, readable, stepOf}
+use Rattle.paper.specs.Header.{orderOf}
 use Rattle.paper.specs.Kind.{SizeRule, eight, sizeWord, countTimes, referent, noSize, rowOf}
 use Rattle.paper.specs.Size.{Step, lost, stepBy, stepAtPlace, stepAt}
+use Rattle.paper.specs.Header.{orderOf}
 use Rattle.paper.specs.KindNo.{ARRAY}
 use Rattle.paper.specs.Table.{kindIn}
 use Rattle.paper.specs.Walk.{known}
-use Rattle.paper.specs.Word.{wordAt}
+use Rattle.paper.specs.Word.{lowFirst, wordAt}
 
 -- ── rules as numbers ──
 
@@ -54,22 +56,22 @@ module _ (k n : ℕ) {f : Bool} (flag : f ≡ known k) where
 
 -- ── a record by the bytes from its place on ──
 
-module _ (s : List ℕ) {w : ℕ} (info : w ≡ wordAt s 4) {k : ℕ} (kind : k ≡ kindIn w) {t : Bool} (test : t ≡ not (readable k (length s))) where
+module _ (s : List ℕ) {w : ℕ} (info : w ≡ wordAt lowFirst s 4) {k : ℕ} (kind : k ≡ kindIn w) {t : Bool} (test : t ≡ not (readable k (length s))) where
   -- what the record says, by its kind
   abbrev says : ℕ → Step
-  says x = cond (readable x (length s)) (stepBy (rowOf x .size) (wordAt s 8) (wordAt s 12) (wordAt s 20)) lost
+  says x = cond (readable x (length s)) (stepBy (rowOf x .size) (wordAt lowFirst s 8) (wordAt lowFirst s 12) (wordAt lowFirst s 20)) lost
 
   stepOf-says : says k ≡ stepOf s
   unfolding stepOf
   stepOf-says = ap says (kind ∙ ap kindIn info)
 
   abbrev choose : Bool → Step
-  choose b = cond b (stepBy (rowOf k .size) (wordAt s 8) (wordAt s 12) (wordAt s 20)) lost
+  choose b = cond b (stepBy (rowOf k .size) (wordAt lowFirst s 8) (wordAt lowFirst s 12) (wordAt lowFirst s 20)) lost
 
   pub stepOf-unreadable : t ≡ true → lost ≡ stepOf s
   stepOf-unreadable e = sym (ap choose (not-true (readable k (length s)) (sym test ∙ e))) ∙ stepOf-says
 
-  pub stepOf-readable : t ≡ false → {third element n r : ℕ} {x : Step} → third ≡ wordAt s 8 → element ≡ wordAt s 12 → n ≡ wordAt s 20
+  pub stepOf-readable : t ≡ false → {third element n r : ℕ} {x : Step} → third ≡ wordAt lowFirst s 8 → element ≡ wordAt lowFirst s 12 → n ≡ wordAt lowFirst s 20
       → r ≡ codeOf (rowOf k .size) → x ≡ stepBy (ruleOf r) third element n → x ≡ stepOf s
   stepOf-readable e {r = r} e₈ e₁₂ e₂₀ code d =
       let rule : ruleOf r ≡ rowOf k .size = ap ruleOf code ∙ ruleOf-codeOf _ in
@@ -80,7 +82,7 @@ module _ (s : List ℕ) {w : ℕ} (info : w ≡ wordAt s 4) {k : ℕ} (kind : k 
 
 -- ── the record of a type ──
 
-wordAt-drop : (b : List ℕ) (p k : ℕ) → wordAt (drop p b) k ≡ wordAt b (p + k)
+wordAt-drop : (b : List ℕ) (p k : ℕ) → wordAt lowFirst (drop p b) k ≡ wordAt lowFirst b (p + k)
 unfolding wordAt
 wordAt-drop b p k = rw drop-drop refl
 
@@ -99,16 +101,16 @@ module _ (b index : List ℕ) (t : ℕ) where
 
   module _ (inside : t < length index) where
     pub stepAt-header : getD index t 0 < 24 → lost ≡ stepAt b index t
-    unfolding stepAt stepAtPlace
+    unfolding orderOf stepAt stepAtPlace
     stepAt-header h = rw (lt-ltb _ _ inside, lt-leb _ _ h) refl
 
     pub stepAt-cut : 24 ≤ getD index t 0 → length b < getD index t 0 + 12 → lost ≡ stepAt b index t
-    unfolding stepAt stepAtPlace
+    unfolding orderOf stepAt stepAtPlace
     stepAt-cut h c = rw (lt-ltb _ _ inside, le-leb _ _ h, lt-leb _ _ c) refl
 
     -- its words stand so far from the record's own place
     stepAt-inside : 24 ≤ getD index t 0 → getD index t 0 + 12 ≤ length b → stepAt b index t ≡ stepOf (drop (getD index t 0) b)
-    unfolding stepAt stepAtPlace stepOf readable
+    unfolding orderOf stepAt stepAtPlace stepOf readable
     stepAt-inside h c =
         let p = getD index t 0 in
         let same : leb 24 (length (drop p b)) ≡ leb (p + 24) (length b) = rw length-drop (leb-shift 24 p (length b) (omega arith)) in

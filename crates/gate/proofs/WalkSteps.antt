@@ -10,7 +10,7 @@ use lib.Dec.{leb}
 use lib.ListN.{length, drop}
 use Rattle.paper.specs.Table.{kindIn, tailLength}
 use Rattle.paper.specs.Walk.{Walked, records, stopped, ahead, known, walkRecord, walkFrom}
-use Rattle.paper.specs.Word.{wordAt}
+use Rattle.paper.specs.Word.{lowFirst, wordAt}
 use Rattle.paper.proofs.Sections.{recordFrom}
 use Rattle.gate.specs.declared.walk.Step.{Step}
 use Rattle.gate.specs.declared.walk.Step.the-variants.{Next, Cut, Unknown}
@@ -20,10 +20,10 @@ use Rattle.gate.specs.Phase2.{stepFrom}
 
 -- the place behind a record, by its info word
 abbrev pub nextPlace : List ℕ → ℕ → ℕ
-nextPlace b at = at + 12 + 4 * tailLength (wordAt b (at + 4))
+nextPlace b at = at + 12 + 4 * tailLength (wordAt lowFirst b (at + 4))
 
 abbrev pub knownAt : List ℕ → ℕ → Bool
-knownAt b at = known (kindIn (wordAt b (at + 4)))
+knownAt b at = known (kindIn (wordAt lowFirst b (at + 4)))
 
 -- the four ways of a step
 pub data Way (b : List ℕ) (at end : ℕ) : Step → Type 0 where

@@ -11,7 +11,7 @@ use Rattle.paper.specs.Limits.{byteLimit}
 use Rattle.paper.specs.Table.{kindIn, tailLength}
 use Rattle.paper.specs.Walk.{records, stopped, known, walk}
 use Rattle.paper.specs.Walk as paper
-use Rattle.paper.specs.Word.{wordAt}
+use Rattle.paper.specs.Word.{lowFirst, wordAt}
 use Rattle.gate.specs.declared.walk.Step.{Step}
 use Rattle.gate.specs.declared.walk.Step.the-variants.{Next, Cut, Unknown}
 use Rattle.gate.specs.declared.walk.Walked.{Walked}
@@ -46,7 +46,7 @@ pub record WalkDone (b : List ℕ) (n places : ℕ) : Type 0 where
 -- one step from a place: the place behind the record there, or why there is none
 unfoldable pub stepFrom : List ℕ → ℕ → ℕ → Step
 stepFrom b at end =
-    let info = wordAt b (at + 4) in
+    let info = wordAt lowFirst b (at + 4) in
     let next = at + 12 + 4 * tailLength info in
     cond (leb (at + 12) end)
     (cond (known (kindIn info)) (cond (leb next end) (Next (record { 0 = next })) Cut) Unknown)

@@ -12,7 +12,7 @@ use Rattle.paper.specs.Size as size
 use Rattle.paper.specs.Size.{is, manyOf, sizeless, lost, stepBy}
 use Rattle.paper.specs.Table.{kindIn}
 use Rattle.paper.specs.Walk.{known}
-use Rattle.paper.specs.Word.{wordAt}
+use Rattle.paper.specs.Word.{lowFirst, wordAt}
 
 abbrev pub stepAsPaper : Step → size.Step
 stepAsPaper (Is s) = is s
@@ -40,8 +40,8 @@ readable kind len = known kind && (not (eqb kind ARRAY) || leb 24 len)
 
 unfoldable pub stepOf : List ℕ → size.Step
 stepOf s =
-    let kind = kindIn (wordAt s 4) in
-    cond (readable kind (length s)) (stepBy (rowOf kind .size) (wordAt s 8) (wordAt s 12) (wordAt s 20)) lost
+    let kind = kindIn (wordAt lowFirst s 4) in
+    cond (readable kind (length s)) (stepBy (rowOf kind .size) (wordAt lowFirst s 8) (wordAt lowFirst s 12) (wordAt lowFirst s 20)) lost
 
 -- ── counts ──
 

@@ -12,16 +12,16 @@ use Rattle.paper.proofs.Blobs.{stringsIn-length, strings-tableOf, bytes
 use Rattle.paper.proofs.Choices.{false-or}
 use Rattle.paper.proofs.Gates.{orElse-none, none-orElse, naming-none, tableReport-sound, sound-tableReport, some≢none}
 use Rattle.paper.proofs.Headers.{headerReport-facts}
-use Rattle.paper.proofs.Joining.{Good}
-use Rattle.paper.proofs.Names.{Closed}
-use Rattle.paper.proofs.Tables.{walk-bytesOf, tableOf-bytesOf, headerReport-bytesOf}
+use Rattle.paper.proofs.Tables.{length-bytesOf, walk-bytesOf, tableOf-bytesOf, headerReport-bytesOf}
 use Rattle.paper.specs.Choice.{_when_, firstDue}
 use Rattle.paper.specs.Fit.{Bytes, Fits}
 use Rattle.paper.specs.Gate.{naming, phase1, walkReport, phase2, shortSlices, tableReport, refusal}
-use Rattle.paper.specs.Header.{stringsIn, headerReport}
+use Rattle.paper.specs.Good.{Closed, Good}
+use Rattle.paper.specs.Header.{orderOf, stringsIn, headerReport}
 use Rattle.paper.specs.Limits.{byteLimit}
 use Rattle.paper.specs.Table.{Record, Table, count}
-use Rattle.paper.specs.Walk.{Walked, records, stopped, walk, tableOf, bytesOf}
+use Rattle.paper.specs.Walk.{Walked, records, stopped, walk, tableOf, blobLength, bytesOf}
+use Rattle.paper.specs.Word.{Order}
 
 -- ── an accepted blob ──
 
@@ -49,11 +49,11 @@ module _ (b : List ℕ) (places work : ℕ) (accepted : refusal b places work �
     accepted-fits = tableOf-fits b bytes header-silent (walk-whole .0) (walk-whole .1)
 
     -- the blob is that of the table that it holds
-    pub accepted-bytes : bytesOf (tableOf b) ≡ b
+    pub accepted-bytes : bytesOf (orderOf b) (tableOf b) ≡ b
     accepted-bytes = bytesOf-tableOf b bytes header-silent (walk-whole .0) (walk-whole .1)
 
-    pub accepted-short : length (bytesOf (tableOf b)) ≤ byteLimit
-    accepted-short = subst (λ (s : List ℕ). length s ≤ byteLimit) (sym accepted-bytes) (headerReport-facts b header-silent .short)
+    pub accepted-short : blobLength (tableOf b) ≤ byteLimit
+    accepted-short = omega (arith, headerReport-facts b header-silent .short, ap length accepted-bytes, length-bytesOf (orderOf b) (tableOf b))
 
     pub accepted-good : Good (tableOf b)
     accepted-good =
@@ -68,18 +68,18 @@ module _ (b : List ℕ) (places work : ℕ) (accepted : refusal b places work �
 
 -- ── the blob of a good table ──
 
-module _ (T : Table) (g : Good T) (fits : Fits T) (short : length (bytesOf T) ≤ byteLimit) where
-  pub good-accepted : (places work : ℕ) → count T < places → count T < work → refusal (bytesOf T) places work ≡ none
+module _ (order : Order) (T : Table) (g : Good T) (fits : Fits T) (short : blobLength T ≤ byteLimit) where
+  pub good-accepted : (places work : ℕ) → count T < places → count T < work → refusal (bytesOf order T) places work ≡ none
   unfolding refusal phase1 phase2 shortSlices
   good-accepted places work p w =
-      let header = headerReport-bytesOf T fits short (g .closed .filled) (g .closed .first) (g .closed .last) in
-      let same = tableOf-bytesOf T fits in
+      let header = headerReport-bytesOf order T fits (omega (arith, length-bytesOf order T)) (g .closed) in
+      let same = tableOf-bytesOf order T fits in
       none-orElse (ap (naming 0) header)
-      (none-orElse (ap walkReport (walk-bytesOf T fits))
+      (none-orElse (ap walkReport (walk-bytesOf order T fits))
       (none-orElse
       (ap (λ (due : Bool). naming 0 (firstDue (9 when due ∷ [])))
-      (false-or (le-ltb places (count (tableOf (bytesOf T)) + 1) (at places p)) (le-ltb work (count (tableOf (bytesOf T)) + 1) (at work w))))
+      (false-or (le-ltb places (count (tableOf (bytesOf order T)) + 1) (at places p)) (le-ltb work (count (tableOf (bytesOf order T)) + 1) (at work w))))
       (ap tableReport same ∙ sound-tableReport T (g .sound))))
     where
-      at : (n : ℕ) → count T < n → count (tableOf (bytesOf T)) + 1 ≤ n
-      at n h = subst (λ (U : Table). count U + 1 ≤ n) (sym (tableOf-bytesOf T fits)) (omega arith)
+      at : (n : ℕ) → count T < n → count (tableOf (bytesOf order T)) + 1 ≤ n
+      at n h = subst (λ (U : Table). count U + 1 ≤ n) (sym (tableOf-bytesOf order T fits)) (omega arith)

@@ -16,7 +16,7 @@ use Rattle.paper.specs.KindNo.{INT, PTR, ARRAY, STRUCT, CONST, DECL-TAG}
 use Rattle.paper.specs.Size.{sizeOf}
 use Rattle.paper.specs.Table.{Record}
 use Rattle.paper.specs.Walk.{bytesOf}
-use Rattle.paper.specs.Word.{bytesOfWords}
+use Rattle.paper.specs.Word.{lowFirst, bytesOfWords}
 
 -- ── the paper's own bytes ──
 
@@ -54,7 +54,7 @@ abbrev rec : ℕ → ℕ → ℕ → ℕ → List ℕ → Record
 rec kind vlen name third tail = record { nameOff = name; info = kind * 2 ^ 24 + vlen; third = third; tail = tail }
 
 abbrev blob : List Record → List ℕ
-blob rs = bytesOf (record { records = rs; strings = 0 ∷ 0x74 ∷ 0 ∷ [] })
+blob rs = bytesOf lowFirst (record { records = rs; strings = 0 ∷ 0x74 ∷ 0 ∷ [] })
 
 -- an INT of so many bytes, its offset and width
 abbrev int : ℕ → ℕ → ℕ → Record
@@ -78,7 +78,7 @@ arrays ns = blob (int 1 0 8 ∷ tower 1 ns)
 
 -- the sum of the sections is 2 ^ 32 + 25, and the blob has 25 bytes
 abbrev wrapping : List ℕ
-wrapping = opening ++ bytesOfWords (24 ∷ 0 ∷ 4294967292 ∷ 4294967292 ∷ 5 ∷ []) ++ (0 ∷ [])
+wrapping = opening lowFirst ++ bytesOfWords lowFirst (24 ∷ 0 ∷ 4294967292 ∷ 4294967292 ∷ 5 ∷ []) ++ (0 ∷ [])
 
 -- a struct of two members, a tag on the second, a pointer to void and one to the struct, with every number raised by types and names
 abbrev tagged : ℕ → ℕ → List Record
@@ -161,7 +161,7 @@ benches =
     ∷ refuses (bitField 14 107) 15 2
     -- 23, 24: references and names are raised, void, offset 0, sizes, offsets and a tag's component are not; the empty table is neutral
     ∷ joins T (blob (tagged 0 0))
-    (bytesOf (record { records = rec INT 0 1 2 (16777232 ∷ []) ∷ tagged 1 2; strings = 0 ∷ 0x74 ∷ 0 ∷ 0x74 ∷ 0 ∷ [] }))
+    (bytesOf lowFirst (record { records = rec INT 0 1 2 (16777232 ∷ []) ∷ tagged 1 2; strings = 0 ∷ 0x74 ∷ 0 ∷ 0x74 ∷ 0 ∷ [] }))
     ∷ (joins E (blob (tagged 0 0)) (blob (tagged 0 0)) && joins (blob (tagged 0 0)) E (blob (tagged 0 0)))
     ∷ []
 

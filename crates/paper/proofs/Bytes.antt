@@ -1,4 +1,4 @@
--- Laws of `Word` and `Fit`: runs of words and runs of bytes undo each other, and what of a bounded list is bounded.
+-- Laws of `Word` and `Fit`, in any byte order: runs of words and runs of bytes undo each other, and what of a bounded list is bounded.
 -- Assumes nothing.
 use Prim.Native.Nat.{ℕ, zero, suc, _*_, _/_, _%_}
 use mathlib.Core.Path.{_≡_, refl, ap, _∙_}
@@ -6,8 +6,8 @@ use mathlib.Core.List.{List, [], _∷_, _++_}
 use native.Mathlib.Omega.{arith}
 use lib.ListN.{length, take, drop}
 use Rattle.paper.specs.Fit.{Below, Bytes, wordBound}
-use Rattle.paper.specs.Word.{wordOf, wordBytes, words, bytesOfWords}
-use Rattle.paper.proofs.Words.{weigh-wordBytes, wordBytes-wordOf, wordOf-bound}
+use Rattle.paper.specs.Word.{Order, wordOf, wordBytes, words, bytesOfWords}
+use Rattle.paper.proofs.Words.{firstWord-wordBytes, wordBytes-wordOf, wordOf-bound}
 
 -- ── bounded lists ──
 
@@ -37,59 +37,60 @@ below-drop n zero s h = h
 below-drop n (suc k) [] h = tt
 below-drop n (suc k) (x ∷ s) h = below-drop n k s (h .1)
 
--- ── from words to bytes ──
+module _ (order : Order) where
+  -- ── from words to bytes ──
 
--- four bytes to a word
-pub length-bytesOfWords : (ws : List ℕ) → length (bytesOfWords ws) ≡ 4 * length ws
-length-bytesOfWords [] = refl
-length-bytesOfWords (w ∷ ws) = omega (arith, length-bytesOfWords ws)
+  -- four bytes to a word
+  pub length-bytesOfWords : (ws : List ℕ) → length (bytesOfWords order ws) ≡ 4 * length ws
+  length-bytesOfWords [] = refl
+  length-bytesOfWords (w ∷ ws) = omega (arith, length-bytesOfWords ws)
 
--- the bytes of two runs of words stand one after the other
-pub bytesOfWords-append : (vs ws : List ℕ) → bytesOfWords (vs ++ ws) ≡ bytesOfWords vs ++ bytesOfWords ws
-bytesOfWords-append [] ws = refl
-bytesOfWords-append (v ∷ vs) ws = ap (λ (s : List ℕ). wordBytes v ++ s) (bytesOfWords-append vs ws)
+  -- the bytes of two runs of words stand one after the other
+  pub bytesOfWords-append : (vs ws : List ℕ) → bytesOfWords order (vs ++ ws) ≡ bytesOfWords order vs ++ bytesOfWords order ws
+  bytesOfWords-append [] ws = refl
+  bytesOfWords-append (v ∷ vs) ws = ap (λ (s : List ℕ). wordBytes order v ++ s) (bytesOfWords-append vs ws)
 
--- what is made from words is bytes
-pub bytes-bytesOfWords : (ws : List ℕ) → Bytes (bytesOfWords ws)
-bytes-bytesOfWords [] = tt
-bytes-bytesOfWords (w ∷ ws) = (omega arith, (omega arith, (omega arith, (omega arith, bytes-bytesOfWords ws))))
+  -- what is made from words is bytes
+  pub bytes-bytesOfWords : (ws : List ℕ) → Bytes (bytesOfWords order ws)
+  bytes-bytesOfWords [] = tt
+  bytes-bytesOfWords (w ∷ ws) = (omega arith, (omega arith, (omega arith, (omega arith, bytes-bytesOfWords ws))))
 
--- the words of bytes made from words, and of what follows them
-pub words-append : (ws s : List ℕ) → Below wordBound ws → words (bytesOfWords ws ++ s) ≡ ws ++ words s
-words-append [] s h = refl
-words-append (w ∷ ws) s h = rw (weigh-wordBytes w (h .0), words-append ws s (h .1)) refl
+  -- the words of bytes made from words, and of what follows them
+  pub words-append : (ws s : List ℕ) → Below wordBound ws → words order (bytesOfWords order ws ++ s) ≡ ws ++ words order s
+  words-append [] s h = refl
+  words-append (w ∷ ws) s h = rw (firstWord-wordBytes order w [] (h .0), words-append ws s (h .1)) refl
 
--- words come back from their bytes
-pub words-bytesOfWords : (ws : List ℕ) → Below wordBound ws → words (bytesOfWords ws) ≡ ws
-words-bytesOfWords [] h = refl
-words-bytesOfWords (w ∷ ws) h = rw (weigh-wordBytes w (h .0), words-bytesOfWords ws (h .1)) refl
+  -- words come back from their bytes
+  pub words-bytesOfWords : (ws : List ℕ) → Below wordBound ws → words order (bytesOfWords order ws) ≡ ws
+  words-bytesOfWords [] h = refl
+  words-bytesOfWords (w ∷ ws) h = rw (firstWord-wordBytes order w [] (h .0), words-bytesOfWords ws (h .1)) refl
 
--- ── from bytes to words ──
+  -- ── from bytes to words ──
 
--- the words of bytes fit 32 bits
-pub words-fit : (s : List ℕ) → Bytes s → Below wordBound (words s)
-words-fit [] h = tt
-words-fit (a ∷ []) h = tt
-words-fit (a ∷ b ∷ []) h = tt
-words-fit (a ∷ b ∷ c ∷ []) h = tt
-words-fit (a ∷ b ∷ c ∷ d ∷ s) h =
-    (wordOf-bound (h .0) (h .1 .0) (h .1 .1 .0) (h .1 .1 .1 .0), words-fit s (h .1 .1 .1 .1))
+  -- the words of bytes fit 32 bits
+  pub words-fit : (s : List ℕ) → Bytes s → Below wordBound (words order s)
+  words-fit [] h = tt
+  words-fit (a ∷ []) h = tt
+  words-fit (a ∷ b ∷ []) h = tt
+  words-fit (a ∷ b ∷ c ∷ []) h = tt
+  words-fit (a ∷ b ∷ c ∷ d ∷ s) h =
+      (wordOf-bound order (h .0) (h .1 .0) (h .1 .1 .0) (h .1 .1 .1 .0), words-fit s (h .1 .1 .1 .1))
 
--- as many words as four bytes go into the run
-pub length-words : (s : List ℕ) → length (words s) ≡ length s / 4
-length-words [] = refl
-length-words (a ∷ []) = refl
-length-words (a ∷ b ∷ []) = refl
-length-words (a ∷ b ∷ c ∷ []) = refl
-length-words (a ∷ b ∷ c ∷ d ∷ s) = omega (arith, length-words s)
+  -- as many words as four bytes go into the run
+  pub length-words : (s : List ℕ) → length (words order s) ≡ length s / 4
+  length-words [] = refl
+  length-words (a ∷ []) = refl
+  length-words (a ∷ b ∷ []) = refl
+  length-words (a ∷ b ∷ c ∷ []) = refl
+  length-words (a ∷ b ∷ c ∷ d ∷ s) = omega (arith, length-words s)
 
--- bytes come back from their words, where none is left over
-pub bytesOfWords-words : (s : List ℕ) → Bytes s → length s % 4 ≡ 0 → bytesOfWords (words s) ≡ s
-bytesOfWords-words [] h e = refl
-bytesOfWords-words (a ∷ []) h e = absurd (omega arith)
-bytesOfWords-words (a ∷ b ∷ []) h e = absurd (omega arith)
-bytesOfWords-words (a ∷ b ∷ c ∷ []) h e = absurd (omega arith)
-bytesOfWords-words (a ∷ b ∷ c ∷ d ∷ s) h e =
-    let word : wordBytes (wordOf a b c d) ≡ a ∷ b ∷ c ∷ d ∷ [] = wordBytes-wordOf (h .0) (h .1 .0) (h .1 .1 .0) (h .1 .1 .1 .0) in
-    ap (λ (t : List ℕ). t ++ bytesOfWords (words s)) word
-    ∙ ap (λ (t : List ℕ). a ∷ b ∷ c ∷ d ∷ t) (bytesOfWords-words s (h .1 .1 .1 .1) (omega arith))
+  -- bytes come back from their words, where none is left over
+  pub bytesOfWords-words : (s : List ℕ) → Bytes s → length s % 4 ≡ 0 → bytesOfWords order (words order s) ≡ s
+  bytesOfWords-words [] h e = refl
+  bytesOfWords-words (a ∷ []) h e = absurd (omega arith)
+  bytesOfWords-words (a ∷ b ∷ []) h e = absurd (omega arith)
+  bytesOfWords-words (a ∷ b ∷ c ∷ []) h e = absurd (omega arith)
+  bytesOfWords-words (a ∷ b ∷ c ∷ d ∷ s) h e =
+      let word : wordBytes order (wordOf order a b c d) ≡ a ∷ b ∷ c ∷ d ∷ [] = wordBytes-wordOf order (h .0) (h .1 .0) (h .1 .1 .0) (h .1 .1 .1 .0) in
+      ap (λ (t : List ℕ). t ++ bytesOfWords order (words order s)) word
+      ∙ ap (λ (t : List ℕ). a ∷ b ∷ c ∷ d ∷ t) (bytesOfWords-words s (h .1 .1 .1 .1) (omega arith))

@@ -1,7 +1,7 @@
--- Laws of walks: fewer steps are easier, no walk is endless in an accepted table, and report 14 means an endless one.
+-- Laws of walks over references of any sort: fewer steps are easier, and new numbers change nothing; and of by-value references.
 -- Assumes nothing.
 use Prim.Native.Nat.{ℕ, zero, suc, _+_, _-_, _≤_, _<_, suc-le-suc}
-use mathlib.Core.Path.{_≡_, refl, ap, ap₂, _∙_}
+use mathlib.Core.Path.{_≡_, refl, sym, ap, ap₂, _∙_}
 use mathlib.Core.Bool.{Bool, true, false, cond, _||_, false≢true}
 use mathlib.Core.List.{List, [], _∷_, map}
 use native.Mathlib.Nat.{zero-add, suc-add, sub-add-cancel, le-of-suc-le-suc}
@@ -29,16 +29,38 @@ any-same n f g (u ∷ us) b h = ap₂ _||_ (h u (b .0)) (any-same n f g us (b .1
 
 -- ── fewer steps are easier ──
 
-pub walks-fewer : (T : Table) (m t : ℕ) → walks T (suc m) t ≡ true → walks T m t ≡ true
-walks-fewer T zero t e = refl
-walks-fewer T (suc m) t e = any-mono (walks T (suc m)) (walks T m) (heldBy T t) (walks-fewer T m) e
+module _ (step : ℕ → List ℕ) where
+  pub walks-fewer : (m t : ℕ) → walks step (suc m) t ≡ true → walks step m t ≡ true
+  walks-fewer zero t e = refl
+  walks-fewer (suc m) t e = any-mono (walks step (suc m)) (walks step m) (step t) (walks-fewer m) e
 
-walks-fewer-by : (T : Table) (d m t : ℕ) → walks T (d + m) t ≡ true → walks T m t ≡ true
-walks-fewer-by T zero m t e = rw zero-add at e
-walks-fewer-by T (suc d) m t e = walks-fewer-by T d m t (walks-fewer T (d + m) t (rw suc-add at e))
+  walks-fewer-by : (d m t : ℕ) → walks step (d + m) t ≡ true → walks step m t ≡ true
+  walks-fewer-by zero m t e = rw zero-add at e
+  walks-fewer-by (suc d) m t e = walks-fewer-by d m t (walks-fewer (d + m) t (rw suc-add at e))
 
-pub walks-le : (T : Table) {m k : ℕ} (t : ℕ) → m ≤ k → walks T k t ≡ true → walks T m t ≡ true
-walks-le T {m} {k} t h e = walks-fewer-by T (k - m) m t (rw (sub-add-cancel h) e)
+  pub walks-le : {m k : ℕ} (t : ℕ) → m ≤ k → walks step k t ≡ true → walks step m t ≡ true
+  walks-le {m} {k} t h e = walks-fewer-by (k - m) m t (rw (sub-add-cancel h) e)
+
+  -- no walk, no longer walk
+  pub walks-longer : {m k : ℕ} (t : ℕ) → m ≤ k → walks step m t ≡ false → walks step k t ≡ false
+  walks-longer {m} {k} t h e = go (walks step k t) refl
+    where
+      go : (b : Bool) → walks step k t ≡ b → b ≡ false
+      go true x = absurd (false≢true (sym e ∙ walks-le t h x))
+      go false x = refl
+
+-- ── new numbers ──
+
+-- where types 0 to n lead to types up to n, and under their new numbers to the same types, a walk of any length is there for both alike
+module _ (f g : ℕ → List ℕ) (new : ℕ → ℕ) (n : ℕ)
+    (inside : (t : ℕ) → t ≤ n → Below (suc n) (f t)) (same : (t : ℕ) → t ≤ n → g (new t) ≡ map new (f t)) where
+  pub walks-map : (m t : ℕ) → t ≤ n → walks g m (new t) ≡ walks f m t
+  walks-map zero t h = refl
+  walks-map (suc m) t h =
+      ap (any (walks g m)) (same t h)
+      ∙ any-map (walks g m) new (f t)
+      ∙ any-same (suc n) (λ (u : ℕ). walks g m (new u)) (walks f m) (f t) (inside t h)
+      (λ u le. walks-map m u (le-of-suc-le-suc le))
 
 -- ── renaming ──
 
@@ -89,10 +111,5 @@ module _ {A B : Table} {type name : ℕ → ℕ} (R : Renaming A B type name) wh
       ∙ heldIn-rename (rolesOf (recordAt A t)) (wordsOf (recordAt A t))
 
   -- a walk of any length is there for a type and for its renamed type alike
-  pub walks-rename : ((t : ℕ) → t ≤ count A → Inside A (recordAt A t)) → (m t : ℕ) → t ≤ count A → walks B m (type t) ≡ walks A m t
-  walks-rename in-A zero t h = refl
-  walks-rename in-A (suc m) t h =
-      ap (any (walks B m)) (heldBy-rename t h)
-      ∙ any-map (walks B m) type (heldBy A t)
-      ∙ any-same (suc (count A)) (λ (u : ℕ). walks B m (type u)) (walks A m) (heldBy A t) (heldBy-below A t (in-A t h))
-      (λ u le. walks-rename in-A m u (le-of-suc-le-suc le))
+  pub walks-rename : ((t : ℕ) → t ≤ count A → Inside A (recordAt A t)) → (m t : ℕ) → t ≤ count A → walks (heldBy B) m (type t) ≡ walks (heldBy A) m t
+  walks-rename in-A = walks-map (heldBy A) (heldBy B) type (count A) (λ t h. heldBy-below A t (in-A t h)) heldBy-rename

@@ -10,30 +10,32 @@ use borrow.Author.Tests.{ltb-false}
 use lib.Dec.{ltb}
 use Rattle.paper.proofs.Acceptance.{accepted-fits, accepted-bytes, accepted-good, good-accepted}
 use Rattle.paper.proofs.Choices.{firstDue-none}
-use Rattle.paper.proofs.Endless.{Chain}
 use Rattle.paper.proofs.Gates.{orElse-none, naming-none, refusedInside-none}
-use Rattle.paper.proofs.Insides.{no-chain}
+use Rattle.paper.proofs.Insides.{sound-refs, sound-ends, no-chain}
 use Rattle.paper.proofs.JoinFits.{good-join, fits-join}
-use Rattle.paper.proofs.Joining.{Good, size-rename, count-join, first-record, second-record, first-renaming, second-renaming}
-use Rattle.paper.proofs.SizeAsked.{answerOf, sizeOf-exact}
-use Rattle.paper.proofs.Tables.{tableOf-bytesOf}
+use Rattle.paper.proofs.Joining.{size-rename, count-join, first-record, second-record, first-renaming, second-renaming}
+use Rattle.paper.proofs.SizeAsked.{sizeOf-exact}
+use Rattle.paper.proofs.Tables.{length-bytesOf, tableOf-bytesOf}
+use Rattle.paper.specs.Chain.{heldBy, Chain}
 use Rattle.paper.specs.Choice.{_when_}
 use Rattle.paper.specs.Fit.{Bytes, Fits}
 use Rattle.paper.specs.Gate.{refusal}
+use Rattle.paper.specs.Good.{Good}
+use Rattle.paper.specs.Header.{orderOf}
 use Rattle.paper.specs.Join.{raised, joinTables, refusedInside, joinedBytes, limitReport, joinRefusal}
 use Rattle.paper.specs.Limits.{typeLimit, byteLimit}
 use Rattle.paper.specs.Name.{nameIn}
 use Rattle.paper.specs.Rename.{raise}
-use Rattle.paper.specs.Size.{exactSize, sizeOf}
+use Rattle.paper.specs.Size.{exactSize, answerOf, sizeOf}
 use Rattle.paper.specs.Table.{Table, count, recordAt}
-use Rattle.paper.specs.Walk.{tableOf, placesOf}
+use Rattle.paper.specs.Walk.{tableOf, blobLength, placesOf}
 
 -- ── demand 2 ──
 
 module _ (b : List ℕ) (bytes : Bytes b) (places work : ℕ) (accepted : refusal b places work ≡ none) where
   -- no by-value chain of an accepted table can be followed for ever
-  pub accepted-ends : (t : ℕ) → Chain (tableOf b) t → ⊥
-  accepted-ends = let s = accepted-good b places work accepted bytes .sound in no-chain (tableOf b) (s .refs) (s .ends)
+  pub accepted-ends : (t : ℕ) → Chain (heldBy (tableOf b)) t → ⊥
+  accepted-ends = let s = accepted-good b places work accepted bytes .sound in no-chain (tableOf b) (sound-refs s) (sound-ends s)
 
   -- (and report 14 names a type from which one can: `report-14`)
 
@@ -43,7 +45,7 @@ module _ (b : List ℕ) (bytes : Bytes b) (places work : ℕ) (accepted : refusa
       → (t : ℕ) → t ≤ count (tableOf b) → sizeOf b index t ≡ answerOf (exactSize (tableOf b) t)
   accepted-size index long at t h =
       ap (λ (s : List ℕ). sizeOf s index t) (sym (accepted-bytes b places work accepted bytes))
-      ∙ sizeOf-exact (tableOf b) (accepted-good b places work accepted bytes) (accepted-fits b places work accepted bytes) index long at t h
+      ∙ sizeOf-exact (orderOf b) (tableOf b) (accepted-good b places work accepted bytes) (accepted-fits b places work accepted bytes) index long at t h
 
 -- ── demand 3: whatever two blobs are joined, with whatever slices ──
 
@@ -65,12 +67,14 @@ module _ (a b : List ℕ) (bytes-a : Bytes a) (bytes-b : Bytes b) (places work r
       refusedInside-none 17 (refusal b places work)
       (orElse-none (refusedInside 17 (refusal b places work)) _ (orElse-none (refusedInside 16 (refusal a places work)) _ made .1) .0)
 
-  within : (count A + count B ≤ typeLimit) × (length (joinedBytes a b) ≤ byteLimit)
-  unfolding joinRefusal limitReport A B
+  within : (count A + count B ≤ typeLimit) × (blobLength (joinTables A B) ≤ byteLimit)
+  unfolding joinRefusal limitReport joinedBytes A B
   within =
       let due = firstDue-none (18 when ltb typeLimit (count A + count B) ∷ 19 when ltb byteLimit (length (joinedBytes a b)) ∷ 20 when ltb room (length (joinedBytes a b)) ∷ [])
       (naming-none 0 _ (orElse-none (refusedInside 17 (refusal b places work)) _ (orElse-none (refusedInside 16 (refusal a places work)) _ made .1) .1)) in
-      (ltb-false typeLimit (count A + count B) (due .0), ltb-false byteLimit (length (joinedBytes a b)) (due .1 .0))
+      let short = ltb-false byteLimit (length (joinedBytes a b)) (due .1 .0) in
+      let whole = length-bytesOf (orderOf a) (joinTables A B) in
+      (ltb-false typeLimit (count A + count B) (due .0), omega arith)
 
   good-A : Good A
   unfolding A
@@ -90,7 +94,7 @@ module _ (a b : List ℕ) (bytes-a : Bytes a) (bytes-b : Bytes b) (places work r
   -- the joined blob holds the joined table
   pub join-table : tableOf (joinedBytes a b) ≡ joinTables (tableOf a) (tableOf b)
   unfolding joinedBytes A B
-  join-table = tableOf-bytesOf (joinTables A B) fits-J
+  join-table = tableOf-bytesOf (orderOf a) (joinTables A B) fits-J
 
   -- and has n1 + n2 types
   pub join-count : count (tableOf (joinedBytes a b)) ≡ count (tableOf a) + count (tableOf b)
@@ -102,7 +106,7 @@ module _ (a b : List ℕ) (bytes-a : Bytes a) (bytes-b : Bytes b) (places work r
   unfolding joinedBytes A B
   join-accepted places′ work′ p w =
       let n = count-join A B in
-      good-accepted (joinTables A B) (good-join A B good-A good-B) fits-J (within .1) places′ work′ (omega arith) (omega arith)
+      good-accepted (orderOf a) (joinTables A B) (good-join A B good-A good-B) fits-J (within .1) places′ work′ (omega arith) (omega arith)
 
   -- the first's records stand unchanged at their numbers
   pub join-first : (t : ℕ) → t ≤ count (tableOf a) → recordAt (tableOf (joinedBytes a b)) t ≡ recordAt (tableOf a) t

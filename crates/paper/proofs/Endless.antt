@@ -1,4 +1,4 @@
--- Demand 2's "no by-value chain can be followed for ever": report 14 is given exactly where one can be.
+-- Over references of any sort: a chain can be followed for ever from a type exactly where there is a walk of n steps from it.
 -- Assumes nothing.
 use Prim.Native.Nat.{ℕ, zero, suc, _+_, _≤_, _<_}
 use mathlib.Core.Path.{_≡_, refl, sym, ap, _∙_}
@@ -10,15 +10,8 @@ use borrow.Author.Tests.{eqb-true, eqb-false}
 use lib.Dec.{eqb}
 use Rattle.paper.proofs.Chains.{walks-fewer}
 use Rattle.paper.proofs.Choices.{or-left, or-right, or-cases}
-use Rattle.paper.specs.Chain.{heldBy, walks, endless}
+use Rattle.paper.specs.Chain.{walks, Chain}
 use Rattle.paper.specs.Choice.{any}
-use Rattle.paper.specs.Table.{Table, count}
-
--- a chain that is followed for ever: each type holds the next by value
-pub record Chain (T : Table) (first : ℕ) : Type 0 where
-  pub at : ℕ → ℕ
-  pub starts : at 0 ≡ first
-  pub goes-on : (i : ℕ) → List·Memᴰ (at (suc i)) (heldBy T (at i))
 
 -- ── some element passes, and which ──
 
@@ -34,14 +27,13 @@ any-finds f (u ∷ us) e =
 
 -- ── a chain gives walks of every length ──
 
-module _ {T : Table} {t : ℕ} (c : Chain T t) where
-  chain-walks-from : (m i : ℕ) → walks T m (c .at i) ≡ true
+module _ {step : ℕ → List ℕ} {t : ℕ} (c : Chain step t) where
+  chain-walks-from : (m i : ℕ) → walks step m (c .at i) ≡ true
   chain-walks-from zero i = refl
-  chain-walks-from (suc m) i = any-holds (walks T m) (c .at (suc i)) (c .goes-on i) (chain-walks-from m (suc i))
+  chain-walks-from (suc m) i = any-holds (walks step m) (c .at (suc i)) (c .goes-on i) (chain-walks-from m (suc i))
 
-  pub chain-endless : endless T t ≡ true
-  unfolding endless
-  chain-endless = ap (walks T (count T)) (sym (c .starts)) ∙ chain-walks-from (count T) 0
+  pub chain-walks : (m : ℕ) → walks step m t ≡ true
+  chain-walks m = ap (walks step m) (sym (c .starts)) ∙ chain-walks-from m 0
 
 -- ── how many of the types 1 to n pass a test ──
 
@@ -86,66 +78,65 @@ module _ (f g : ℕ → Bool) (weaker : (t : ℕ) → f t ≡ true → g t ≡ t
 
 -- ── after as many steps as there are types, nothing is lost any more ──
 
-module _ (T : Table) (held-inside : (t u : ℕ) → List·Memᴰ u (heldBy T t) → (1 ≤ u) × (u ≤ count T)) where
+module _ (step : ℕ → List ℕ) (n : ℕ) (inside : (t u : ℕ) → List·Memᴰ u (step t) → (1 ≤ u) × (u ≤ n)) where
   -- every type with a walk of m steps has one of m + 1
   abbrev Stable : ℕ → Type 0
-  Stable m = (t : ℕ) → 1 ≤ t → t ≤ count T → walks T m t ≡ true → walks T (suc m) t ≡ true
+  Stable m = (t : ℕ) → 1 ≤ t → t ≤ n → walks step m t ≡ true → walks step (suc m) t ≡ true
 
   stable-on : (m : ℕ) → Stable m → Stable (suc m)
   stable-on m s t low high e =
-      let w = any-finds (walks T m) (heldBy T t) e in
-      let r = held-inside t (w .0) (w .1) in
-      any-holds (walks T (suc m)) (w .0) (w .1) (s (w .0) (r .0) (r .1) (w .2))
+      let w = any-finds (walks step m) (step t) e in
+      let r = inside t (w .0) (w .1) in
+      any-holds (walks step (suc m)) (w .0) (w .1) (s (w .0) (r .0) (r .1) (w .2))
 
   left : ℕ → ℕ
-  left m = tally (walks T m) (count T)
+  left m = tally (walks step m) n
 
   stable-or-fewer : (m : ℕ) → Stable m ⊎ (left (suc m) < left m)
   unfolding left
   stable-or-fewer m = go (eqb (left (suc m)) (left m)) refl
     where
       go : (z : Bool) → eqb (left (suc m)) (left m) ≡ z → Stable m ⊎ (left (suc m) < left m)
-      go true x = inl (λ t low high h. tally-same (walks T (suc m)) (walks T m) (walks-fewer T m) (count T) t (eqb-true _ _ x) low high h)
-      go false x = let ne = eqb-false (left (suc m)) (left m) x in let le = tally-mono (walks T (suc m)) (walks T m) (walks-fewer T m) (count T) in inr (omega arith)
+      go true x = inl (λ t low high h. tally-same (walks step (suc m)) (walks step m) (walks-fewer step m) n t (eqb-true _ _ x) low high h)
+      go false x = let ne = eqb-false (left (suc m)) (left m) x in let le = tally-mono (walks step (suc m)) (walks step m) (walks-fewer step m) n in inr (omega arith)
 
-  stable-by : (m : ℕ) → Stable m ⊎ (left m + m ≤ count T)
+  stable-by : (m : ℕ) → Stable m ⊎ (left m + m ≤ n)
   unfolding left
-  stable-by zero = let h = tally-le (walks T 0) (count T) in inr (omega arith)
+  stable-by zero = let h = tally-le (walks step 0) n in inr (omega arith)
   stable-by (suc m) =
       ⊎-elim (λ s. inl (stable-on m s))
       (λ h. ⊎-elim (λ s. inl (stable-on m s)) (λ k. inr (omega arith)) (stable-or-fewer m))
       (stable-by m)
 
-  stable : Stable (count T)
+  stable : Stable n
   unfolding left
   stable t low high h =
       ⊎-elim (λ s. s t low high h)
-      (λ k. absurd (false≢true (tally-same (λ u. false) (walks T (count T)) (λ u e. absurd (false≢true e)) (count T) t (none-left k) low high h)))
-      (stable-by (count T))
+      (λ k. absurd (false≢true (tally-same (λ u. false) (walks step n) (λ u e. absurd (false≢true e)) n t (none-left k) low high h)))
+      (stable-by n)
     where
       nobody : (n : ℕ) → tally (λ u. false) n ≡ 0
       nobody zero = refl
       nobody (suc n) = nobody n
 
-      none-left : left (count T) + count T ≤ count T → tally (λ u. false) (count T) ≡ left (count T)
-      none-left k = nobody (count T) ∙ omega arith
+      none-left : left n + n ≤ n → tally (λ u. false) n ≡ left n
+      none-left k = nobody n ∙ omega arith
 
   -- a type with a walk of n steps, and the one that it goes on to
   abbrev On : Type 0
-  On = (t : ℕ) × (1 ≤ t) × (t ≤ count T) × (walks T (count T) t ≡ true)
+  On = (t : ℕ) × (1 ≤ t) × (t ≤ n) × (walks step n t ≡ true)
 
-  next : (s : On) → (u : On) × List·Memᴰ (u .0) (heldBy T (s .0))
+  next : (s : On) → (u : On) × List·Memᴰ (u .0) (step (s .0))
   next s =
-      let w = any-finds (walks T (count T)) (heldBy T (s .0)) (stable (s .0) (s .1) (s .2) (s .3)) in
-      let r = held-inside (s .0) (w .0) (w .1) in
+      let w = any-finds (walks step n) (step (s .0)) (stable (s .0) (s .1) (s .2) (s .3)) in
+      let r = inside (s .0) (w .0) (w .1) in
       ((w .0, r .0, r .1, w .2), w .1)
 
   abbrev after : On → ℕ → On
   after s zero = s
   after s (suc i) = next (after s i) .0
 
-  pub endless-chain : (t : ℕ) → 1 ≤ t → t ≤ count T → endless T t ≡ true → Chain T t
-  unfolding endless
-  endless-chain t low high e =
+  pub walks-chain : (t : ℕ) → 1 ≤ t → t ≤ n → walks step n t ≡ true → Chain step t
+  walks-chain t low high e =
       let s : On = (t, low, high, e) in
       record { at = λ i. after s i .0; starts = refl; goes-on = λ i. next (after s i) .1 }

@@ -10,11 +10,13 @@ use lib.Dec.{leb, ltb, eqb}
 use lib.ListN.{length, take, drop}
 use lib.Seq.{take-append-seam}
 use Rattle.paper.proofs.Joining.{count-join}
+use Rattle.paper.proofs.Tables.{length-bytesOf}
 use Rattle.paper.specs.Answer.{Answer}
 use Rattle.paper.specs.Choice.{_when_, firstDue, orElse}
 use Rattle.paper.specs.Fit.{Accepted}
-use Rattle.paper.specs.Full.{handed, joinFull}
+use Rattle.paper.specs.Full.{handed, joinFull, withinLimits}
 use Rattle.paper.specs.Gate.{naming, refusal}
+use Rattle.paper.specs.Header.{orderOf}
 use Rattle.paper.specs.Join.{joinTables, refusedInside, joinedBytes, limitReport, joinRefusal, joinOutcome, join}
 use Rattle.paper.specs.Limits.{typeLimit, byteLimit, fullPlaces}
 use Rattle.paper.specs.Table.{Table, count}
@@ -71,10 +73,6 @@ joinFull-bytes out a b e =
 
 -- ── within the limits ──
 
--- a table that the limits allow
-abbrev pub withinLimits : Table → Bool
-withinLimits T = leb (count T) typeLimit && leb (length (bytesOf T)) byteLimit
-
 not-above : (m n : ℕ) → leb m n ≡ not (ltb n m)
 not-above m n = go (leb m n) refl
   where
@@ -99,7 +97,7 @@ joined-unless a b p q =
     ∙ limits-unless (ltb typeLimit (count A + count B)) (ltb byteLimit (length (joinedBytes a b))) (joinedBytes a b)
     ∙ ap₂ (λ (x y : Bool). cond (x && y) (some (joinedBytes a b)) none)
     (sym (ap (λ (n : ℕ). leb n typeLimit) (count-join A B) ∙ not-above (count A + count B) typeLimit))
-    (sym (not-above (length (joinedBytes a b)) byteLimit))
+    (sym (ap (λ (n : ℕ). leb n byteLimit) (sym (length-bytesOf (orderOf a) (joinTables A B))) ∙ not-above (length (joinedBytes a b)) byteLimit))
 
 module _ (out a b : List ℕ) (full : length out ≡ byteLimit) where
   pub joined-accepted : Accepted a → Accepted b

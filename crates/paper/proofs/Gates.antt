@@ -10,16 +10,16 @@ use borrow.Author.Tests.{eqb-true, eqb-false, not-false}
 use lib.Dec.{eqb}
 use Rattle.paper.proofs.Choices.{firstDue-none, none-firstDue}
 use Rattle.paper.specs.Answer.{Answer, report}
-use Rattle.paper.specs.Chain.{endless}
 use Rattle.paper.specs.Choice.{Rule, firstDue, orElse}
 use Rattle.paper.specs.Gate.{naming, firstOf, overTypes, phase3, phase4, phase5, phase6, tableReport}
-use Rattle.paper.specs.Heads.{headOk, headBad}
+use Rattle.paper.specs.Good.{Sound}
+use Rattle.paper.specs.Heads.{headBad}
 use Rattle.paper.specs.Join.{refusedInside}
-use Rattle.paper.specs.Layout.{layoutOk, layoutBad}
-use Rattle.paper.specs.Names.{namesOk, nameBad}
-use Rattle.paper.specs.References.{refsOk, refBad}
-use Rattle.paper.specs.Table.{Table, count, recordAt}
-use Rattle.paper.specs.Tails.{tailOk, tailBad}
+use Rattle.paper.specs.Layout.{layoutBad}
+use Rattle.paper.specs.Names.{nameBad}
+use Rattle.paper.specs.References.{refBad}
+use Rattle.paper.specs.Table.{Table, count}
+use Rattle.paper.specs.Tails.{tailBad}
 
 -- ── answers that may be missing ──
 
@@ -88,15 +88,6 @@ module _ (rules : ℕ → List Rule) where
 
 -- ── a table of which nothing is said ──
 
--- every rule of phases 3 to 6 holds at every type
-pub record Sound (T : Table) : Type 0 where
-  pub heads : (t : ℕ) → 1 ≤ t → t ≤ count T → headOk (recordAt T t) ≡ true
-  pub names : (t : ℕ) → 1 ≤ t → t ≤ count T → namesOk (T .strings) (recordAt T t) ≡ true
-  pub tails : (t : ℕ) → 1 ≤ t → t ≤ count T → tailOk (recordAt T t) ≡ true
-  pub refs : (t : ℕ) → 1 ≤ t → t ≤ count T → refsOk T (recordAt T t) ≡ true
-  pub ends : (t : ℕ) → 1 ≤ t → t ≤ count T → endless T t ≡ false
-  pub layouts : (t : ℕ) → 1 ≤ t → t ≤ count T → layoutOk T (recordAt T t) ≡ true
-
 module _ (T : Table) where
   pub overTypes-none : (phase : Table → ℕ → List Rule) → overTypes phase T ≡ none → (t : ℕ) → 1 ≤ t → t ≤ count T → firstDue (phase T t) ≡ none
   unfolding overTypes
@@ -117,20 +108,22 @@ module _ (T : Table) where
       let p₃ = orElse-none (overTypes phase3 T) _ e in
       let p₄ = orElse-none (overTypes phase4 T) _ (p₃ .1) in
       let p₅ = orElse-none (overTypes phase5 T) _ (p₄ .1) in
+      λ t low high.
+      let due₃ = firstDue-none (phase3 T t) (overTypes-none phase3 (p₃ .0) t low high) in
       record {
-        heads = λ t low high. not-false _ (firstDue-none (phase3 T t) (overTypes-none phase3 (p₃ .0) t low high) .0);
-        names = λ t low high. not-false _ (firstDue-none (phase3 T t) (overTypes-none phase3 (p₃ .0) t low high) .1 .0);
-        tails = λ t low high. not-false _ (firstDue-none (phase3 T t) (overTypes-none phase3 (p₃ .0) t low high) .1 .1 .0);
-        refs = λ t low high. not-false _ (firstDue-none (phase4 T t) (overTypes-none phase4 (p₄ .0) t low high) .0);
-        ends = λ t low high. firstDue-none (phase5 T t) (overTypes-none phase5 (p₅ .0) t low high) .0;
-        layouts = λ t low high. not-false _ (firstDue-none (phase6 T t) (overTypes-none phase6 (p₅ .1) t low high) .0);
+        heads = not-false _ (due₃ .0);
+        names = not-false _ (due₃ .1 .0);
+        tails = not-false _ (due₃ .1 .1 .0);
+        refs = not-false _ (firstDue-none (phase4 T t) (overTypes-none phase4 (p₄ .0) t low high) .0);
+        ends = firstDue-none (phase5 T t) (overTypes-none phase5 (p₅ .0) t low high) .0;
+        layouts = not-false _ (firstDue-none (phase6 T t) (overTypes-none phase6 (p₅ .1) t low high) .0);
       }
 
   pub sound-tableReport : Sound T → tableReport T ≡ none
   unfolding tableReport phase3 phase4 phase5 phase6 headBad nameBad tailBad refBad layoutBad
   sound-tableReport s =
       none-orElse
-      (none-overTypes phase3 (λ t low high. none-firstDue (phase3 T t) (ap not (s .heads t low high), (ap not (s .names t low high), (ap not (s .tails t low high), tt)))))
-      (none-orElse (none-overTypes phase4 (λ t low high. none-firstDue (phase4 T t) (ap not (s .refs t low high), tt)))
-      (none-orElse (none-overTypes phase5 (λ t low high. none-firstDue (phase5 T t) (s .ends t low high, tt)))
-      (none-overTypes phase6 (λ t low high. none-firstDue (phase6 T t) (ap not (s .layouts t low high), tt)))))
+      (none-overTypes phase3 (λ t low high. none-firstDue (phase3 T t) (ap not (s t low high .heads), (ap not (s t low high .names), (ap not (s t low high .tails), tt)))))
+      (none-orElse (none-overTypes phase4 (λ t low high. none-firstDue (phase4 T t) (ap not (s t low high .refs), tt)))
+      (none-orElse (none-overTypes phase5 (λ t low high. none-firstDue (phase5 T t) (s t low high .ends, tt)))
+      (none-overTypes phase6 (λ t low high. none-firstDue (phase6 T t) (ap not (s t low high .layouts), tt)))))

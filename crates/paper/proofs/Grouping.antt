@@ -12,22 +12,24 @@ use lib.ListN.{length, drop, length-append}
 use lib.Seq.{drop-append-le}
 use Rattle.paper.proofs.Acceptance.{accepted-fits, accepted-good, good-accepted}
 use Rattle.paper.proofs.Choices.{and-left, and-right, and-true}
-use Rattle.paper.proofs.FullJoins.{withinLimits, joined-accepted, first-refused, second-refused}
-use Rattle.paper.proofs.Joining.{Good, count-join, length-strings}
+use Rattle.paper.proofs.FullJoins.{joined-accepted, first-refused, second-refused}
+use Rattle.paper.proofs.Joining.{count-join, length-strings}
 use Rattle.paper.proofs.JoinFits.{good-join, fits-join}
-use Rattle.paper.proofs.Names.{Closed}
 use Rattle.paper.proofs.Places.{flat-append}
 use Rattle.paper.proofs.Rename.{raise-compose, length-rename}
-use Rattle.paper.proofs.Tables.{tableOf-bytesOf, length-bytesOf}
+use Rattle.paper.proofs.Tables.{order-bytesOf, tableOf-bytesOf}
 use Rattle.paper.specs.Answer.{Answer}
 use Rattle.paper.specs.Fit.{Bytes, Fits, Accepted}
-use Rattle.paper.specs.Full.{joinFull, andThen}
+use Rattle.paper.specs.Full.{joinFull, andThen, withinLimits}
 use Rattle.paper.specs.Gate.{refusal}
+use Rattle.paper.specs.Good.{Closed, Good}
+use Rattle.paper.specs.Header.{orderOf}
 use Rattle.paper.specs.Join.{raised, joinTables, joinedBytes}
 use Rattle.paper.specs.Limits.{typeLimit, byteLimit, fullPlaces}
 use Rattle.paper.specs.Rename.{rename, raise}
 use Rattle.paper.specs.Table.{Record, Table, count, wordsOf}
-use Rattle.paper.specs.Walk.{tableOf, bytesOf, flat}
+use Rattle.paper.specs.Walk.{tableOf, flat, blobLength, bytesOf}
+use Rattle.paper.specs.Word.{Order}
 
 -- ── tables ──
 
@@ -86,13 +88,10 @@ words-join A B =
     ∙ ap (λ (n : ℕ). length (flat (A .records)) + n) (flat-rename (raise (count A)) (raise (length (A .strings) - 1)) (B .records))
 
 module _ (A B : Table) (a : Closed (A .strings)) (b : Closed (B .strings)) where
-  pub length-join : length (bytesOf (joinTables A B)) + 25 ≡ length (bytesOf A) + length (bytesOf B)
+  pub length-join : blobLength (joinTables A B) + 25 ≡ blobLength A + blobLength B
   length-join =
       let s = length-strings A B a b in
       let fb = b .filled in
-      let j = length-bytesOf (joinTables A B) in
-      let la = length-bytesOf A in
-      let lb = length-bytesOf B in
       let t = words-join A B in
       omega arith
 
@@ -100,47 +99,45 @@ module _ (A B : Table) (a : Closed (A .strings)) (b : Closed (B .strings)) where
   withinLimits-parts : withinLimits (joinTables A B) ≡ true → (withinLimits A ≡ true) × (withinLimits B ≡ true)
   withinLimits-parts e =
       let n = leb-true (count (joinTables A B)) typeLimit (and-left (leb (count (joinTables A B)) typeLimit) _ e) in
-      let l = leb-true (length (bytesOf (joinTables A B))) byteLimit (and-right (leb (count (joinTables A B)) typeLimit) _ e) in
+      let l = leb-true (blobLength (joinTables A B)) byteLimit (and-right (leb (count (joinTables A B)) typeLimit) _ e) in
       let c = count-join A B in
       let j = length-join in
       let fa = a .filled in
-      let fb = b .filled in
-      let la = length-bytesOf A in
-      let lb = length-bytesOf B in (
-        and-true (le-leb (count A) typeLimit (omega arith)) (le-leb (length (bytesOf A)) byteLimit (omega arith)),
-        and-true (le-leb (count B) typeLimit (omega arith)) (le-leb (length (bytesOf B)) byteLimit (omega arith)),
+      let fb = b .filled in (
+        and-true (le-leb (count A) typeLimit (omega arith)) (le-leb (blobLength A) byteLimit (omega arith)),
+        and-true (le-leb (count B) typeLimit (omega arith)) (le-leb (blobLength B) byteLimit (omega arith)),
       )
 
 -- ── either grouping ──
 
 -- the bytes of a table within the limits, else nothing
-abbrev result : Table → Option (List ℕ)
-result T = cond (withinLimits T) (some (bytesOf T)) none
+abbrev result : Order → Table → Option (List ℕ)
+result order T = cond (withinLimits T) (some (bytesOf order T)) none
 
 -- the blob of an accepted table's join, and that of the next
-module _ (T : Table) (g : Good T) (f : (withinLimits T ≡ true) → Fits T) (e : withinLimits T ≡ true) where
-  withinLimits-accepted : Accepted (bytesOf T)
+module _ (order : Order) (T : Table) (g : Good T) (f : (withinLimits T ≡ true) → Fits T) (e : withinLimits T ≡ true) where
+  withinLimits-accepted : Accepted (bytesOf order T)
   withinLimits-accepted =
       let n = leb-true (count T) typeLimit (and-left (leb (count T) typeLimit) _ e) in
-      good-accepted T g (f e) (leb-true (length (bytesOf T)) byteLimit (and-right (leb (count T) typeLimit) _ e)) fullPlaces fullPlaces (omega arith) (omega arith)
+      good-accepted order T g (f e) (leb-true (blobLength T) byteLimit (and-right (leb (count T) typeLimit) _ e)) fullPlaces fullPlaces (omega arith) (omega arith)
 
-  withinLimits-table : tableOf (bytesOf T) ≡ T
-  withinLimits-table = tableOf-bytesOf T (f e)
+  withinLimits-table : tableOf (bytesOf order T) ≡ T
+  withinLimits-table = tableOf-bytesOf order T (f e)
 
 fits-withinLimits : (A B : Table) → Good A → Good B → Fits A → Fits B → withinLimits (joinTables A B) ≡ true → Fits (joinTables A B)
 fits-withinLimits A B a b fa fb e =
     let J = joinTables A B in
-    fits-join A B a b fa fb (leb-true (count J) typeLimit (and-left (leb (count J) typeLimit) _ e)) (leb-true (length (bytesOf J)) byteLimit (and-right (leb (count J) typeLimit) _ e))
+    fits-join A B a b fa fb (leb-true (count J) typeLimit (and-left (leb (count J) typeLimit) _ e)) (leb-true (blobLength J) byteLimit (and-right (leb (count J) typeLimit) _ e))
 
 -- a join whose bytes go into the next: within the limits both are made, else nothing is
-grouped : (XY J : Table) (next : List ℕ → Option (List ℕ)) → (withinLimits XY ≡ true → next (bytesOf XY) ≡ result J)
-    → (withinLimits J ≡ true → withinLimits XY ≡ true) → andThen (result XY) next ≡ result J
-grouped XY J next on part = go (withinLimits XY) refl (withinLimits J) refl
+grouped : (o p : Order) (XY J : Table) (next : List ℕ → Option (List ℕ)) → (withinLimits XY ≡ true → next (bytesOf o XY) ≡ result p J)
+    → (withinLimits J ≡ true → withinLimits XY ≡ true) → andThen (result o XY) next ≡ result p J
+grouped o p XY J next on part = go (withinLimits XY) refl (withinLimits J) refl
   where
-    go : (s : Bool) → withinLimits XY ≡ s → (t : Bool) → withinLimits J ≡ t → andThen (cond s (some (bytesOf XY)) none) next ≡ result J
+    go : (s : Bool) → withinLimits XY ≡ s → (t : Bool) → withinLimits J ≡ t → andThen (cond s (some (bytesOf o XY)) none) next ≡ result p J
     go true x t y = on x
     go false x true y = absurd (false≢true (sym x ∙ part y))
-    go false x false y = ap (λ (t : Bool). cond t (some (bytesOf J)) none) (sym y)
+    go false x false y = ap (λ (t : Bool). cond t (some (bytesOf p J)) none) (sym y)
 
 good : (b : List ℕ) → Bytes b → Accepted b → Good (tableOf b)
 good b bytes p = accepted-good b fullPlaces fullPlaces p bytes
@@ -150,26 +147,27 @@ fits b bytes p = accepted-fits b fullPlaces fullPlaces p bytes
 
 module _ (a b c : List ℕ) (ba : Bytes a) (bb : Bytes b) (bc : Bytes c) (p : Accepted a) (q : Accepted b) (r : Accepted c) where
   module _ (o o′ : List ℕ) (full : length o ≡ byteLimit) (full′ : length o′ ≡ byteLimit) where
-    left-grouped : andThen (joinFull o a b) (λ (ab : List ℕ). joinFull o′ ab c) ≡ result (joinTables (joinTables (tableOf a) (tableOf b)) (tableOf c))
+    left-grouped : andThen (joinFull o a b) (λ (ab : List ℕ). joinFull o′ ab c) ≡ result (orderOf a) (joinTables (joinTables (tableOf a) (tableOf b)) (tableOf c))
     unfolding joinedBytes
     left-grouped =
         let J = joinTables (tableOf a) (tableOf b) in
         let g = good-join (tableOf a) (tableOf b) (good a ba p) (good b bb q) in
         let f = fits-withinLimits (tableOf a) (tableOf b) (good a ba p) (good b bb q) (fits a ba p) (fits b bb q) in
         ap (λ (x : Option (List ℕ)). andThen x (λ (ab : List ℕ). joinFull o′ ab c)) (joined-accepted o a b full p q)
-        ∙ grouped J (joinTables J (tableOf c)) (λ (ab : List ℕ). joinFull o′ ab c)
-        (λ e. joined-accepted o′ (bytesOf J) c full′ (withinLimits-accepted J g f e) r ∙ ap (λ (T : Table). result (joinTables T (tableOf c))) (withinLimits-table J g f e))
+        ∙ grouped (orderOf a) (orderOf a) J (joinTables J (tableOf c)) (λ (ab : List ℕ). joinFull o′ ab c)
+        (λ e. joined-accepted o′ (bytesOf (orderOf a) J) c full′ (withinLimits-accepted (orderOf a) J g f e) r
+        ∙ ap₂ (λ (o : Order) (T : Table). result o (joinTables T (tableOf c))) (order-bytesOf (orderOf a) J) (withinLimits-table (orderOf a) J g f e))
         (λ e. withinLimits-parts J (tableOf c) (g .closed) (good c bc r .closed) e .0)
 
-    right-grouped : andThen (joinFull o b c) (λ (bc : List ℕ). joinFull o′ a bc) ≡ result (joinTables (tableOf a) (joinTables (tableOf b) (tableOf c)))
+    right-grouped : andThen (joinFull o b c) (λ (bc : List ℕ). joinFull o′ a bc) ≡ result (orderOf a) (joinTables (tableOf a) (joinTables (tableOf b) (tableOf c)))
     unfolding joinedBytes
     right-grouped =
         let J = joinTables (tableOf b) (tableOf c) in
         let g = good-join (tableOf b) (tableOf c) (good b bb q) (good c bc r) in
         let f = fits-withinLimits (tableOf b) (tableOf c) (good b bb q) (good c bc r) (fits b bb q) (fits c bc r) in
         ap (λ (x : Option (List ℕ)). andThen x (λ (bc : List ℕ). joinFull o′ a bc)) (joined-accepted o b c full q r)
-        ∙ grouped J (joinTables (tableOf a) J) (λ (bc : List ℕ). joinFull o′ a bc)
-        (λ e. joined-accepted o′ a (bytesOf J) full′ p (withinLimits-accepted J g f e) ∙ ap (λ (T : Table). result (joinTables (tableOf a) T)) (withinLimits-table J g f e))
+        ∙ grouped (orderOf b) (orderOf a) J (joinTables (tableOf a) J) (λ (bc : List ℕ). joinFull o′ a bc)
+        (λ e. joined-accepted o′ a (bytesOf (orderOf b) J) full′ p (withinLimits-accepted (orderOf b) J g f e) ∙ ap (λ (T : Table). result (orderOf a) (joinTables (tableOf a) T)) (withinLimits-table (orderOf b) J g f e))
         (λ e. withinLimits-parts (tableOf a) J (good a ba p .closed) (g .closed) e .1)
 
 -- nothing is handed on where the next join refuses whatever it is given
@@ -193,7 +191,7 @@ module _ (o₁ o₂ o₃ o₄ : List ℕ) (f₁ : length o₁ ≡ byteLimit) (f�
           → (z : Option Answer) → refusal c fullPlaces fullPlaces ≡ z → left ≡ right
       go none p none q none r =
           left-grouped a b c ba bb bc p q r o₁ o₂ f₁ f₂
-          ∙ ap result (joinTables-assoc (tableOf a) (tableOf b) (tableOf c) (good a ba p .closed) (good b bb q .closed))
+          ∙ ap (result (orderOf a)) (joinTables-assoc (tableOf a) (tableOf b) (tableOf c) (good a ba p .closed) (good b bb q .closed))
           ∙ sym (right-grouped a b c ba bb bc p q r o₃ o₄ f₃ f₄)
       go (some x) p y q z r =
           ap (λ (o : Option (List ℕ)). andThen o (λ (ab : List ℕ). joinFull o₂ ab c)) (first-refused o₁ a b f₁ p)

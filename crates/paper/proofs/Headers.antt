@@ -1,48 +1,21 @@
 -- Laws of `Header`: phase 1 is silent exactly where the header's facts hold.
 -- Assumes nothing.
 use Prim.Native.Nat.{ℕ, _+_, _-_, _%_, _≤_}
-use mathlib.Core.Path.{_≡_, ap}
+use mathlib.Core.Path.{_≡_, ap, _∙_}
 use mathlib.Core.Bool.{false, not}
 use mathlib.Core.List.{List, [], _∷_}
 use mathlib.Core.Option.{none}
 use native.Mathlib.Omega.{arith}
 use borrow.Author.Tests.{ltb-false, eqb-false, not-false, le-ltb, ne-eqb}
 use lib.ListN.{length, getD, take}
-use Rattle.paper.proofs.Choices.{or-false, false-or, differ-false, differ-equal, same-true, firstDue-none, none-firstDue}
-use Rattle.paper.specs.Choice.{same, Rule, _when_}
-use Rattle.paper.specs.Header.{headerLength, opening, typeOff, typeLen, strOff, strLen, stringsIn, lengthBad, openingBad, headerLengthBad, sectionsBad, stringsBad, headerReport}
-use Rattle.paper.specs.Limits.{byteLimit}
-use Rattle.paper.specs.Word.{wordAt}
-
--- what a header and the sections behind it are where phase 1 has nothing to say
-pub record HeaderFacts (b : List ℕ) : Type 0 where
-  pub long : headerLength ≤ length b
-  pub short : length b ≤ byteLimit
-  pub opens : take 4 b ≡ opening
-  pub header-length : wordAt b 4 ≡ headerLength
-  pub type-off : wordAt b 8 ≡ 0
-  pub type-len : typeLen b % 4 ≡ 0
-  pub str-off : wordAt b 16 ≡ typeLen b
-  pub sum : headerLength + typeLen b + strLen b ≡ length b
-  pub some-strings : 1 ≤ strLen b
-  pub first-zero : getD (stringsIn b) 0 0 ≡ 0
-  pub last-zero : getD (stringsIn b) (strLen b - 1) 0 ≡ 0
-
--- ── phase 1 ──
-
--- the rules of phase 1, as `headerReport` has them
-abbrev pub headerRules : List ℕ → List Rule
-headerRules b =
-    1 when lengthBad b
-    ∷ 2 when openingBad b
-    ∷ 3 when headerLengthBad b
-    ∷ 4 when sectionsBad b
-    ∷ 5 when stringsBad b
-    ∷ []
+use Rattle.paper.proofs.Choices.{or-false, false-or, differ-false, differ-equal, same-true, same-refl, firstDue-none, none-firstDue}
+use Rattle.paper.specs.Choice.{same}
+use Rattle.paper.specs.Good.{HeaderFacts}
+use Rattle.paper.specs.Header.{opening, orderOf, strLen, lengthBad, openingBad, headerLengthBad, sectionsBad, stringsBad, headerRules, headerReport}
 
 -- phase 1 in silence says all of the facts
 pub headerReport-facts : (b : List ℕ) → headerReport b ≡ none → HeaderFacts b
-unfolding headerReport lengthBad openingBad headerLengthBad sectionsBad stringsBad typeOff strOff
+unfolding headerReport lengthBad openingBad headerLengthBad sectionsBad stringsBad
 headerReport-facts b e =
     let due = firstDue-none (headerRules b) e in
     let lengths = or-false _ _ (due .0) in
@@ -55,7 +28,7 @@ headerReport-facts b e =
     record {
       long = ltb-false _ _ (lengths .0);
       short = ltb-false _ _ (lengths .1);
-      opens = same-true (take 4 b) opening (not-false _ (due .1 .0));
+      opens = same-true (take 4 b) (opening (orderOf b)) (not-false _ (due .1 .0));
       header-length = differ-false _ _ (due .1 .1 .0);
       type-off = differ-false _ _ (types .0);
       type-len = differ-false _ _ (types .1);
@@ -68,10 +41,10 @@ headerReport-facts b e =
 
 -- where the facts hold, phase 1 is silent
 pub facts-headerReport : (b : List ℕ) → HeaderFacts b → headerReport b ≡ none
-unfolding headerReport lengthBad openingBad headerLengthBad sectionsBad stringsBad typeOff strOff
+unfolding headerReport lengthBad openingBad headerLengthBad sectionsBad stringsBad
 facts-headerReport b f =
     let length-good : lengthBad b ≡ false = false-or (le-ltb _ _ (f .long)) (le-ltb _ _ (f .short)) in
-    let opening-good : openingBad b ≡ false = ap (λ (s : List ℕ). not (same s opening)) (f .opens) in
+    let opening-good : openingBad b ≡ false = ap (λ (s : List ℕ). not (same s (opening (orderOf b)))) (f .opens) ∙ ap not (same-refl (opening (orderOf b))) in
     let header-good : headerLengthBad b ≡ false = differ-equal _ _ (f .header-length) in
     let sections-good : sectionsBad b ≡ false = false-or (false-or (false-or (differ-equal _ _ (f .type-off)) (differ-equal _ _ (f .type-len))) (differ-equal _ _ (f .str-off))) (differ-equal _ _ (f .sum)) in
     let strings-good : stringsBad b ≡ false = false-or (false-or (ne-eqb (strLen b) 0 (λ e. omega arith)) (differ-equal _ _ (f .first-zero))) (differ-equal _ _ (f .last-zero)) in

@@ -11,10 +11,10 @@ use borrow.Author.Tests.{eqb-true, eqb-false, leb-true, leb-false, le-leb, lt-lt
 use lib.Dec.{eqb, leb, ltb}
 use lib.ListN.{length, List·getD-eq-default}
 use Rattle.paper.proofs.Choices.{and-left, and-right, and-true, or-cases}
-use Rattle.paper.proofs.Endless.{Chain, chain-endless, endless-chain}
-use Rattle.paper.proofs.Gates.{Sound}
+use Rattle.paper.proofs.Endless.{chain-walks, walks-chain}
 use Rattle.paper.proofs.Renaming.{inside, Inside}
-use Rattle.paper.specs.Chain.{heldWord, heldIn, heldBy, endless}
+use Rattle.paper.specs.Chain.{heldWord, heldIn, heldBy, Chain, endless}
+use Rattle.paper.specs.Good.{Sound}
 use Rattle.paper.specs.Kind.{RefRule, voidOrPlain, plain, anInt, aProto, aVar, taggable, Role, names, refers, holds, number, rowOf, rows}
 use Rattle.paper.specs.Names.{nameOk, nameWordOk, namesOk}
 use Rattle.paper.specs.References.{isPlain, mayBeVoid, mayBeKind, refOk, refWordOk, refsOk}
@@ -62,13 +62,21 @@ inside-words T (ρ ∷ ρs) (w ∷ ws) p q =
     and-true (inside-word T ρ w (and-left (nameWordOk (T .strings) ρ w) _ p) (and-left (refWordOk T ρ w) _ q))
     (inside-words T ρs ws (and-right (nameWordOk (T .strings) ρ w) _ p) (and-right (refWordOk T ρ w) _ q))
 
+-- two of the rules that hold at every type of a sound table, for the laws that ask for no more
+module _ {T : Table} (s : Sound T) where
+  pub sound-refs : (t : ℕ) → 1 ≤ t → t ≤ count T → refsOk T (recordAt T t) ≡ true
+  sound-refs t low high = s t low high .refs
+
+  pub sound-ends : (t : ℕ) → 1 ≤ t → t ≤ count T → endless T t ≡ false
+  sound-ends t low high = s t low high .ends
+
 module _ {T : Table} (s : Sound T) (some-strings : 1 ≤ length (T .strings)) where
   pub sound-inside : (t : ℕ) → t ≤ count T → Inside T (recordAt T t)
   unfolding namesOk refsOk tailRoles rowOf rows
   sound-inside zero h = ap (λ (b : Bool). b && true) (lt-ltb _ _ some-strings)
   sound-inside (suc t) h =
       inside-words T (rolesOf (recordAt T (suc t))) (wordsOf (recordAt T (suc t)))
-      (s .names (suc t) (omega arith) h) (s .refs (suc t) (omega arith) h)
+      (s (suc t) (omega arith) h .names) (s (suc t) (omega arith) h .refs)
 
 -- ── what is held is a type of the table, where 13 passes ──
 
@@ -117,11 +125,13 @@ module _ (T : Table) (refs : (t : ℕ) → 1 ≤ t → t ≤ count T → refsOk 
 
   -- ── demand 2: no by-value chain can be followed for ever, and 14 is given only where one can be ──
 
-  pub no-chain : ((t : ℕ) → 1 ≤ t → t ≤ count T → endless T t ≡ false) → (t : ℕ) → Chain T t → ⊥
+  pub no-chain : ((t : ℕ) → 1 ≤ t → t ≤ count T → endless T t ≡ false) → (t : ℕ) → Chain (heldBy T) t → ⊥
+  unfolding endless
   no-chain ends t c =
       let h = held-inside (c .at 0) (c .at 1) (c .goes-on 0) in
       let e = c .starts in
-      false≢true (sym (ends t (omega arith) (omega arith)) ∙ chain-endless c)
+      false≢true (sym (ends t (omega arith) (omega arith)) ∙ chain-walks c (count T))
 
-  pub chain-at : (t : ℕ) → 1 ≤ t → t ≤ count T → endless T t ≡ true → Chain T t
-  chain-at t low high e = endless-chain T (λ t u m. held-inside t u m .2) t low high e
+  pub chain-at : (t : ℕ) → 1 ≤ t → t ≤ count T → endless T t ≡ true → Chain (heldBy T) t
+  unfolding endless
+  chain-at t low high e = walks-chain (heldBy T) (count T) (λ t u m. held-inside t u m .2) t low high e

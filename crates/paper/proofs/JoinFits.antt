@@ -11,27 +11,25 @@ use lib.ListN.{length, getD, drop, length-drop, List·getD-append}
 use lib.Seq.{getD-append-add, getD-drop}
 use Rattle.paper.proofs.Bytes.{below-append, below-left, below-right, below-drop}
 use Rattle.paper.proofs.Choices.{and-left, and-right}
-use Rattle.paper.proofs.Gates.{Sound}
 use Rattle.paper.proofs.Insides.{sound-inside}
-use Rattle.paper.proofs.Joining.{Good, SoundAt, sound-rename, count-join, length-strings, first-renaming, second-renaming}
-use Rattle.paper.proofs.Names.{Closed}
+use Rattle.paper.proofs.Joining.{sound-rename, count-join, length-strings, first-renaming, second-renaming}
 use Rattle.paper.proofs.Places.{flat-append}
 use Rattle.paper.proofs.Rename.{length-renameWords}
 use Rattle.paper.proofs.Renaming.{inside, Inside}
-use Rattle.paper.proofs.Tables.{length-bytesOf}
 use Rattle.paper.specs.Fit.{Below, wordBound, EveryWhole, Fits}
+use Rattle.paper.specs.Good.{Closed, SoundAt, Sound, Good}
 use Rattle.paper.specs.Join.{raised, joinTables}
 use Rattle.paper.specs.Kind.{Role, names, refers, holds, number}
 use Rattle.paper.specs.Limits.{typeLimit, byteLimit}
 use Rattle.paper.specs.Rename.{renameWord, renameWords, rename, raise}
 use Rattle.paper.specs.Table.{Record, Table, count, nothing, tailRoles, rolesOf, wordsOf, everyRoled}
-use Rattle.paper.specs.Walk.{flat, bytesOf}
+use Rattle.paper.specs.Walk.{flat, blobLength}
 
 -- ── nothing is said of a join ──
 
 module _ (A B : Table) (a : Good A) (b : Good B) where
-  sound-at : (t : ℕ) → 1 ≤ t → t ≤ count (joinTables A B) → SoundAt (joinTables A B) t
-  sound-at t low high = go (leb t (count A)) refl
+  pub sound-join : Sound (joinTables A B)
+  sound-join t low high = go (leb t (count A)) refl
     where
       second : (k : ℕ) → t ≡ suc k + count A → suc k ≤ count B → SoundAt (joinTables A B) t
       second k e h = subst (SoundAt (joinTables A B)) (sym e) (sound-rename (second-renaming A B (a .closed) (b .closed)) b (suc k) (omega arith) h)
@@ -42,17 +40,6 @@ module _ (A B : Table) (a : Good A) (b : Good B) where
           let above = leb-false t (count A) x in
           let n = count-join A B in
           second (t - suc (count A)) (omega arith) (omega arith)
-
-  pub sound-join : Sound (joinTables A B)
-  sound-join =
-      record {
-        heads = λ t low high. sound-at t low high .heads;
-        names = λ t low high. sound-at t low high .names;
-        tails = λ t low high. sound-at t low high .tails;
-        refs = λ t low high. sound-at t low high .refs;
-        ends = λ t low high. sound-at t low high .ends;
-        layouts = λ t low high. sound-at t low high .layouts;
-      }
 
 -- ── its strings are closed ──
 
@@ -133,13 +120,12 @@ module _ (A B : Table) (types : count A + count B < wordBound) (strings : length
       (up-flat rs (λ i l. h (suc i) (omega arith)) (below-right wordBound (wordsOf r) (flat rs) b))
 
 pub fits-join : (A B : Table) → Good A → Good B → Fits A → Fits B → count (joinTables A B) ≤ typeLimit
-    → length (bytesOf (joinTables A B)) ≤ byteLimit → Fits (joinTables A B)
+    → blobLength (joinTables A B) ≤ byteLimit → Fits (joinTables A B)
 unfolding joinTables
 fits-join A B a b fa fb few short =
     let up = raised A in
     let n = count-join A B in
     let s = length-strings A B (a .closed) (b .closed) in
-    let l = length-bytesOf (joinTables A B) in
     let closed-a = a .closed .filled in
     let closed-b = b .closed .filled in
     record {

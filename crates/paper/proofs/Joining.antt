@@ -8,17 +8,17 @@ use native.Mathlib.Nat.{suc-add, add-comm}
 use native.Mathlib.Omega.{arith}
 use lib.ListN.{length, getD, drop, length-append, length-drop, length-map, List·getD-append, List·getD-map}
 use lib.Seq.{getD-append-add}
-use Rattle.paper.proofs.Chains.{walks-rename, walks-le}
-use Rattle.paper.proofs.Gates.{Sound}
-use Rattle.paper.proofs.Insides.{sound-inside}
-use Rattle.paper.proofs.Names.{Closed, nameIn-append, nameIn-behind, nameIn-zero}
+use Rattle.paper.proofs.Chains.{walks-rename, walks-longer}
+use Rattle.paper.proofs.Insides.{sound-refs, sound-ends, sound-inside}
+use Rattle.paper.proofs.Names.{nameIn-append, nameIn-behind, nameIn-zero}
 use Rattle.paper.proofs.Rename.{raise-eqb, rename-id, rename-nothing}
 use Rattle.paper.proofs.Renaming.{Renaming, headOk-rename, namesOk-rename, refsOk-rename}
 use Rattle.paper.proofs.RenamingLayout.{layoutOk-rename}
 use Rattle.paper.proofs.RenamingSizes.{exactSize-rename}
 use Rattle.paper.proofs.RenamingTails.{tailOk-rename}
-use Rattle.paper.specs.Chain.{walks, endless}
+use Rattle.paper.specs.Chain.{heldBy, endless}
 use Rattle.paper.specs.Fit.{Whole, EveryWhole}
+use Rattle.paper.specs.Good.{Closed, SoundAt, Good}
 use Rattle.paper.specs.Heads.{headOk}
 use Rattle.paper.specs.Join.{raised, joinTables}
 use Rattle.paper.specs.Layout.{layoutOk}
@@ -29,12 +29,6 @@ use Rattle.paper.specs.Rename.{raise}
 use Rattle.paper.specs.Size.{exactSize}
 use Rattle.paper.specs.Table.{Record, Table, count, nothing, recordAt}
 use Rattle.paper.specs.Tails.{tailOk}
-
--- a table of which nothing is said, with whole records and closed strings
-pub record Good (T : Table) : Type 0 where
-  pub sound : Sound T
-  pub closed : Closed (T .strings)
-  pub whole : EveryWhole (T .records)
 
 whole-at : (rs : List Record) → EveryWhole rs → (i : ℕ) → i < length rs → Whole (getD rs i nothing)
 whole-at [] h i l = absurd (omega arith)
@@ -47,15 +41,6 @@ good-whole T g (suc t) low high = whole-at (T .records) (g .whole) t high
 
 -- ── a renamed table is judged as the table is ──
 
--- what holds of a type of the larger table
-pub record SoundAt (T : Table) (t : ℕ) : Type 0 where
-  pub heads : headOk (recordAt T t) ≡ true
-  pub names : namesOk (T .strings) (recordAt T t) ≡ true
-  pub tails : tailOk (recordAt T t) ≡ true
-  pub refs : refsOk T (recordAt T t) ≡ true
-  pub ends : endless T t ≡ false
-  pub layouts : layoutOk T (recordAt T t) ≡ true
-
 module _ {A B : Table} {type name : ℕ → ℕ} (R : Renaming A B type name) (g : Good A) where
   pub sound-rename : (t : ℕ) → 1 ≤ t → t ≤ count A → SoundAt B (type t)
   unfolding endless
@@ -65,20 +50,16 @@ module _ {A B : Table} {type name : ℕ → ℕ} (R : Renaming A B type name) (g
       let in-A = sound-inside s (g .closed .filled) in
       let e = R .same-record t high in
       record {
-        heads = ap headOk e ∙ headOk-rename type name r ∙ s .heads t low high;
-        names = ap (namesOk (B .strings)) e ∙ namesOk-rename R r (in-A t high) ∙ s .names t low high;
-        tails = ap tailOk e ∙ tailOk-rename R r (good-whole A g t low high) ∙ s .tails t low high;
-        refs = ap (refsOk B) e ∙ refsOk-rename R r (in-A t high) ∙ s .refs t low high;
-        ends = walks-rename R in-A (count B) t high ∙ not-longer (walks A (count B) t) refl (s .ends t low high);
-        layouts = ap (layoutOk B) e ∙ layoutOk-rename R (s .refs) (s .ends) in-A (good-whole A g) r (s .refs t low high) (in-A t high) (good-whole A g t low high) ∙ s .layouts t low high;
+        heads = ap headOk e ∙ headOk-rename type name r ∙ s t low high .heads;
+        names = ap (namesOk (B .strings)) e ∙ namesOk-rename R r (in-A t high) ∙ s t low high .names;
+        tails = ap tailOk e ∙ tailOk-rename R r (good-whole A g t low high) ∙ s t low high .tails;
+        refs = ap (refsOk B) e ∙ refsOk-rename R r (in-A t high) ∙ s t low high .refs;
+        ends = walks-rename R in-A (count B) t high ∙ walks-longer (heldBy A) t (R .fewer) (s t low high .ends);
+        layouts = ap (layoutOk B) e ∙ layoutOk-rename R (sound-refs s) (sound-ends s) in-A (good-whole A g) r (s t low high .refs) (in-A t high) (good-whole A g t low high) ∙ s t low high .layouts;
       }
-    where
-      not-longer : (b : Bool) → walks A (count B) t ≡ b → walks A (count A) t ≡ false → walks A (count B) t ≡ false
-      not-longer true x e = absurd (false≢true (sym e ∙ walks-le A t (R .fewer) x))
-      not-longer false x e = x
 
   pub size-rename : (t : ℕ) → t ≤ count A → exactSize B (type t) ≡ exactSize A t
-  size-rename = exactSize-rename R (g .sound .refs) (g .sound .ends)
+  size-rename = exactSize-rename R (sound-refs (g .sound)) (sound-ends (g .sound))
 
 -- ── the two renamings of a join ──
 

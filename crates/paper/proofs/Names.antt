@@ -9,13 +9,8 @@ use borrow.Author.Tests.{eq-eqb}
 use lib.Dec.{eqb}
 use lib.ListN.{length, getD, drop, length-drop, List·getD-append}
 use lib.Seq.{drop-append-le, drop-append-add, drop-drop, getD-drop}
+use Rattle.paper.specs.Good.{Closed}
 use Rattle.paper.specs.Name.{untilZero, nameIn}
-
--- a string section as report 5 asks for it
-pub record Closed (s : List ℕ) : Type 0 where
-  pub filled : 1 ≤ length s
-  pub first : getD s 0 0 ≡ 0
-  pub last : getD s (length s - 1) 0 ≡ 0
 
 -- a run that begins with a zero byte names nothing
 untilZero-first : (s : List ℕ) → getD s 0 0 ≡ 0 → untilZero s ≡ []

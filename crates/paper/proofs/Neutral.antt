@@ -11,17 +11,20 @@ use borrow.Author.Tests.{le-leb}
 use lib.ListN.{length, drop}
 use Rattle.paper.proofs.Acceptance.{accepted-fits, accepted-bytes, accepted-short, accepted-good}
 use Rattle.paper.proofs.Choices.{and-true}
-use Rattle.paper.proofs.FullJoins.{withinLimits, joined-accepted}
-use Rattle.paper.proofs.Names.{Closed}
+use Rattle.paper.proofs.FullJoins.{joined-accepted}
 use Rattle.paper.proofs.Rename.{rename-id}
+use Rattle.paper.proofs.Tables.{order-bytesOf}
 use Rattle.paper.specs.Computes.{computes}
 use Rattle.paper.specs.Fit.{Bytes, Accepted}
-use Rattle.paper.specs.Full.{joinFull, emptyTable, emptyBlob}
+use Rattle.paper.specs.Full.{joinFull, emptyTable, emptyBlob, withinLimits}
+use Rattle.paper.specs.Good.{Closed}
+use Rattle.paper.specs.Header.{orderOf}
 use Rattle.paper.specs.Join.{joinTables, joinedBytes}
 use Rattle.paper.specs.Limits.{typeLimit, byteLimit, fullPlaces}
 use Rattle.paper.specs.Rename.{rename, raise}
 use Rattle.paper.specs.Table.{Record, Table, count}
-use Rattle.paper.specs.Walk.{tableOf, bytesOf}
+use Rattle.paper.specs.Walk.{tableOf, blobLength, bytesOf}
+use Rattle.paper.specs.Word.{Order, lowFirst}
 
 -- ── tables ──
 
@@ -48,32 +51,41 @@ joinTables-empty-right A = λ i. record { records = append-nil (A .records) i; s
 
 -- ── blobs ──
 
-pub empty-accepted : Accepted emptyBlob
+pub empty-accepted : (order : Order) → Accepted (emptyBlob order)
 unfolding computes emptyBlob
-empty-accepted = refl
+empty-accepted lowFirst = refl
 
-empty-table : tableOf emptyBlob ≡ emptyTable
+empty-table : (order : Order) → tableOf (emptyBlob order) ≡ emptyTable
 unfolding computes emptyBlob
-empty-table = refl
+empty-table lowFirst = refl
+
+-- its words are in its order
+empty-order : (order : Order) → orderOf (emptyBlob order) ≡ order
+unfolding emptyBlob
+empty-order order = order-bytesOf order emptyTable
 
 module _ (out : List ℕ) (full : length out ≡ byteLimit) (b : List ℕ) (bytes : Bytes b) (p : Accepted b) where
+  -- the empty table's blob in the order of the other
+  abbrev empty : List ℕ
+  empty = emptyBlob (orderOf b)
+
   -- an accepted table is within the limits, and its bytes are the blob's
-  handed-back : (T : Table) → T ≡ tableOf b → cond (withinLimits T) (some (bytesOf T)) none ≡ some b
-  handed-back T e =
-      ap (λ (U : Table). cond (withinLimits U) (some (bytesOf U)) none) e
-      ∙ ap (λ (t : Bool). cond t (some (bytesOf (tableOf b))) none)
-      (and-true (le-leb (count (tableOf b)) typeLimit (accepted-fits b fullPlaces fullPlaces p bytes .types-fit)) (le-leb (length (bytesOf (tableOf b))) byteLimit (accepted-short b fullPlaces fullPlaces p bytes)))
+  handed-back : (order : Order) (T : Table) → order ≡ orderOf b → T ≡ tableOf b → cond (withinLimits T) (some (bytesOf order T)) none ≡ some b
+  handed-back order T o e =
+      ap₂ (λ (o : Order) (U : Table). cond (withinLimits U) (some (bytesOf o U)) none) o e
+      ∙ ap (λ (t : Bool). cond t (some (bytesOf (orderOf b) (tableOf b))) none)
+      (and-true (le-leb (count (tableOf b)) typeLimit (accepted-fits b fullPlaces fullPlaces p bytes .types-fit)) (le-leb (blobLength (tableOf b)) byteLimit (accepted-short b fullPlaces fullPlaces p bytes)))
       ∙ ap {B = Option (List ℕ)} some (accepted-bytes b fullPlaces fullPlaces p bytes)
 
-  pub join-empty-left : joinFull out emptyBlob b ≡ some b
+  pub join-empty-left : joinFull out empty b ≡ some b
   unfolding joinedBytes
   join-empty-left =
-      joined-accepted out emptyBlob b full empty-accepted p
-      ∙ handed-back (joinTables (tableOf emptyBlob) (tableOf b))
-      (ap (λ (E : Table). joinTables E (tableOf b)) empty-table ∙ joinTables-empty-left (tableOf b) (accepted-good b fullPlaces fullPlaces p bytes .closed))
+      joined-accepted out empty b full (empty-accepted (orderOf b)) p
+      ∙ handed-back (orderOf empty) (joinTables (tableOf empty) (tableOf b)) (empty-order (orderOf b))
+      (ap (λ (E : Table). joinTables E (tableOf b)) (empty-table (orderOf b)) ∙ joinTables-empty-left (tableOf b) (accepted-good b fullPlaces fullPlaces p bytes .closed))
 
-  pub join-empty-right : joinFull out b emptyBlob ≡ some b
+  pub join-empty-right : joinFull out b empty ≡ some b
   unfolding joinedBytes
   join-empty-right =
-      joined-accepted out b emptyBlob full p empty-accepted
-      ∙ handed-back (joinTables (tableOf b) (tableOf emptyBlob)) (ap (joinTables (tableOf b)) empty-table ∙ joinTables-empty-right (tableOf b))
+      joined-accepted out b empty full p (empty-accepted (orderOf b))
+      ∙ handed-back (orderOf b) (joinTables (tableOf b) (tableOf empty)) refl (ap (joinTables (tableOf b)) (empty-table (orderOf b)) ∙ joinTables-empty-right (tableOf b))

@@ -14,13 +14,12 @@ use Rattle.paper.proofs.Choices.{or-false, firstDue-none}
 use Rattle.paper.proofs.Demands.{accepted-size}
 use Rattle.paper.proofs.Gates.{orElse-none, naming-none}
 use Rattle.paper.proofs.Places.{length-placesOf}
-use Rattle.paper.proofs.SizeAsked.{answerOf}
 use Rattle.paper.specs.Answer.{Answer, accepted, value}
 use Rattle.paper.specs.Choice.{_when_}
 use Rattle.paper.specs.Fit.{Bytes}
 use Rattle.paper.specs.Gate.{phase1, phase2, shortSlices, refusal, zeros, indexOf, Outcome, outcome, gate}
 use Rattle.paper.specs.Join.{joinedBytes, joinRefusal, joinOutcome, join}
-use Rattle.paper.specs.Size.{exactSize, sizeOf}
+use Rattle.paper.specs.Size.{exactSize, answerOf, sizeOf}
 use Rattle.paper.specs.Table.{Table, count}
 use Rattle.paper.specs.Walk.{tableOf, placesOf}
 

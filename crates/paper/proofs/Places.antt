@@ -8,11 +8,11 @@ use native.Mathlib.Omega.{arith}
 use lib.ListN.{length, getD, take, drop, length-append}
 use lib.Seq.{drop-at, drop-drop, split-at}
 use Rattle.paper.specs.Fit.{Below, Bytes, wordBound, Fits}
-use Rattle.paper.specs.Header.{headerLength, headerReport}
+use Rattle.paper.specs.Header.{headerLength, orderOf, headerReport}
 use Rattle.paper.specs.Table.{Record, Table, count, nothing, wordsOf}
 use Rattle.paper.specs.Walk.{records, walk, tableOf, flat, typeLenOf, bytesOf, placesFrom, placesOf}
-use Rattle.paper.specs.Word.{firstWord, wordAt, bytesOfWords}
-use Rattle.paper.proofs.Words.{weigh-wordBytes}
+use Rattle.paper.specs.Word.{Order, firstWord, wordAt, bytesOfWords}
+use Rattle.paper.proofs.Words.{firstWord-wordBytes}
 use Rattle.paper.proofs.Bytes.{below-left, below-right, length-bytesOfWords, bytesOfWords-append}
 use Rattle.paper.proofs.Tables.{bytesOf-parts, length-bytesOf}
 use Rattle.paper.proofs.Blobs.{bytesOf-tableOf, tableOf-fits}
@@ -68,59 +68,60 @@ module _ (T : Table) (t : ℕ) (h : t < count T) where
       let after : List ℕ = flat (drop (suc t) (T .records)) in
       omega (arith, placesOf-at, ap length (flat-at (T .records) t h), length-append before (here ++ after), length-append here after)
 
+module _ (order : Order) (T : Table) (t : ℕ) (h : t < count T) where
   -- and inside the blob
-  pub place-high : getD (placesOf T) t 0 + 4 * length (wordsOf (getD (T .records) t nothing)) ≤ length (bytesOf T)
-  place-high = omega (arith, place-inside, length-bytesOf T)
+  pub place-high : getD (placesOf T) t 0 + 4 * length (wordsOf (getD (T .records) t nothing)) ≤ length (bytesOf order T)
+  place-high = omega (arith, place-inside T t h, length-bytesOf order T)
 
   -- behind the header stand the bytes of the records before, of the record, of the records after it, and the strings
-  behind-header : drop headerLength (bytesOf T) ≡ bytesOfWords (flat (take t (T .records))) ++ (bytesOfWords (wordsOf (getD (T .records) t nothing)) ++ (bytesOfWords (flat (drop (suc t) (T .records))) ++ T .strings))
+  behind-header : drop headerLength (bytesOf order T) ≡ bytesOfWords order (flat (take t (T .records))) ++ (bytesOfWords order (wordsOf (getD (T .records) t nothing)) ++ (bytesOfWords order (flat (drop (suc t) (T .records))) ++ T .strings))
   behind-header =
-      ap (drop headerLength) (bytesOf-parts T)
-      ∙ ap (λ (ws : List ℕ). bytesOfWords ws ++ T .strings) (flat-at (T .records) t h)
+      ap (drop headerLength) (bytesOf-parts order T)
+      ∙ ap (λ (ws : List ℕ). bytesOfWords order ws ++ T .strings) (flat-at (T .records) t h)
       ∙ simp (bytesOfWords-append, append-assoc)
 
   -- at a record's place stand its own bytes, then those of the records after it, then the strings
-  pub place-record : drop (getD (placesOf T) t 0) (bytesOf T) ≡ bytesOfWords (wordsOf (getD (T .records) t nothing)) ++ (bytesOfWords (flat (drop (suc t) (T .records))) ++ T .strings)
+  pub place-record : drop (getD (placesOf T) t 0) (bytesOf order T) ≡ bytesOfWords order (wordsOf (getD (T .records) t nothing)) ++ (bytesOfWords order (flat (drop (suc t) (T .records))) ++ T .strings)
   place-record =
       let before : List ℕ = flat (take t (T .records)) in
-      ap (λ (p : ℕ). drop p (bytesOf T)) placesOf-at
-      ∙ sym (drop-drop (4 * length before) headerLength (bytesOf T))
+      ap (λ (p : ℕ). drop p (bytesOf order T)) (placesOf-at T t h)
+      ∙ sym (drop-drop (4 * length before) headerLength (bytesOf order T))
       ∙ ap (drop (4 * length before)) behind-header
-      ∙ drop-at (bytesOfWords before) _ (4 * length before) (length-bytesOfWords before)
+      ∙ drop-at (bytesOfWords order before) _ (4 * length before) (length-bytesOfWords order before)
 
 -- ── the words read there ──
 
 -- the words of bytes made from words, one by one
-firstWord-at : (ws s : List ℕ) (j : ℕ) → Below wordBound ws → j < length ws → firstWord (drop (4 * j) (bytesOfWords ws ++ s)) ≡ getD ws j 0
-firstWord-at [] s j fit h = absurd (omega arith)
-firstWord-at (w ∷ ws) s zero fit h = weigh-wordBytes w (fit .0)
-firstWord-at (w ∷ ws) s (suc j) fit h =
+firstWord-at : (order : Order) (ws s : List ℕ) (j : ℕ) → Below wordBound ws → j < length ws → firstWord order (drop (4 * j) (bytesOfWords order ws ++ s)) ≡ getD ws j 0
+firstWord-at order [] s j fit h = absurd (omega arith)
+firstWord-at order (w ∷ ws) s zero fit h = firstWord-wordBytes order w (bytesOfWords order ws ++ s) (fit .0)
+firstWord-at order (w ∷ ws) s (suc j) fit h =
     let four : 4 * suc j ≡ suc (suc (suc (suc (4 * j)))) = omega arith in
-    ap (λ (n : ℕ). firstWord (drop n (bytesOfWords (w ∷ ws) ++ s))) four ∙ firstWord-at ws s j (fit .1) (omega arith)
+    ap (λ (n : ℕ). firstWord order (drop n (bytesOfWords order (w ∷ ws) ++ s))) four ∙ firstWord-at order ws s j (fit .1) (omega arith)
 
 -- word j of a record is read 4 * j bytes behind the record's place
-pub place-word : (T : Table) → Fits T → (t : ℕ) → t < count T → (j : ℕ) → j < length (wordsOf (getD (T .records) t nothing))
-    → wordAt (bytesOf T) (getD (placesOf T) t 0 + 4 * j) ≡ getD (wordsOf (getD (T .records) t nothing)) j 0
+pub place-word : (order : Order) (T : Table) → Fits T → (t : ℕ) → t < count T → (j : ℕ) → j < length (wordsOf (getD (T .records) t nothing))
+    → wordAt order (bytesOf order T) (getD (placesOf T) t 0 + 4 * j) ≡ getD (wordsOf (getD (T .records) t nothing)) j 0
 unfolding wordAt
-place-word T fits t h j inside =
+place-word order T fits t h j inside =
     let before : List ℕ = flat (take t (T .records)) in
     let here : List ℕ = wordsOf (getD (T .records) t nothing) in
     let after : List ℕ = flat (drop (suc t) (T .records)) in
     let all : Below wordBound (before ++ (here ++ after)) = rw (flat-at (T .records) t h) at (fits .words-fit) in
-    ap firstWord (sym (drop-drop (4 * j) (getD (placesOf T) t 0) (bytesOf T)))
-    ∙ ap (λ (s : List ℕ). firstWord (drop (4 * j) s)) (place-record T t h)
-    ∙ firstWord-at here (bytesOfWords after ++ T .strings) j (below-left wordBound here after (below-right wordBound before (here ++ after) all)) inside
+    ap (firstWord order) (sym (drop-drop (4 * j) (getD (placesOf T) t 0) (bytesOf order T)))
+    ∙ ap (λ (s : List ℕ). firstWord order (drop (4 * j) s)) (place-record order T t h)
+    ∙ firstWord-at order here (bytesOfWords order after ++ T .strings) j (below-left wordBound here after (below-right wordBound before (here ++ after) all)) inside
 
 -- ── the same of a blob that passes phases 1 and 2 ──
 
 module _ (b : List ℕ) (bytes : Bytes b) (silent : headerReport b ≡ none) (rs : List Record) (e : walk b ≡ records rs) (t : ℕ) (h : t < count (tableOf b)) where
   -- every record of the table that a blob holds ends inside the blob
   pub blob-place-high : getD (placesOf (tableOf b)) t 0 + 4 * length (wordsOf (getD (tableOf b .records) t nothing)) ≤ length b
-  blob-place-high = omega (arith, place-high (tableOf b) t h, ap length (bytesOf-tableOf b bytes silent rs e))
+  blob-place-high = omega (arith, place-high (orderOf b) (tableOf b) t h, ap length (bytesOf-tableOf b bytes silent rs e))
 
   -- word j of such a record is read in the blob 4 * j bytes behind the record's place
   pub blob-place-word : (j : ℕ) → j < length (wordsOf (getD (tableOf b .records) t nothing))
-      → wordAt b (getD (placesOf (tableOf b)) t 0 + 4 * j) ≡ getD (wordsOf (getD (tableOf b .records) t nothing)) j 0
+      → wordAt (orderOf b) b (getD (placesOf (tableOf b)) t 0 + 4 * j) ≡ getD (wordsOf (getD (tableOf b .records) t nothing)) j 0
   blob-place-word j inside =
-      ap (λ (s : List ℕ). wordAt s (getD (placesOf (tableOf b)) t 0 + 4 * j)) (sym (bytesOf-tableOf b bytes silent rs e))
-      ∙ place-word (tableOf b) (tableOf-fits b bytes silent rs e) t h j inside
+      ap (λ (s : List ℕ). wordAt (orderOf b) s (getD (placesOf (tableOf b)) t 0 + 4 * j)) (sym (bytesOf-tableOf b bytes silent rs e))
+      ∙ place-word (orderOf b) (tableOf b) (tableOf-fits b bytes silent rs e) t h j inside

@@ -8,7 +8,7 @@ use native.Mathlib.Nat.{zero-add, suc-add, sub-add-cancel}
 use native.Mathlib.Omega.{arith}
 use borrow.Author.Tests.{eqb-true, eqb-false}
 use lib.Dec.{eqb}
-use Rattle.paper.proofs.Chains.{walks-le}
+use Rattle.paper.proofs.Chains.{walks-longer}
 use Rattle.paper.proofs.Choices.{or-cases}
 use Rattle.paper.proofs.Endless.{any-holds}
 use Rattle.paper.proofs.Insides.{held-inside}
@@ -54,34 +54,27 @@ baseFrom-void : (T : Table) (k : ℕ) → baseFrom T k 0 ≡ 0
 baseFrom-void T zero = refl
 baseFrom-void T (suc k) = refl
 
-baseFrom-suc : (T : Table) (k t : ℕ) → walks T k t ≡ false → baseFrom T (suc k) t ≡ baseFrom T k t
+baseFrom-suc : (T : Table) (k t : ℕ) → walks (heldBy T) k t ≡ false → baseFrom T (suc k) t ≡ baseFrom T k t
 baseFrom-suc T zero t e = absurd (false≢true (sym e))
 baseFrom-suc T (suc k) t e = go (isAlias (kindAt T t)) refl (eqb u 0) refl (baseFrom-suc T k u)
   where
     u : ℕ
     u = recordAt T t .third
 
-    not-on : isAlias (kindAt T t) ≡ true → (u ≡ 0 → ⊥) → (b : Bool) → walks T k u ≡ b → b ≡ false
-    not-on a ne true x = absurd (false≢true (sym e ∙ any-holds (walks T k) u (third-held T t a ne) x))
+    not-on : isAlias (kindAt T t) ≡ true → (u ≡ 0 → ⊥) → (b : Bool) → walks (heldBy T) k u ≡ b → b ≡ false
+    not-on a ne true x = absurd (false≢true (sym e ∙ any-holds (walks (heldBy T) k) u (third-held T t a ne) x))
     not-on a ne false x = refl
 
-    go : (a : Bool) → isAlias (kindAt T t) ≡ a → (z : Bool) → eqb u 0 ≡ z → (walks T k u ≡ false → baseFrom T (suc k) u ≡ baseFrom T k u)
+    go : (a : Bool) → isAlias (kindAt T t) ≡ a → (z : Bool) → eqb u 0 ≡ z → (walks (heldBy T) k u ≡ false → baseFrom T (suc k) u ≡ baseFrom T k u)
         → cond a (baseFrom T (suc k) u) t ≡ cond a (baseFrom T k u) t
     go false p z q on = refl
     go true p true q on =
         ap (baseFrom T (suc k)) (eqb-true u 0 q) ∙ sym (baseFrom-void T k) ∙ ap (baseFrom T k) (sym (eqb-true u 0 q))
-    go true p false q on = on (not-on p (eqb-false u 0 q) (walks T k u) refl)
+    go true p false q on = on (not-on p (eqb-false u 0 q) (walks (heldBy T) k u) refl)
 
-longer-false : (T : Table) (d k t : ℕ) → walks T k t ≡ false → walks T (d + k) t ≡ false
-longer-false T d k t e = go (walks T (d + k) t) refl
-  where
-    go : (b : Bool) → walks T (d + k) t ≡ b → b ≡ false
-    go true x = absurd (false≢true (sym e ∙ walks-le T {m = k} {k = d + k} t (omega arith) x))
-    go false x = refl
-
-baseFrom-add : (T : Table) (d k t : ℕ) → walks T k t ≡ false → baseFrom T (d + k) t ≡ baseFrom T k t
+baseFrom-add : (T : Table) (d k t : ℕ) → walks (heldBy T) k t ≡ false → baseFrom T (d + k) t ≡ baseFrom T k t
 baseFrom-add T zero k t e = rw zero-add refl
-baseFrom-add T (suc d) k t e = rw suc-add (baseFrom-suc T (d + k) t (longer-false T d k t e) ∙ baseFrom-add T d k t e)
+baseFrom-add T (suc d) k t e = rw suc-add (baseFrom-suc T (d + k) t (walks-longer (heldBy T) {m = k} {k = d + k} t (omega arith) e) ∙ baseFrom-add T d k t e)
 
 -- ── renaming ──
 

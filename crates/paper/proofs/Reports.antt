@@ -10,15 +10,13 @@ use borrow.Author.Tests.{not-false}
 use lib.Dec.{leb, ltb}
 use lib.ListN.{length, take, drop}
 use Rattle.paper.proofs.Choices.{firstDue-none}
-use Rattle.paper.proofs.Endless.{Chain}
 use Rattle.paper.proofs.Gates.{some≢none, overTypes-none, overTypes-some}
-use Rattle.paper.proofs.Headers.{headerRules}
 use Rattle.paper.proofs.Insides.{chain-at}
 use Rattle.paper.specs.Answer.{Answer}
-use Rattle.paper.specs.Chain.{endless}
+use Rattle.paper.specs.Chain.{heldBy, Chain, endless}
 use Rattle.paper.specs.Choice.{Rule, _when_, firstDue, orElse}
 use Rattle.paper.specs.Gate.{naming, phase1, walkReport, phase2, shortSlices, firstOf, phase3, phase4, phase5, phase6, overTypes, tableReport, refusal}
-use Rattle.paper.specs.Header.{headerReport}
+use Rattle.paper.specs.Header.{headerRules, headerReport}
 use Rattle.paper.specs.Limits.{typeLimit}
 use Rattle.paper.specs.References.{refsOk, refBad}
 use Rattle.paper.specs.Table.{Record, Table, count, recordAt, kindIn, tailLength}
@@ -109,11 +107,11 @@ module _ (T : Table) (good : overTypes phase4 T ≡ none) where
   unfolding phase4 refBad
   good-refs t low high = not-false (refsOk T (recordAt T t)) (firstDue-none (phase4 T t) (overTypes-none T phase4 good t low high) .0)
 
-  phase5-chain : (a : Answer) → overTypes phase5 T ≡ some a → Chain T (a .t)
+  phase5-chain : (a : Answer) → overTypes phase5 T ≡ some a → Chain (heldBy T) (a .t)
   unfolding phase5
   phase5-chain a e =
       let d = overTypes-some T phase5 a e in
-      subst (Chain T) (sym (ap (λ (x : Answer). x .t) (d .says)))
+      subst (Chain (heldBy T)) (sym (ap (λ (x : Answer). x .t) (d .says)))
       (chain-at T good-refs (d .t) (d .low) (omega (arith, d .high)) (due-endless (d .n) (endless T (d .t)) (d .due)))
 
 -- the other phases have other numbers
@@ -143,7 +141,7 @@ module _ (b : List ℕ) (T : Table) (places work : ℕ) where
   not14-6 = overTypes-not14 phase6 T (λ t. (λ e. omega arith, tt))
 
 -- report 14 names a type from which a by-value chain can be followed for ever
-pub report-14 : (b : List ℕ) (places work : ℕ) (a : Answer) → refusal b places work ≡ some a → a .number ≡ 14 → Chain (tableOf b) (a .t)
+pub report-14 : (b : List ℕ) (places work : ℕ) (a : Answer) → refusal b places work ≡ some a → a .number ≡ 14 → Chain (heldBy (tableOf b)) (a .t)
 unfolding refusal tableReport
 report-14 b places work a e n =
     let T = tableOf b in
@@ -155,7 +153,7 @@ report-14 b places work a e n =
     go (overTypes phase5 T) refl (overTypes phase6 T) (not14-6 b T places work) (at5 .0) (at5 .1)
   where
     go : (o : Option Answer) → overTypes phase5 (tableOf b) ≡ o → (p : Option Answer) → Not14 p
-        → overTypes phase4 (tableOf b) ≡ none → orElse o p ≡ some a → Chain (tableOf b) (a .t)
+        → overTypes phase4 (tableOf b) ≡ none → orElse o p ≡ some a → Chain (heldBy (tableOf b)) (a .t)
     go none x (some y) h good q = absurd (h (ap number-in q ∙ n))
     go none x none h good q = absurd (some≢none (sym q))
     go (some y) x p h good q = phase5-chain (tableOf b) good a (x ∙ q)

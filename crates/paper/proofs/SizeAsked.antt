@@ -10,20 +10,23 @@ use borrow.Author.Tests.{le-leb, lt-ltb, leb-true, eqb-true}
 use lib.Dec.{leb, eqb}
 use lib.ListN.{length, getD}
 use Rattle.paper.proofs.Choices.{and-true}
-use Rattle.paper.proofs.Joining.{Good, good-whole}
+use Rattle.paper.proofs.Insides.{sound-refs, sound-ends}
+use Rattle.paper.proofs.Joining.{good-whole}
 use Rattle.paper.proofs.Places.{place-low, place-high, place-word}
 use Rattle.paper.proofs.Rows.{rowOf-every}
+use Rattle.paper.proofs.Tables.{order-bytesOf}
 use Rattle.paper.proofs.Sizes.{next, sizeBy-enough, next-inside, never-far}
 use Rattle.paper.specs.Answer.{Answer, report, value}
 use Rattle.paper.specs.Fit.{Fits}
-use Rattle.paper.specs.Header.{headerLength}
+use Rattle.paper.specs.Good.{Good}
+use Rattle.paper.specs.Header.{headerLength, orderOf}
 use Rattle.paper.specs.Kind.{Row, SizeRule, eight, sizeWord, countTimes, referent, noSize, rows, rowOf}
 use Rattle.paper.specs.KindNo.{ARRAY}
 use Rattle.paper.specs.Limits.{sizeLimit}
-use Rattle.paper.specs.Size.{Step, is, manyOf, sizeless, lost, Found, exactly, noneAt, lostAt, tooFar, stepBy, scale, goOn, sizeBy, stepIn, sizeFound, exactSize, stepAtPlace, stepAt, sizeAsked, sizeAnswer, sizeOf}
+use Rattle.paper.specs.Size.{Step, is, manyOf, sizeless, lost, Found, exactly, noneAt, lostAt, tooFar, stepBy, scale, goOn, sizeBy, stepIn, sizeFound, exactSize, answerOf, stepAtPlace, stepAt, sizeAsked, sizeAnswer, sizeOf}
 use Rattle.paper.specs.Table.{Record, Table, count, recordAt, kindIn, kindOf, tailLength, wordsOf}
 use Rattle.paper.specs.Walk.{known, bytesOf, placesOf}
-use Rattle.paper.specs.Word.{wordAt}
+use Rattle.paper.specs.Word.{Order, wordAt}
 
 -- ── the same steps, the same size ──
 
@@ -72,11 +75,6 @@ never-lost T (suc k) (suc t) =
     let r = recordAt T (suc t) in
     goOn-lost (rowOf (kindOf r) .size) (r .third) (getD (r .tail) 0 0) (getD (r .tail) 2 0) (λ (u : ℕ). sizeBy (stepIn T) k u) (never-lost T k)
 
--- how an exact size, or none, is answered
-abbrev pub answerOf : Option ℕ → Answer
-answerOf none = report 1 0
-answerOf (some s) = cond (leb s sizeLimit) (value s) (report 2 0)
-
 found-answer : (x : Found) → (x ≡ tooFar → ⊥) → isLost x ≡ 0 → sizeAnswer x ≡ answerOf (sizeFound x)
 found-answer (exactly s) f l = refl
 found-answer noneAt f l = refl
@@ -108,8 +106,11 @@ only-if : (t : Bool) {x : Bool} → (t ≡ true → x ≡ true) → not t || x �
 only-if true h = h refl
 only-if false h = refl
 
-module _ (T : Table) (g : Good T) (fits : Fits T) (index : List ℕ) (long : count T < length index)
+module _ (order : Order) (T : Table) (g : Good T) (fits : Fits T) (index : List ℕ) (long : count T < length index)
     (at : (t : ℕ) → t < count T → getD index (suc t) 0 ≡ getD (placesOf T) t 0) where
+  abbrev b : List ℕ
+  b = bytesOf order T
+
   module _ (t : ℕ) (h : t < count T) where
     abbrev r : Record
     r = recordAt T (suc t)
@@ -121,43 +122,43 @@ module _ (T : Table) (g : Good T) (fits : Fits T) (index : List ℕ) (long : cou
     unfolding tailLength
     tail-long c = let w = good-whole T g (suc t) (omega arith) h .whole-tail in omega arith
 
-    word : (j : ℕ) → j < length (wordsOf r) → wordAt (bytesOf T) (p + 4 * j) ≡ getD (wordsOf r) j 0
-    word j l = place-word T fits t h j l
+    word : (j : ℕ) → j < length (wordsOf r) → wordAt (orderOf b) b (p + 4 * j) ≡ getD (wordsOf r) j 0
+    word j l = ap (λ (o : Order). wordAt o b (p + 4 * j)) (order-bytesOf order T) ∙ place-word order T fits t h j l
 
-    inside-blob : (k : ℕ) → k ≤ 3 + length (r .tail) → p + 4 * k ≤ length (bytesOf T)
-    inside-blob k l = let e = place-high T t h in omega arith
+    inside-blob : (k : ℕ) → k ≤ 3 + length (r .tail) → p + 4 * k ≤ length b
+    inside-blob k l = let e = place-high order T t h in omega arith
 
-    step-at-place : stepAtPlace (bytesOf T) index p ≡ stepIn T (suc t)
+    step-at-place : stepAtPlace b index p ≡ stepIn T (suc t)
     unfolding stepAtPlace stepIn
     step-at-place =
         ap (λ (w : ℕ). cond
-        (leb headerLength p && leb (p + 12) (length (bytesOf T)) && known (kindIn w) && (not (eqb (kindIn w) ARRAY) || leb (p + 24) (length (bytesOf T))))
-        (stepBy (rowOf (kindIn w) .size) (wordAt (bytesOf T) (p + 8)) (wordAt (bytesOf T) (p + 12)) (wordAt (bytesOf T) (p + 20)))
+        (leb headerLength p && leb (p + 12) (length b) && known (kindIn w) && (not (eqb (kindIn w) ARRAY) || leb (p + 24) (length b)))
+        (stepBy (rowOf (kindIn w) .size) (wordAt (orderOf b) b (p + 8)) (wordAt (orderOf b) b (p + 12)) (wordAt (orderOf b) b (p + 20)))
         lost)
         (word 1 (omega arith))
-        ∙ ap (λ (b : Bool). cond b (stepBy (rowOf (kindOf r) .size) (wordAt (bytesOf T) (p + 8)) (wordAt (bytesOf T) (p + 12)) (wordAt (bytesOf T) (p + 20))) lost)
-        (and-true (and-true (and-true (le-leb headerLength p (place-low T t h)) (le-leb (p + 12) (length (bytesOf T)) (inside-blob 3 (omega arith))))
+        ∙ ap (λ (c : Bool). cond c (stepBy (rowOf (kindOf r) .size) (wordAt (orderOf b) b (p + 8)) (wordAt (orderOf b) b (p + 12)) (wordAt (orderOf b) b (p + 20))) lost)
+        (and-true (and-true (and-true (le-leb headerLength p (place-low T t h)) (le-leb (p + 12) (length b) (inside-blob 3 (omega arith))))
         (good-whole T g (suc t) (omega arith) h .known-kind))
-        (only-if (eqb (kindOf r) ARRAY) (λ e. le-leb (p + 24) (length (bytesOf T)) (array-inside (eqb-true (kindOf r) ARRAY e)))))
+        (only-if (eqb (kindOf r) ARRAY) (λ e. le-leb (p + 24) (length b) (array-inside (eqb-true (kindOf r) ARRAY e)))))
         ∙ stepBy-same (rowOf (kindOf r) .size) (length (rowOf (kindOf r) .once)) (rowOf-counts (kindOf r)) (word 2 (omega arith))
         (λ c. let l = tail-long c in (word 3 (omega arith), word 5 (omega arith)))
       where
-        array-inside : kindOf r ≡ ARRAY → p + 24 ≤ length (bytesOf T)
+        array-inside : kindOf r ≡ ARRAY → p + 24 ≤ length b
         array-inside e = inside-blob 6 (omega (arith, tail-long (unfold rowOf rows in omega (arith, ap (λ (k : ℕ). length (rowOf k .once)) e))))
 
-  step-at : (t : ℕ) → 1 ≤ t → t ≤ count T → stepAt (bytesOf T) index t ≡ stepIn T t
+  step-at : (t : ℕ) → 1 ≤ t → t ≤ count T → stepAt b index t ≡ stepIn T t
   unfolding stepAt
   step-at zero low high = absurd (omega arith)
   step-at (suc t) low high =
-      ap (λ (b : Bool). cond b (stepAtPlace (bytesOf T) index (getD index (suc t) 0)) lost) (lt-ltb (suc t) (length index) (omega arith))
-      ∙ ap (stepAtPlace (bytesOf T) index) (at t high)
+      ap (λ (c : Bool). cond c (stepAtPlace b index (getD index (suc t) 0)) lost) (lt-ltb (suc t) (length index) (omega arith))
+      ∙ ap (stepAtPlace b index) (at t high)
       ∙ step-at-place t high
 
   -- the size question of an accepted table's blob and an index with its places is answered by the exact size
-  pub sizeOf-exact : (t : ℕ) → t ≤ count T → sizeOf (bytesOf T) index t ≡ answerOf (exactSize T t)
+  pub sizeOf-exact : (t : ℕ) → t ≤ count T → sizeOf b index t ≡ answerOf (exactSize T t)
   unfolding sizeOf sizeAsked exactSize
   sizeOf-exact t h =
       ap sizeAnswer
-      (sizeBy-same (stepAt (bytesOf T) index) (stepIn T) (count T) step-at (next-inside T (g .sound .refs)) (length index) t h
-      ∙ sizeBy-enough (stepIn T) {k = count T} {m = length index} t (omega arith) (never-far T (g .sound .ends) t h))
-      ∙ found-answer (sizeBy (stepIn T) (count T) t) (never-far T (g .sound .ends) t h) (never-lost T (count T) t)
+      (sizeBy-same (stepAt b index) (stepIn T) (count T) step-at (next-inside T (sound-refs (g .sound))) (length index) t h
+      ∙ sizeBy-enough (stepIn T) {k = count T} {m = length index} t (omega arith) (never-far T (sound-ends (g .sound)) t h))
+      ∙ found-answer (sizeBy (stepIn T) (count T) t) (never-far T (sound-ends (g .sound)) t h) (never-lost T (count T) t)

@@ -118,20 +118,20 @@ step-held T t ne =
 
 -- ── a size that is never reached is a walk ──
 
-pub far-walks : (T : Table) (k t : ℕ) → sizeBy (stepIn T) k t ≡ tooFar → walks T k t ≡ true
+pub far-walks : (T : Table) (k t : ℕ) → sizeBy (stepIn T) k t ≡ tooFar → walks (heldBy T) k t ≡ true
 far-walks T zero t e = refl
 far-walks T (suc k) zero e = let z = far e in absurd (omega arith)
 far-walks T (suc k) (suc t) e = go (stepIn T (suc t)) refl e (far-walks T k)
   where
     go : (s : Step) → stepIn T (suc t) ≡ s → goOn s (λ (u : ℕ). sizeBy (stepIn T) k u) ≡ tooFar
-        → ((u : ℕ) → sizeBy (stepIn T) k u ≡ tooFar → walks T k u ≡ true) → walks T (suc k) (suc t) ≡ true
+        → ((u : ℕ) → sizeBy (stepIn T) k u ≡ tooFar → walks (heldBy T) k u ≡ true) → walks (heldBy T) (suc k) (suc t) ≡ true
     go (is s) p q on = let z = far q in absurd (omega arith)
     go sizeless p q on = let z = far q in absurd (omega arith)
     go lost p q on = let z = far q in absurd (omega arith)
     go (manyOf n u) p q on =
         let x = scale-far n (sizeBy (stepIn T) k u) q in
         let ne : u ≡ 0 → ⊥ = λ v. let z = far (sym (ap (sizeBy (stepIn T) k) v ∙ sizeBy-void (stepIn T) k) ∙ x) in omega arith in
-        any-holds (walks T k) u (subst (λ (w : ℕ). List·Memᴰ w (heldBy T (suc t))) (ap next p) (step-held T (suc t) (λ v. ne (sym (ap next p) ∙ v)))) (on u x)
+        any-holds (walks (heldBy T) k) u (subst (λ (w : ℕ). List·Memᴰ w (heldBy T (suc t))) (ap next p) (step-held T (suc t) (λ v. ne (sym (ap next p) ∙ v)))) (on u x)
 
 -- ── in a table whose references and chains are good ──
 

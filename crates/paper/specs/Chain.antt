@@ -1,7 +1,8 @@
--- Report 14: by-value references, and walks over them.
+-- Report 14: by-value references, walks over references of any sort, and chains that are followed for ever.
 use Prim.Native.Nat.{ℕ, zero, suc}
+use mathlib.Core.Path.{_≡_}
 use mathlib.Core.Bool.{Bool, true, cond}
-use mathlib.Core.List.{List, [], _∷_}
+use mathlib.Core.List.{List, [], _∷_, List·Memᴰ}
 use lib.Dec.{eqb}
 use Rattle.paper.specs.Choice.{any}
 use Rattle.paper.specs.Kind.{Role, names, refers, holds, number}
@@ -23,11 +24,17 @@ heldIn (ρ ∷ ρs) (w ∷ ws) = heldWord ρ w (heldIn ρs ws)
 unfoldable pub heldBy : Table → ℕ → List ℕ
 heldBy T t = heldIn (rolesOf (recordAt T t)) (wordsOf (recordAt T t))
 
--- a by-value walk of m steps from t exists
-abbrev pub walks : Table → ℕ → ℕ → Bool
-walks T zero t = true
-walks T (suc m) t = any (walks T m) (heldBy T t)
+-- a walk of m steps from t exists, where `step` gives the types that a type leads to
+abbrev pub walks : (ℕ → List ℕ) → ℕ → ℕ → Bool
+walks step zero t = true
+walks step (suc m) t = any (walks step m) (step t)
+
+-- a chain that is followed for ever: each type leads to the next
+pub record Chain (step : ℕ → List ℕ) (first : ℕ) : Type 0 where
+  pub at : ℕ → ℕ
+  pub starts : at 0 ≡ first
+  pub goes-on : (i : ℕ) → List·Memᴰ (at (suc i)) (step (at i))
 
 -- "the smallest type from which a by-value walk of n steps exists"
 unfoldable pub endless : Table → ℕ → Bool
-endless T t = walks T (count T) t
+endless T t = walks (heldBy T) (count T) t

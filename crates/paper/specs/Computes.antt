@@ -3,7 +3,7 @@ use Rattle.paper.specs.Answer.{reportAsPaper, checkedAsPaper, sizedAsPap
 use Rattle.paper.specs.Word.{wordAt, putWord}
 use Rattle.paper.specs.Kind.{rows, rowOf}
 use Rattle.paper.specs.Table.{tailLength, tailRoles}
-use Rattle.paper.specs.Header.{typeOff, typeLen, strOff, strLen, stringsIn, lengthBad, openingBad, headerLengthBad, sectionsBad, stringsBad, headerReport}
+use Rattle.paper.specs.Header.{orderOf, typeOff, typeLen, strOff, strLen, stringsIn, lengthBad, openingBad, headerLengthBad, sectionsBad, stringsBad, headerReport}
 use Rattle.paper.specs.Walk.{walkRecord, typeWords, walk, tableOf, bytesOf, placesOf}
 use Rattle.paper.specs.Name.{nameIn, nameless, nameAt, isDigit, isLetter, isSectionName}
 use Rattle.paper.specs.Heads.{spareZero, headOk, headBad}
@@ -20,7 +20,7 @@ use Rattle.paper.specs.Rename.{rename}
 use Rattle.paper.specs.Join.{joinTables, joinedBytes, limitReport, joinRefusal, join}
 
 unfoldable pub computes : Unit {0}
-unfolding reportAsPaper checkedAsPaper sizedAsPaper joinedAsPaper wordAt putWord rows rowOf tailLength tailRoles typeOff typeLen strOff
+unfolding reportAsPaper checkedAsPaper sizedAsPaper joinedAsPaper wordAt putWord rows rowOf tailLength tailRoles orderOf typeOff typeLen strOff
     strLen stringsIn lengthBad openingBad headerLengthBad sectionsBad stringsBad headerReport walkRecord typeWords walk tableOf
     bytesOf placesOf nameIn nameless nameAt isDigit isLetter isSectionName spareZero headOk headBad nameOk namesOk nameBad intWordOk
     linkageWordOk isLast00 tailOk tailBad isPlain refOk refsOk refBad heldBy endless stepIn exactSize hasSize smallSize hasSmallSize

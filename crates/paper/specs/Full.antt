@@ -1,14 +1,15 @@
 -- Joins with slices of full size, which grouping and neutrality speak of: the bytes handed back, or nothing where a join refuses.
 use Prim.Native.Nat.{ℕ}
-use mathlib.Core.Bool.{cond}
+use mathlib.Core.Bool.{Bool, cond, _&&_}
 use mathlib.Core.List.{List, [], _∷_}
 use mathlib.Core.Option.{Option, none, some}
-use lib.Dec.{eqb}
+use lib.Dec.{eqb, leb}
 use lib.ListN.{take}
 use Rattle.paper.specs.Join.{JoinOutcome, join}
-use Rattle.paper.specs.Limits.{fullPlaces}
-use Rattle.paper.specs.Table.{Table}
-use Rattle.paper.specs.Walk.{bytesOf}
+use Rattle.paper.specs.Limits.{typeLimit, byteLimit, fullPlaces}
+use Rattle.paper.specs.Table.{Table, count}
+use Rattle.paper.specs.Walk.{blobLength, bytesOf}
+use Rattle.paper.specs.Word.{Order}
 
 abbrev pub handed : JoinOutcome → Option (List ℕ)
 handed j = cond (eqb (j .answer .number) 0) (some (take (j .answer .p) (j .output))) none
@@ -26,5 +27,9 @@ andThen (some b) next = next b
 abbrev pub emptyTable : Table
 emptyTable = record { records = []; strings = 0 ∷ [] }
 
-unfoldable pub emptyBlob : List ℕ
-emptyBlob = bytesOf emptyTable
+unfoldable pub emptyBlob : Order → List ℕ
+emptyBlob order = bytesOf order emptyTable
+
+-- a table that the limits allow
+abbrev pub withinLimits : Table → Bool
+withinLimits T = leb (count T) typeLimit && leb (blobLength T) byteLimit

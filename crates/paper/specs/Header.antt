@@ -5,29 +5,40 @@ use mathlib.Core.List.{List, [], _∷_}
 use mathlib.Core.Option.{Option}
 use lib.Dec.{ltb, eqb}
 use lib.ListN.{length, getD, take, drop}
-use Rattle.paper.specs.Choice.{differ, same, _when_, firstDue}
+use Rattle.paper.specs.Choice.{differ, same, Rule, _when_, firstDue}
 use Rattle.paper.specs.Limits.{byteLimit}
-use Rattle.paper.specs.Word.{wordAt}
+use Rattle.paper.specs.Word.{Order, lowFirst, wordAt}
 
 abbrev pub headerLength : ℕ
 headerLength = 24
 
--- magic 9F EB, version 1, flags 0
-abbrev pub opening : List ℕ
-opening = 0x9f ∷ 0xeb ∷ 1 ∷ 0 ∷ []
+-- the two bytes of the magic, 9F EB
+abbrev pub magicFirst : Order → ℕ
+magicFirst lowFirst = 0x9f
+
+abbrev pub magicSecond : Order → ℕ
+magicSecond lowFirst = 0xeb
+
+-- magic, version 1, flags 0
+abbrev pub opening : Order → List ℕ
+opening order = magicFirst order ∷ magicSecond order ∷ 1 ∷ 0 ∷ []
+
+-- the byte order of a blob's words: low byte first, whatever the blob is
+unfoldable pub orderOf : List ℕ → Order
+orderOf b = lowFirst
 
 module _ (b : List ℕ) where
   unfoldable pub typeOff : ℕ
-  typeOff = wordAt b 8
+  typeOff = wordAt (orderOf b) b 8
 
   unfoldable pub typeLen : ℕ
-  typeLen = wordAt b 12
+  typeLen = wordAt (orderOf b) b 12
 
   unfoldable pub strOff : ℕ
-  strOff = wordAt b 16
+  strOff = wordAt (orderOf b) b 16
 
   unfoldable pub strLen : ℕ
-  strLen = wordAt b 20
+  strLen = wordAt (orderOf b) b 20
 
   unfoldable pub stringsIn : List ℕ
   stringsIn = drop (headerLength + typeLen) b
@@ -38,11 +49,11 @@ module _ (b : List ℕ) where
 
   -- 2: "first four bytes are not 9F EB 01 00"
   unfoldable pub openingBad : Bool
-  openingBad = not (same (take 4 b) opening)
+  openingBad = not (same (take 4 b) (opening (orderOf b)))
 
   -- 3: "header length is not 24"
   unfoldable pub headerLengthBad : Bool
-  headerLengthBad = differ (wordAt b 4) headerLength
+  headerLengthBad = differ (wordAt (orderOf b) b 4) headerLength
 
   -- 4: "type_off not 0, type_len not a multiple of 4, str_off not type_len, or 24 + type_len + str_len (exact sum) not the blob's length"
   unfoldable pub sectionsBad : Bool
@@ -56,13 +67,16 @@ module _ (b : List ℕ) where
   unfoldable pub stringsBad : Bool
   stringsBad = eqb strLen 0 || differ (getD stringsIn 0 0) 0 || differ (getD stringsIn (strLen - 1) 0) 0
 
-  -- "in phase 1 the smallest number"
-  unfoldable pub headerReport : Option ℕ
-  headerReport =
-      firstDue
-      (1 when lengthBad
+  -- the rules of phase 1, smallest number first
+  abbrev pub headerRules : List Rule
+  headerRules =
+      1 when lengthBad
       ∷ 2 when openingBad
       ∷ 3 when headerLengthBad
       ∷ 4 when sectionsBad
       ∷ 5 when stringsBad
-      ∷ [])
+      ∷ []
+
+  -- "in phase 1 the smallest number"
+  unfoldable pub headerReport : Option ℕ
+  headerReport = firstDue headerRules

@@ -7,6 +7,7 @@ use lib.ListN.{length, drop}
 use Rattle.paper.specs.Answer.{Answer, value, inside}
 use Rattle.paper.specs.Choice.{_when_, firstDue, orElse}
 use Rattle.paper.specs.Gate.{refusal, naming, zeros}
+use Rattle.paper.specs.Header.{orderOf}
 use Rattle.paper.specs.Limits.{typeLimit, byteLimit}
 use Rattle.paper.specs.Rename.{rename, raise}
 use Rattle.paper.specs.Table.{Record, Table, count}
@@ -29,7 +30,7 @@ refusedInside number none = none
 refusedInside number (some a) = some (inside number a)
 
 unfoldable pub joinedBytes : List ℕ → List ℕ → List ℕ
-joinedBytes a b = bytesOf (joinTables (tableOf a) (tableOf b))
+joinedBytes a b = bytesOf (orderOf a) (joinTables (tableOf a) (tableOf b))
 
 -- 18, 19, 20: "over 4,096 types together; joined length over 65,536; output shorter than that length; in that order"
 unfoldable pub limitReport : List ℕ → List ℕ → ℕ → Option Answer

@@ -23,3 +23,4 @@ pub mod Join
 pub mod Full
 pub mod Computes
 pub mod Fit
+pub mod Good

@@ -7,7 +7,7 @@ use lib.Dec.{leb, ltb, eqb}
 use lib.ListN.{length, getD}
 use Rattle.paper.specs.Answer.{Answer, report, value}
 use Rattle.paper.specs.Choice.{isSome}
-use Rattle.paper.specs.Header.{headerLength}
+use Rattle.paper.specs.Header.{headerLength, orderOf}
 use Rattle.paper.specs.Kind.{SizeRule, eight, sizeWord, countTimes, referent, noSize, rowOf}
 use Rattle.paper.specs.KindNo.{ARRAY}
 use Rattle.paper.specs.Limits.{sizeLimit}
@@ -91,13 +91,13 @@ hasSmallSize T t = isSome (smallSize T t)
 module _ (b index : List ℕ) where
   unfoldable pub stepAtPlace : ℕ → Step
   stepAtPlace p =
-      let kind = kindIn (wordAt b (p + 4)) in
+      let kind = kindIn (wordAt (orderOf b) b (p + 4)) in
       cond
       (leb headerLength p
       && leb (p + 12) (length b)
       && known kind
       && (not (eqb kind ARRAY) || leb (p + 24) (length b)))
-      (stepBy (rowOf kind .size) (wordAt b (p + 8)) (wordAt b (p + 12)) (wordAt b (p + 20)))
+      (stepBy (rowOf kind .size) (wordAt (orderOf b) b (p + 8)) (wordAt (orderOf b) b (p + 12)) (wordAt (orderOf b) b (p + 20)))
       lost
 
   unfoldable pub stepAt : ℕ → Step
@@ -107,10 +107,15 @@ module _ (b index : List ℕ) where
   unfoldable pub sizeAsked : ℕ → Found
   sizeAsked t = sizeBy stepAt (length index) t
 
--- how it is answered: "Above 4,294,967,295: overflow"
+-- how an exact size, or its lack, is answered: "Above 4,294,967,295: overflow"
+abbrev pub answerOf : Option ℕ → Answer
+answerOf none = report 1 0
+answerOf (some s) = cond (leb s sizeLimit) (value s) (report 2 0)
+
+-- how what a walk finds is answered
 abbrev pub sizeAnswer : Found → Answer
-sizeAnswer (exactly s) = cond (leb s sizeLimit) (value s) (report 2 0)
-sizeAnswer noneAt = report 1 0
+sizeAnswer (exactly s) = answerOf (some s)
+sizeAnswer noneAt = answerOf none
 sizeAnswer lostAt = report 21 0
 sizeAnswer tooFar = report 22 0
 

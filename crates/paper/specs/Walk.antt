@@ -4,11 +4,11 @@ use mathlib.Core.Bool.{Bool, cond, _&&_}
 use mathlib.Core.List.{List, [], _∷_, _++_}
 use lib.Dec.{leb}
 use lib.ListN.{length, take, drop}
-use Rattle.paper.specs.Header.{headerLength, opening, typeLen, stringsIn}
+use Rattle.paper.specs.Header.{headerLength, opening, orderOf, typeLen, stringsIn}
 use Rattle.paper.specs.KindNo.{INT, ENUM64}
 use Rattle.paper.specs.Limits.{typeLimit}
 use Rattle.paper.specs.Table.{Record, Table, kindIn, tailLength, wordsOf}
-use Rattle.paper.specs.Word.{words, bytesOfWords}
+use Rattle.paper.specs.Word.{Order, words, bytesOfWords}
 
 -- what a walk of the type section finds: its records, or a report's number and the record that it names
 pub data Walked : Type 0 where
@@ -44,7 +44,7 @@ walkFrom (suc room) k (n ∷ i ∷ t ∷ ws) = walkRecord (λ (left : List ℕ).
 
 -- the words of a blob's type section, and its walk
 unfoldable pub typeWords : List ℕ → List ℕ
-typeWords b = words (take (typeLen b) (drop headerLength b))
+typeWords b = words (orderOf b) (take (typeLen b) (drop headerLength b))
 
 unfoldable pub walk : List ℕ → Walked
 walk b = walkFrom typeLimit 1 (typeWords b)
@@ -66,13 +66,17 @@ flat (r ∷ rs) = wordsOf r ++ flat rs
 abbrev pub typeLenOf : List Record → ℕ
 typeLenOf rs = 4 * length (flat rs)
 
--- the blob that holds a table: header, records, strings
-unfoldable pub bytesOf : Table → List ℕ
-bytesOf T =
+-- how long the blob is that holds a table, in any order
+abbrev pub blobLength : Table → ℕ
+blobLength T = headerLength + typeLenOf (T .records) + length (T .strings)
+
+-- the blob that holds a table, its words in an order: header, records, strings
+unfoldable pub bytesOf : Order → Table → List ℕ
+bytesOf order T =
     let n = typeLenOf (T .records) in
-    opening
-    ++ bytesOfWords (headerLength ∷ 0 ∷ n ∷ n ∷ length (T .strings) ∷ [])
-    ++ bytesOfWords (flat (T .records))
+    opening order
+    ++ bytesOfWords order (headerLength ∷ 0 ∷ n ∷ n ∷ length (T .strings) ∷ [])
+    ++ bytesOfWords order (flat (T .records))
     ++ T .strings
 
 -- "place k the byte place of record k in the blob"

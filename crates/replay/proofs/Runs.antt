@@ -7,7 +7,7 @@ use mathlib.Core.Logic.{_⊎_, inl, inr}
 use borrow.Author.Tests.{ne-eqb}
 use Rattle.paper.specs.Name.{nameAt}
 use Rattle.paper.specs.Size.{sizeOf}
-use Rattle.paper.specs.Word.{words}
+use Rattle.paper.specs.Word.{lowFirst, words}
 use Rattle.replay.specs.Case.{named, seenWith}
 use Rattle.replay.specs.Run.{lentPlaces, lentBytes, runOf}
 use Rattle.replay.specs.declared.cases.Head.{Head}
@@ -26,7 +26,7 @@ module _ (h : Head) (a b : List ℕ) (index work output : ℕ) where
       rw (ne-eqb _ _ two, ne-eqb _ _ three, ne-eqb _ _ (λ e. waits (inl e)), ne-eqb _ _ (λ e. waits (inr e))) refl
 
   -- the slices are filled, and the index is the words of b
-  pub run-size : {seen : Seen} {given i w o : List ℕ} → h .op ≡ 2 → seen ≡ seenWith (sizeOf a given (h .x)) i w o → given ≡ words b → i ≡ lentPlaces index → w ≡ lentPlaces work → o ≡ lentBytes output → Saw seen ≡ runOf h a b index work output
+  pub run-size : {seen : Seen} {given i w o : List ℕ} → h .op ≡ 2 → seen ≡ seenWith (sizeOf a given (h .x)) i w o → given ≡ words lowFirst b → i ≡ lentPlaces index → w ≡ lentPlaces work → o ≡ lentBytes output → Saw seen ≡ runOf h a b index work output
   unfolding runOf
   run-size op e g ei ew eo = rw (op, e, g, ei, ew, eo) refl
 

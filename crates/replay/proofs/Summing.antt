@@ -7,7 +7,7 @@ use native.Mathlib.Numerals.{add-one}
 use native.Mathlib.Omega.{arith}
 use lib.ListN.{length, getD, drop}
 use lib.Seq.{drop-cons, drop-length}
-use Rattle.paper.specs.Word.{wordBytes, bytesOfWords}
+use Rattle.paper.specs.Word.{lowFirst, wordBytes, bytesOfWords}
 use Rattle.replay.specs.Sum.{afterByte, sumFrom, sumOf}
 
 -- a sum, and the sum that it comes to with the bytes that are left
@@ -29,7 +29,7 @@ summing-byte s i h g small e =
     record { small = small; comes = rw (e, add-one) (rw (drop-cons s i 0) at (g .comes)) }
 
 -- one place more of a slice
-pub summing-place : {all sum next : ℕ} (s : List ℕ) (i : ℕ) → i < length s → Summing all sum (bytesOfWords (drop i s)) → next < 4294967291 → next ≡ sumFrom sum (wordBytes (getD s i 0)) → Summing all next (bytesOfWords (drop (i + 1) s))
+pub summing-place : {all sum next : ℕ} (s : List ℕ) (i : ℕ) → i < length s → Summing all sum (bytesOfWords lowFirst (drop i s)) → next < 4294967291 → next ≡ sumFrom sum (wordBytes lowFirst (getD s i 0)) → Summing all next (bytesOfWords lowFirst (drop (i + 1) s))
 summing-place s i h g small e =
     record { small = small; comes = rw (e, add-one) (rw (drop-cons s i 0) at (g .comes)) }
 

@@ -6,7 +6,7 @@ use lib.Dec.{eqb}
 use lib.ListN.{length}
 use Rattle.paper.specs.Answer as paper
 use Rattle.paper.specs.Name.{nameless, nameAt}
-use Rattle.paper.specs.Word.{wordAt, bytesOfWords}
+use Rattle.paper.specs.Word.{lowFirst, wordAt, bytesOfWords}
 use Rattle.replay.specs.Sum.{sumOf}
 use Rattle.replay.specs.declared.cases.Head.{Head}
 use Rattle.replay.specs.declared.cases.Seen.{Seen}
@@ -18,32 +18,32 @@ use Rattle.replay.specs.declared.ops.Answer.{Answer}
 abbrev pub headOf : List ℕ → Head
 headOf s =
     record {
-      op = wordAt s 0;
-      index = wordAt s 4;
-      work = wordAt s 8;
-      output = wordAt s 12;
-      x = wordAt s 16;
-      y = wordAt s 20;
-      a = wordAt s 24;
-      b = wordAt s 28;
+      op = wordAt lowFirst s 0;
+      index = wordAt lowFirst s 4;
+      work = wordAt lowFirst s 8;
+      output = wordAt lowFirst s 12;
+      x = wordAt lowFirst s 16;
+      y = wordAt lowFirst s 20;
+      a = wordAt lowFirst s 24;
+      b = wordAt lowFirst s 28;
     }
 
 -- "number, inner, t, p, index sum, work sum, output sum"
 abbrev pub seenOf : List ℕ → Seen
 seenOf s =
     record {
-      number = wordAt s 0;
-      inner = wordAt s 4;
-      t = wordAt s 8;
-      p = wordAt s 12;
-      index = wordAt s 16;
-      work = wordAt s 20;
-      output = wordAt s 24;
+      number = wordAt lowFirst s 0;
+      inner = wordAt lowFirst s 4;
+      t = wordAt lowFirst s 8;
+      p = wordAt lowFirst s 12;
+      index = wordAt lowFirst s 16;
+      work = wordAt lowFirst s 20;
+      output = wordAt lowFirst s 24;
     }
 
 -- "53 43 52 56, version 1, the number of cases"
 abbrev pub openingOf : List ℕ → Opening
-openingOf s = cond (eqb (wordAt s 0) 1448231763 && eqb (wordAt s 4) 1) (Cases (wordAt s 8)) Foreign
+openingOf s = cond (eqb (wordAt lowFirst s 0) 1448231763 && eqb (wordAt lowFirst s 4) 1) (Cases (wordAt lowFirst s 8)) Foreign
 
 -- all seven numbers are equal
 abbrev pub sameSeen : Seen → Seen → Bool
@@ -76,7 +76,7 @@ seenWith r index work output =
       inner = r .inner;
       t = r .t;
       p = r .p;
-      index = sumOf (bytesOfWords index);
-      work = sumOf (bytesOfWords work);
+      index = sumOf (bytesOfWords lowFirst index);
+      work = sumOf (bytesOfWords lowFirst work);
       output = sumOf output;
     }

@@ -6,7 +6,7 @@ use lib.Dec.{eqb}
 use lib.ListN.{replicate}
 use Rattle.paper.specs.Name.{nameAt}
 use Rattle.paper.specs.Size.{sizeOf}
-use Rattle.paper.specs.Word.{words}
+use Rattle.paper.specs.Word.{lowFirst, words}
 use Rattle.replay.specs.Case.{named, sameSeen, seenWith}
 use Rattle.replay.specs.declared.cases.Head.{Head}
 use Rattle.replay.specs.declared.cases.Seen.{Seen}
@@ -24,7 +24,7 @@ lentBytes n = replicate n 165
 
 -- "size of type x in a, b is the index as u32 places"
 abbrev pub sizeSeen : Head → List ℕ → List ℕ → ℕ → ℕ → ℕ → Seen
-sizeSeen h a b index work output = seenWith (sizeOf a (words b) (h .x)) (lentPlaces index) (lentPlaces work) (lentBytes output)
+sizeSeen h a b index work output = seenWith (sizeOf a (words lowFirst b) (h .x)) (lentPlaces index) (lentPlaces work) (lentBytes output)
 
 -- "name in a at offset x", "the output sum is the part's"
 abbrev pub nameSeen : Head → List ℕ → ℕ → ℕ → Seen

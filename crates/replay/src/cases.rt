@@ -2,7 +2,7 @@
 use libc::STDIN_FILENO;
 use paper::Place;
 ghost use mathlib.Core.Path.{_≡_};
-ghost use Rattle.paper.specs.Word.{wordAt};
+ghost use Rattle.paper.specs.Word.{lowFirst, wordAt};
 ghost use Rattle.replay.specs.Case.{headOf, seenOf, openingOf, sameSeen};
 
 // The op, the places and bytes that are lent, the two numbers that are passed, and the lengths of a and b.
@@ -46,7 +46,7 @@ pub(crate) enum Opening {
 }
 
 fn word(s: &[u8], at: u32) -> u32
-    ensures { λ r. ⌜ r ≡ wordAt (now (s .entry)) at ⌝ }
+    ensures { λ r. ⌜ r ≡ wordAt lowFirst (now (s .entry)) at ⌝ }
 {
     words::read(s, Place(at))
 }

@@ -3,7 +3,7 @@ use paper::Place;
 ghost use mathlib.Core.Path.{_≡_};
 ghost use Prim.Native.Nat.{_*_, _/_, _≤_, _<_};
 ghost use lib.ListN.{length, replicate};
-ghost use Rattle.paper.specs.Word.{bytesOfWords, wordBytes, words};
+ghost use Rattle.paper.specs.Word.{lowFirst, bytesOfWords, wordBytes, words};
 ghost use Rattle.replay.specs.Sum.{sumFrom, sumOf, afterByte};
 
 // The sum of no bytes.
@@ -20,7 +20,7 @@ fn add(sum: u64, byte: u64) -> u64
 // The sum after the four bytes of a place, low byte first.
 fn add_place(sum: u64, place: u32) -> u64
     requires { ⌜ sum < 4294967291 ⌝ }
-    ensures { λ r. ⌜ (r < 4294967291) × (r ≡ sumFrom sum (wordBytes place)) ⌝ }
+    ensures { λ r. ⌜ (r < 4294967291) × (r ≡ sumFrom sum (wordBytes lowFirst place)) ⌝ }
 {
     let w = place as u64;
     let s = add(sum, w % 256);
@@ -42,7 +42,7 @@ pub(crate) fn of_bytes(s: &[u8]) -> u32
 }
 
 pub(crate) fn of_places(s: &[u32]) -> u32
-    ensures { λ r. ⌜ r ≡ sumOf (bytesOfWords (now (s .entry))) ⌝ }
+    ensures { λ r. ⌜ r ≡ sumOf (bytesOfWords lowFirst (now (s .entry))) ⌝ }
 {
     let mut sum = START;
     let mut i = 0;
@@ -76,7 +76,7 @@ pub(crate) fn fill_bytes(s: &mut [u8])
 // The places that bytes stand for, low byte first.
 pub(crate) fn places(b: &[u8], s: &mut [u32])
     requires { ⌜ length (now s) ≡ length (now b) / 4 ⌝ }
-    ensures { λ r. ⌜ now (s .exit) ≡ words (now (b .entry)) ⌝ }
+    ensures { λ r. ⌜ now (s .exit) ≡ words lowFirst (now (b .entry)) ⌝ }
 {
     let mut i = 0;
     let mut at = 0;

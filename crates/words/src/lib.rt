@@ -6,18 +6,18 @@ use paper::TypeNo;
 ghost use mathlib.Core.Path.{_≡_};
 ghost use Prim.Native.Nat.{_%_};
 ghost use Rattle.paper.specs.Rename.{raise};
-ghost use Rattle.paper.specs.Word.{wordOf, wordAt, putWord};
+ghost use Rattle.paper.specs.Word.{lowFirst, wordOf, wordAt, putWord};
 
 // The word of four bytes.
 fn compose(a: u8, b: u8, c: u8, d: u8) -> u32
-    ensures { λ r. ⌜ r ≡ wordOf a b c d ⌝ }
+    ensures { λ r. ⌜ r ≡ wordOf lowFirst a b c d ⌝ }
 {
     (a as u32) + (b as u32) * 256 + (c as u32) * 65536 + (d as u32) * 16777216
 }
 
 // The word at a place.
 pub fn read(b: &[u8], at: Place) -> u32
-    ensures { λ r. ⌜ r ≡ wordAt (now (b .entry)) (at .0) ⌝ }
+    ensures { λ r. ⌜ r ≡ wordAt lowFirst (now (b .entry)) (at .0) ⌝ }
 {
     let p = at.0 as usize;
     if b.len() < p + 4 {
@@ -28,7 +28,7 @@ pub fn read(b: &[u8], at: Place) -> u32
 
 // The word is put at a place.
 pub fn write(b: &mut [u8], at: Place, w: u32)
-    ensures { λ r. ⌜ now (b .exit) ≡ putWord (now (b .entry)) (at .0) w ⌝ }
+    ensures { λ r. ⌜ now (b .exit) ≡ putWord lowFirst (now (b .entry)) (at .0) w ⌝ }
 {
     let p = at.0 as usize;
     if b.len() < p + 4 {

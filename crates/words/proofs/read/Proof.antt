@@ -3,6 +3,7 @@
 use mathlib.Core.Path.{sym, _∙_}
 use native.Mathlib.Omega.{arith}
 use denote.Ref.{now}
+use Rattle.paper.specs.Word.{lowFirst}
 use Rattle.paper.proofs.Words.{wordAt-inside, wordAt-outside}
 use borrow.Author.Needs.{needs}
 use Rattle.words.proofs.read.Statement.{statement}
@@ -15,7 +16,7 @@ add-if1 : tie.Need-add-if1
 add-if1 c = search needs
 
 returns : tie.Need-returns
-returns c = let a = c .before .before .before .args in sym (wordAt-outside (now (a .b)) (a .at .0) (c .if1 .taken))
+returns c = let a = c .before .before .before .args in sym (wordAt-outside lowFirst (now (a .b)) (a .at .0) (c .if1 .taken))
 
 shared-slice-read-compose : tie.Need-shared-slice-read-compose
 shared-slice-read-compose c = search needs
@@ -44,7 +45,7 @@ compose-requires c κs = search needs
 returns-2 : tie.Need-returns-2
 returns-2 c =
     let a = c .before .before .before .before .before .before .before .before .args in
-    c .compose .ensures ∙ sym (wordAt-inside (now (a .b)) (a .at .0) (omega arith))
+    c .compose .ensures ∙ sym (wordAt-inside lowFirst (now (a .b)) (a .at .0) (omega arith))
 
 pub read-spec : {M : Type 1} → statement M
 read-spec =

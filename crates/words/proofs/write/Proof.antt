@@ -4,7 +4,8 @@ use mathlib.Core.Path.{sym}
 use native.Mathlib.Omega.{arith}
 use denote.Ref.{now}
 use lib.ListN.{length-set}
-use Rattle.paper.proofs.Words.{putWord-outside, putWord-stores}
+use Rattle.paper.specs.Word.{lowFirst}
+use Rattle.paper.proofs.Words.{putWord-outside, putWord-low}
 use borrow.Author.Needs.{needs}
 use Rattle.words.proofs.write.Statement.{statement}
 use Rattle.words.proofs.write.Tie as tie
@@ -16,7 +17,7 @@ add-if1 : tie.Need-add-if1
 add-if1 c = search needs
 
 returns : tie.Need-returns
-returns c = let a = c .before .before .args in sym (putWord-outside (now (a .b)) (a .at .0) (a .w) (c .if1 .taken))
+returns c = let a = c .before .before .args in sym (putWord-outside lowFirst (now (a .b)) (a .at .0) (a .w) (c .if1 .taken))
 
 cast-b : tie.Need-cast-b
 cast-b c = search needs
@@ -55,7 +56,7 @@ same-length : tie.Need-same-length
 same-length c = search needs
 
 returns-2 : tie.Need-returns-2
-returns-2 c = let a = c .before .before .args in putWord-stores (now (a .b)) (a .at .0) (a .w) (omega arith)
+returns-2 c = let a = c .before .before .args in putWord-low (now (a .b)) (a .at .0) (a .w) (omega arith)
 
 pub write-spec : {M : Type 1} → statement M
 write-spec =

@@ -3,7 +3,7 @@
 use Prim.Native.Nat.{ℕ}
 use mathlib.Core.Path.{ap}
 use Rattle.paper.specs.Choice.{differ}
-use Rattle.paper.specs.Header.{headerLengthBad}
+use Rattle.paper.specs.Header.{orderOf, headerLengthBad}
 use borrow.Author.Needs.{needs}
 use Rattle.gate.proofs.header.header_length_bad.Statement.{statement}
 use Rattle.gate.proofs.header.header_length_bad.Tie as tie
@@ -12,7 +12,7 @@ read-requires : tie.Need-read-requires
 read-requires c κs = search needs
 
 returns : tie.Need-returns
-unfolding headerLengthBad
+unfolding orderOf headerLengthBad
 returns c = ap (λ (w : ℕ). differ w 24) (c .read .ensures)
 
 pub header-length-bad-spec : {M : Type 1} → statement M

@@ -1,7 +1,7 @@
 -- `gate::header::read` meets its contract: the first of the five tests that fails is the report.
 -- Assumes nothing.
 use Rattle.paper.specs.Answer.{reportAsPaper}
-use Rattle.paper.specs.Header.{typeLen, strLen}
+use Rattle.paper.specs.Header.{orderOf, typeLen, strLen}
 use Rattle.gate.proofs.Headers.{tells, phase1-length, phase1-opening, phase1-header, phase1-sections, phase1-strings, phase1-silent}
 use borrow.Author.Needs.{needs}
 use Rattle.gate.proofs.header.read.Statement.{statement}
@@ -77,7 +77,7 @@ read-requires-2 : tie.Need-read-requires-2
 read-requires-2 c κs = search needs
 
 returns-6 : tie.Need-returns-6
-unfolding typeLen strLen
+unfolding orderOf typeLen strLen
 returns-6 c =
     let c₅ = c .before .before in
     let c₄ = c₅ .before .before in

@@ -4,14 +4,14 @@ use Prim.Native.Nat.{_-_, _≤_}
 use native.Mathlib.Omega.{arith}
 use borrow.Author.Needs.{needs}
 use lib.ListN.{length, drop}
-use Rattle.paper.specs.Word.{bytesOfWords}
+use Rattle.paper.specs.Word.{lowFirst, bytesOfWords}
 use Rattle.replay.specs.Sum.{sumOf}
 use Rattle.replay.proofs.Summing.{Summing, summing-start, summing-end, summing-place, left-none}
 use Rattle.replay.proofs.sums.of_places.Statement.{statement}
 use Rattle.replay.proofs.sums.of_places.Tie as tie
 
 abbrev Inv-loop : tie.InvT-loop
-Inv-loop s sum₀ i₀ sum i = (i ≤ length s) × Summing (sumOf (bytesOfWords s)) sum (bytesOfWords (drop i s))
+Inv-loop s sum₀ i₀ sum i = (i ≤ length s) × Summing (sumOf (bytesOfWords lowFirst s)) sum (bytesOfWords lowFirst (drop i s))
 
 abbrev μ-loop : tie.MeasureT-loop
 μ-loop s sum₀ i₀ sum i = length s - i

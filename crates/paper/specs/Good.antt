@@ -1,0 +1,56 @@
+-- What is true of a blob and a table of which the gate says nothing. The demands' theorems speak of these.
+use Prim.Native.Nat.{ℕ, _+_, _-_, _%_, _≤_}
+use mathlib.Core.Path.{_≡_}
+use mathlib.Core.Bool.{true, false}
+use mathlib.Core.List.{List}
+use lib.ListN.{length, getD, take}
+use Rattle.paper.specs.Chain.{endless}
+use Rattle.paper.specs.Fit.{EveryWhole}
+use Rattle.paper.specs.Header.{headerLength, opening, orderOf, typeOff, typeLen, strOff, strLen, stringsIn}
+use Rattle.paper.specs.Heads.{headOk}
+use Rattle.paper.specs.Layout.{layoutOk}
+use Rattle.paper.specs.Limits.{byteLimit}
+use Rattle.paper.specs.Names.{namesOk}
+use Rattle.paper.specs.References.{refsOk}
+use Rattle.paper.specs.Table.{Table, count, recordAt}
+use Rattle.paper.specs.Tails.{tailOk}
+use Rattle.paper.specs.Word.{wordAt}
+
+-- phase 1: what a header and the sections behind it are
+pub record HeaderFacts (b : List ℕ) : Type 0 where
+  pub long : headerLength ≤ length b
+  pub short : length b ≤ byteLimit
+  pub opens : take 4 b ≡ opening (orderOf b)
+  pub header-length : wordAt (orderOf b) b 4 ≡ headerLength
+  pub type-off : typeOff b ≡ 0
+  pub type-len : typeLen b % 4 ≡ 0
+  pub str-off : strOff b ≡ typeLen b
+  pub sum : headerLength + typeLen b + strLen b ≡ length b
+  pub some-strings : 1 ≤ strLen b
+  pub first-zero : getD (stringsIn b) 0 0 ≡ 0
+  pub last-zero : getD (stringsIn b) (strLen b - 1) 0 ≡ 0
+
+-- a string section as report 5 asks for it
+pub record Closed (s : List ℕ) : Type 0 where
+  pub filled : 1 ≤ length s
+  pub first : getD s 0 0 ≡ 0
+  pub last : getD s (length s - 1) 0 ≡ 0
+
+-- phases 3 to 6: every rule holds at a type
+pub record SoundAt (T : Table) (t : ℕ) : Type 0 where
+  pub heads : headOk (recordAt T t) ≡ true
+  pub names : namesOk (T .strings) (recordAt T t) ≡ true
+  pub tails : tailOk (recordAt T t) ≡ true
+  pub refs : refsOk T (recordAt T t) ≡ true
+  pub ends : endless T t ≡ false
+  pub layouts : layoutOk T (recordAt T t) ≡ true
+
+-- and at every type
+abbrev pub Sound : Table → Type 0
+Sound T = (t : ℕ) → 1 ≤ t → t ≤ count T → SoundAt T t
+
+-- a table of which nothing is said, with whole records and closed strings
+pub record Good (T : Table) : Type 0 where
+  pub sound : Sound T
+  pub closed : Closed (T .strings)
+  pub whole : EveryWhole (T .records)
