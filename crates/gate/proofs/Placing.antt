@@ -16,7 +16,7 @@ use Rattle.paper.specs.Walk.{typeWords, walk, tableOf, flat, placesFrom, places
 use Rattle.paper.specs.Word.{lowFirst, wordAt}
 use Rattle.paper.proofs.Blobs.{tableOf-found}
 use Rattle.paper.proofs.Places.{length-placesOf}
-use Rattle.paper.proofs.Sections.{WholeWalk}
+use Rattle.paper.specs.Good.{WholeWalk}
 use Rattle.gate.specs.Phase2.{WalkDone}
 use Rattle.gate.proofs.Findings.{finding-records, counted-count}
 use Rattle.gate.proofs.Left.{left, typeWords-left, left-length, left-head, left-drop}

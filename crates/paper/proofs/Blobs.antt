@@ -8,7 +8,7 @@ use native.Mathlib.Omega.{arith}
 use lib.ListN.{length, take, drop, length-drop, take-append-drop}
 use lib.Seq.{length-take-le, drop-drop}
 use Rattle.paper.specs.Fit.{Below, Bytes, wordBound, Fits}
-use Rattle.paper.specs.Good.{HeaderFacts}
+use Rattle.paper.specs.Good.{HeaderFacts, WholeWalk}
 use Rattle.paper.specs.Header.{headerLength, opening, orderOf, typeOff, typeLen, strOff, strLen, stringsIn, headerReport}
 use Rattle.paper.specs.Limits.{typeLimit}
 use Rattle.paper.specs.Table.{Record, Table}
@@ -17,7 +17,7 @@ use Rattle.paper.specs.Word.{Order, wordOf, wordBytes, firstWord, wordAt
 use Rattle.paper.proofs.Words.{wordBytes-wordOf}
 use Rattle.paper.proofs.Bytes.{below-take, below-drop, words-fit, length-words, bytesOfWords-words}
 use Rattle.paper.proofs.Headers.{headerReport-facts}
-use Rattle.paper.proofs.Sections.{WholeWalk, flat-walkFrom}
+use Rattle.paper.proofs.Sections.{flat-walkFrom}
 use Rattle.paper.proofs.Tables.{headerOf, bytesOf-parts}
 
 -- ── the parts of a blob ──

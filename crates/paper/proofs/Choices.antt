@@ -4,12 +4,14 @@ use Prim.Native.Nat.{ℕ, zero, suc}
 use mathlib.Core.Path.{_≡_, refl, ap, ap₂}
 use mathlib.Core.Bool.{Bool, true, false, not, cond, _&&_, _||_, false≢true}
 use mathlib.Core.List.{List, [], _∷_, map}
-use mathlib.Core.Option.{none}
+use mathlib.Core.Logic.{inl, inr}
+use mathlib.Core.Option.{none, some}
 use native.Mathlib.Omega.{arith}
 use borrow.Author.Tests.{eqb-true, eq-eqb, not-false}
 use lib.Dec.{eqb}
 use lib.ListN.{getD}
 use Rattle.paper.specs.Choice.{differ, same, every, any, isEmpty, times, Rule, _when_, firstDue}
+use Rattle.paper.specs.Smallest.{NoneDue, DueFirst}
 
 -- ── both of two tests ──
 
@@ -92,11 +94,6 @@ same-refl (x ∷ xs) = rw (eq-eqb x x refl) (same-refl xs)
 
 -- ── rules that are due ──
 
--- none of some rules is due
-abbrev pub NoneDue : List Rule → Type 0
-NoneDue [] = Unit {0}
-NoneDue (n when due ∷ rules) = (due ≡ false) × NoneDue rules
-
 -- where no number is answered, no rule is due
 pub firstDue-none : (rules : List Rule) → firstDue rules ≡ none → NoneDue rules
 firstDue-none [] e = tt
@@ -107,6 +104,12 @@ firstDue-none (n when false ∷ rules) e = (refl, firstDue-none rules e)
 pub none-firstDue : (rules : List Rule) → NoneDue rules → firstDue rules ≡ none
 none-firstDue [] h = refl
 none-firstDue (n when due ∷ rules) h = rw (h .0) (none-firstDue rules (h .1))
+
+-- a number that is answered is that of the first rule that is due
+pub firstDue-some : (rules : List Rule) (n : ℕ) → firstDue rules ≡ some n → DueFirst n rules
+firstDue-some [] n e = let z : _≡_ {A = ℕ} 0 1 = cc in omega arith
+firstDue-some (m when true ∷ rules) n e = inl (cc, refl)
+firstDue-some (m when false ∷ rules) n e = inr (refl, firstDue-some rules n e)
 
 -- ── lists ──
 

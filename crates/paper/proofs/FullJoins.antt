@@ -1,15 +1,18 @@
 -- What a join with slices of full size hands back: the joined bytes where both tables are accepted and the limits allow, else nothing.
 -- Assumes nothing.
-use Prim.Native.Nat.{ℕ, _+_}
+use Prim.Native.Nat.{ℕ, _+_, _≤_}
 use mathlib.Core.Path.{_≡_, refl, sym, ap, ap₂, _∙_}
 use mathlib.Core.Bool.{Bool, true, false, not, cond, _&&_}
 use mathlib.Core.List.{List, [], _∷_}
 use mathlib.Core.Option.{Option, none, some}
-use borrow.Author.Tests.{leb-true, le-ltb, lt-ltb, leb-false}
-use lib.Dec.{leb, ltb, eqb}
+use native.Mathlib.Omega.{arith}
+use borrow.Author.Tests.{leb-true, le-ltb, lt-ltb, leb-false, ne-eqb}
+use lib.Dec.{leb, ltb}
 use lib.ListN.{length, take, drop}
 use lib.Seq.{take-append-seam}
+use Rattle.paper.proofs.JoinRefusals.{join-16, join-17}
 use Rattle.paper.proofs.Joining.{count-join}
+use Rattle.paper.proofs.Numbers.{Says, joinRefusal-number}
 use Rattle.paper.proofs.Tables.{length-bytesOf}
 use Rattle.paper.specs.Answer.{Answer}
 use Rattle.paper.specs.Choice.{_when_, firstDue, orElse}
@@ -29,46 +32,16 @@ abbrev unless : Option Answer → List ℕ → Option (List ℕ)
 unless none bytes = some bytes
 unless (some a) bytes = none
 
--- whatever a join's refusal is, its number is not 0
-abbrev NotZero : Option Answer → Type 0
-NotZero none = Unit {0}
-NotZero (some a) = eqb (a .number) 0 ≡ false
-
-inside-16 : (o : Option Answer) → NotZero (refusedInside 16 o)
-inside-16 none = tt
-inside-16 (some a) = refl
-
-inside-17 : (o : Option Answer) → NotZero (refusedInside 17 o)
-inside-17 none = tt
-inside-17 (some a) = refl
-
-limits-due : (x y z : Bool) → NotZero (naming 0 (firstDue (18 when x ∷ 19 when y ∷ 20 when z ∷ [])))
-limits-due true y z = refl
-limits-due false true z = refl
-limits-due false false true = refl
-limits-due false false false = tt
-
-orElse-due : (o p : Option Answer) → NotZero o → NotZero p → NotZero (orElse o p)
-orElse-due none p h k = k
-orElse-due (some a) p h k = h
-
-refusal-due : (a b : List ℕ) (places work room : ℕ) → NotZero (joinRefusal a b places work room)
-unfolding joinRefusal limitReport
-refusal-due a b places work room =
-    orElse-due (refusedInside 16 (refusal a places work)) _ (inside-16 (refusal a places work))
-    (orElse-due (refusedInside 17 (refusal b places work)) (limitReport a b room) (inside-17 (refusal b places work))
-    (limits-due (ltb typeLimit (count (tableOf a) + count (tableOf b))) (ltb byteLimit (length (joinedBytes a b))) (ltb room (length (joinedBytes a b)))))
-
-outcome-handed : (whole : List ℕ) (places work : ℕ) (out : List ℕ) (o : Option Answer) → NotZero o
+outcome-handed : (whole : List ℕ) (places work : ℕ) (out : List ℕ) (o : Option Answer) → Says (λ (n : ℕ). (16 ≤ n) × (n ≤ 20)) o
     → handed (joinOutcome whole places work out o) ≡ unless o whole
 outcome-handed whole places work out none h = ap {B = Option (List ℕ)} some (take-append-seam whole (drop (length whole) out))
-outcome-handed whole places work out (some a) h = ap (λ (t : Bool). cond t (some (take (a .p) out)) none) h
+outcome-handed whole places work out (some a) h = ap (λ (t : Bool). cond t (some (take (a .p) out)) none) (ne-eqb (a .number) 0 (λ e. omega arith))
 
 joinFull-bytes : (out a b : List ℕ) → length out ≡ byteLimit
     → joinFull out a b ≡ unless (joinRefusal a b fullPlaces fullPlaces byteLimit) (joinedBytes a b)
 unfolding joinFull join
 joinFull-bytes out a b e =
-    outcome-handed (joinedBytes a b) fullPlaces fullPlaces out (joinRefusal a b fullPlaces fullPlaces (length out)) (refusal-due a b fullPlaces fullPlaces (length out))
+    outcome-handed (joinedBytes a b) fullPlaces fullPlaces out (joinRefusal a b fullPlaces fullPlaces (length out)) (joinRefusal-number a b fullPlaces fullPlaces (length out))
     ∙ ap (λ (room : ℕ). unless (joinRefusal a b fullPlaces fullPlaces room) (joinedBytes a b)) e
 
 -- ── within the limits ──
@@ -105,19 +78,12 @@ module _ (out a b : List ℕ) (full : length out ≡ byteLimit) where
   joined-accepted p q = joinFull-bytes out a b full ∙ joined-unless a b p q
 
   pub first-refused : {x : Answer} → refusal a fullPlaces fullPlaces ≡ some x → joinFull out a b ≡ none
-  unfolding joinRefusal
   first-refused p =
-      joinFull-bytes out a b full
-      ∙ ap (λ (x : Option Answer). unless (orElse (refusedInside 16 x) (orElse (refusedInside 17 (refusal b fullPlaces fullPlaces)) (limitReport a b byteLimit))) (joinedBytes a b)) p
+      joinFull-bytes out a b full ∙ ap (λ (o : Option Answer). unless o (joinedBytes a b)) (join-16 a b fullPlaces fullPlaces byteLimit p)
 
   pub second-refused : {x : Answer} → refusal b fullPlaces fullPlaces ≡ some x → joinFull out a b ≡ none
-  unfolding joinRefusal
-  second-refused {x} p =
-      joinFull-bytes out a b full
-      ∙ ap (λ (y : Option Answer). unless (orElse (refusedInside 16 (refusal a fullPlaces fullPlaces)) (orElse (refusedInside 17 y) (limitReport a b byteLimit))) (joinedBytes a b)) p
-      ∙ go (refusal a fullPlaces fullPlaces) x
+  second-refused p = go (refusal a fullPlaces fullPlaces) refl
     where
-      go : (o : Option Answer) (x : Answer)
-          → unless (orElse (refusedInside 16 o) (orElse (refusedInside 17 (some x)) (limitReport a b byteLimit))) (joinedBytes a b) ≡ none
-      go none x = refl
-      go (some a) x = refl
+      go : (o : Option Answer) → refusal a fullPlaces fullPlaces ≡ o → joinFull out a b ≡ none
+      go (some y) q = first-refused q
+      go none q = joinFull-bytes out a b full ∙ ap (λ (o : Option Answer). unless o (joinedBytes a b)) (join-17 a b fullPlaces fullPlaces byteLimit q p)

@@ -1,14 +1,15 @@
 -- Laws of the gate's search: a table gets no report exactly where no rule is due at any of its types.
 -- Assumes nothing.
 use Prim.Native.Nat.{ℕ, zero, suc, _+_, _≤_, _<_}
-use mathlib.Core.Path.{_≡_, refl, sym, ap, ap₂, _∙_}
+use mathlib.Core.Path.{_≡_, refl, sym, ap, ap₂, _∙_, subst}
 use mathlib.Core.Bool.{Bool, true, false, not}
 use mathlib.Core.List.{List}
+use mathlib.Core.Logic.{_⊎_, inl, inr}
 use mathlib.Core.Option.{Option, none, some}
 use native.Mathlib.Omega.{arith}
 use borrow.Author.Tests.{eqb-true, eqb-false, not-false}
 use lib.Dec.{eqb}
-use Rattle.paper.proofs.Choices.{firstDue-none, none-firstDue}
+use Rattle.paper.proofs.Choices.{firstDue-none, none-firstDue, firstDue-some}
 use Rattle.paper.specs.Answer.{Answer, report}
 use Rattle.paper.specs.Choice.{Rule, firstDue, orElse}
 use Rattle.paper.specs.Gate.{naming, firstOf, overTypes, phase3, phase4, phase5, phase6, tableReport}
@@ -18,6 +19,7 @@ use Rattle.paper.specs.Join.{refusedInside}
 use Rattle.paper.specs.Layout.{layoutBad}
 use Rattle.paper.specs.Names.{nameBad}
 use Rattle.paper.specs.References.{refBad}
+use Rattle.paper.specs.Smallest.{Silent, Smallest}
 use Rattle.paper.specs.Table.{Table, count}
 use Rattle.paper.specs.Tails.{tailBad}
 
@@ -34,6 +36,11 @@ module _ {A : Type 0} where
   pub orElse-none : (a b : Option A) → orElse a b ≡ none → (a ≡ none) × (b ≡ none)
   orElse-none none b e = (refl, e)
   orElse-none (some x) b e = absurd (some≢none e)
+
+  -- an answer is the first's, or the first has none and it is the second's
+  pub orElse-some : (a b : Option A) {x : A} → orElse a b ≡ some x → (a ≡ some x) ⊎ ((a ≡ none) × (b ≡ some x))
+  orElse-some none b e = inr (refl, e)
+  orElse-some (some y) b e = inl e
 
   pub none-orElse : {a b : Option A} → a ≡ none → b ≡ none → orElse a b ≡ none
   none-orElse p q = ap₂ orElse p q
@@ -66,37 +73,60 @@ module _ (rules : ℕ → List Rule) where
       none-orElse (ap (naming k) (h k (omega arith) (omega arith)))
       (none-firstOf left (suc k) (λ t low high. h t (omega arith) (omega arith)))
 
-  -- a rule is due at a type from k on, of so many, and the answer says which and where
-  pub record DueAt (left k : ℕ) (a : Answer) : Type 0 where
-    pub t : ℕ
-    pub n : ℕ
-    pub low : k ≤ t
-    pub high : t < k + left
-    pub due : firstDue (rules t) ≡ some n
-    pub says : a ≡ report n t
+  -- a rule is due at a type from k on, of so many, at no smaller one, and the answer says which and where
+  record DueAt (left k : ℕ) (a : Answer) : Type 0 where
+    low : k ≤ a .t
+    high : a .t < k + left
+    due : firstDue (rules (a .t)) ≡ some (a .number)
+    smaller : (u : ℕ) → k ≤ u → u < a .t → firstDue (rules u) ≡ none
 
   firstOf-some : (left k : ℕ) (a : Answer) → firstOf rules left k ≡ some a → DueAt left k a
   firstOf-some zero k a e = absurd (some≢none (sym e))
   firstOf-some (suc left) k a e = go (firstDue (rules k)) refl e (firstOf-some left (suc k) a)
     where
+      at-k : firstDue (rules k) ≡ none → (u : ℕ) → (z : Bool) → eqb u k ≡ z → (suc k ≤ u → firstDue (rules u) ≡ none) → k ≤ u → firstDue (rules u) ≡ none
+      at-k p u true x later low = ap (λ (v : ℕ). firstDue (rules v)) (eqb-true u k x) ∙ p
+      at-k p u false x later low = let ne = eqb-false u k x in later (omega arith)
+
+      here : (n : ℕ) → firstDue (rules k) ≡ some n → report n k ≡ a → DueAt (suc left) k a
+      here n p q =
+          subst (DueAt (suc left) k) q
+          (record { low = omega arith; high = omega arith; due = p; smaller = λ u low less. absurd (omega arith) })
+
       go : (o : Option ℕ) → firstDue (rules k) ≡ o → orElse (naming k o) (firstOf rules left (suc k)) ≡ some a
           → (firstOf rules left (suc k) ≡ some a → DueAt left (suc k) a) → DueAt (suc left) k a
       go none p q later =
           let w = later q in
-          record { t = w .t; n = w .n; low = omega arith; high = omega arith; due = w .due; says = w .says }
-      go (some n) p q later = record { t = k; n = n; low = omega arith; high = omega arith; due = p; says = cc }
+          record {
+            low = omega (arith, w .low);
+            high = omega (arith, w .high);
+            due = w .due;
+            smaller = λ u low less. at-k p u (eqb u k) refl (λ more. w .smaller u more less) low;
+          }
+      go (some n) p q later = here n p (cc)
 
 -- ── a table of which nothing is said ──
 
 module _ (T : Table) where
-  pub overTypes-none : (phase : Table → ℕ → List Rule) → overTypes phase T ≡ none → (t : ℕ) → 1 ≤ t → t ≤ count T → firstDue (phase T t) ≡ none
+  overTypes-none : (phase : Table → ℕ → List Rule) → overTypes phase T ≡ none → (t : ℕ) → 1 ≤ t → t ≤ count T → firstDue (phase T t) ≡ none
   unfolding overTypes
   overTypes-none phase e t low high = firstOf-none (phase T) (count T) 1 e t low (omega arith)
 
-  -- a phase's report names a type of the table at which one of its rules is due
-  pub overTypes-some : (phase : Table → ℕ → List Rule) (a : Answer) → overTypes phase T ≡ some a → DueAt (phase T) (count T) 1 a
+  -- a phase's report names the smallest type at which one of its rules is due, by the smallest number
+  pub overTypes-some : (phase : Table → ℕ → List Rule) (a : Answer) → overTypes phase T ≡ some a → Smallest phase T a
   unfolding overTypes
-  overTypes-some phase a e = firstOf-some (phase T) (count T) 1 a e
+  overTypes-some phase a e =
+      let d = firstOf-some (phase T) (count T) 1 a e in
+      record {
+        low = d .low;
+        high = omega (arith, d .high);
+        due = firstDue-some (phase T (a .t)) (a .number) (d .due);
+        smaller = λ t low less. firstDue-none (phase T t) (d .smaller t low less);
+      }
+
+  -- and where it has none, it is silent
+  pub overTypes-silent : (phase : Table → ℕ → List Rule) → overTypes phase T ≡ none → Silent phase T
+  overTypes-silent phase e t low high = firstDue-none (phase T t) (overTypes-none phase e t low high)
 
   none-overTypes : (phase : Table → ℕ → List Rule) → ((t : ℕ) → 1 ≤ t → t ≤ count T → firstDue (phase T t) ≡ none) → overTypes phase T ≡ none
   unfolding overTypes
@@ -109,14 +139,14 @@ module _ (T : Table) where
       let p₄ = orElse-none (overTypes phase4 T) _ (p₃ .1) in
       let p₅ = orElse-none (overTypes phase5 T) _ (p₄ .1) in
       λ t low high.
-      let due₃ = firstDue-none (phase3 T t) (overTypes-none phase3 (p₃ .0) t low high) in
+      let due₃ = overTypes-silent phase3 (p₃ .0) t low high in
       record {
         heads = not-false _ (due₃ .0);
         names = not-false _ (due₃ .1 .0);
         tails = not-false _ (due₃ .1 .1 .0);
-        refs = not-false _ (firstDue-none (phase4 T t) (overTypes-none phase4 (p₄ .0) t low high) .0);
-        ends = firstDue-none (phase5 T t) (overTypes-none phase5 (p₅ .0) t low high) .0;
-        layouts = not-false _ (firstDue-none (phase6 T t) (overTypes-none phase6 (p₅ .1) t low high) .0);
+        refs = not-false _ (overTypes-silent phase4 (p₄ .0) t low high .0);
+        ends = overTypes-silent phase5 (p₅ .0) t low high .0;
+        layouts = not-false _ (overTypes-silent phase6 (p₅ .1) t low high .0);
       }
 
   pub sound-tableReport : Sound T → tableReport T ≡ none

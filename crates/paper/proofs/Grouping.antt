@@ -139,8 +139,8 @@ grouped o p XY J next on part = go (withinLimits XY) refl (withinLimits J) refl
     go false x true y = absurd (false≢true (sym x ∙ part y))
     go false x false y = ap (λ (t : Bool). cond t (some (bytesOf p J)) none) (sym y)
 
-good : (b : List ℕ) → Bytes b → Accepted b → Good (tableOf b)
-good b bytes p = accepted-good b fullPlaces fullPlaces p bytes
+good : (b : List ℕ) → Accepted b → Good (tableOf b)
+good b p = accepted-good b fullPlaces fullPlaces p
 
 fits : (b : List ℕ) → Bytes b → Accepted b → Fits (tableOf b)
 fits b bytes p = accepted-fits b fullPlaces fullPlaces p bytes
@@ -151,24 +151,24 @@ module _ (a b c : List ℕ) (ba : Bytes a) (bb : Bytes b) (bc : Bytes c) (p : Ac
     unfolding joinedBytes
     left-grouped =
         let J = joinTables (tableOf a) (tableOf b) in
-        let g = good-join (tableOf a) (tableOf b) (good a ba p) (good b bb q) in
-        let f = fits-withinLimits (tableOf a) (tableOf b) (good a ba p) (good b bb q) (fits a ba p) (fits b bb q) in
+        let g = good-join (tableOf a) (tableOf b) (good a p) (good b q) in
+        let f = fits-withinLimits (tableOf a) (tableOf b) (good a p) (good b q) (fits a ba p) (fits b bb q) in
         ap (λ (x : Option (List ℕ)). andThen x (λ (ab : List ℕ). joinFull o′ ab c)) (joined-accepted o a b full p q)
         ∙ grouped (orderOf a) (orderOf a) J (joinTables J (tableOf c)) (λ (ab : List ℕ). joinFull o′ ab c)
         (λ e. joined-accepted o′ (bytesOf (orderOf a) J) c full′ (withinLimits-accepted (orderOf a) J g f e) r
         ∙ ap₂ (λ (o : Order) (T : Table). result o (joinTables T (tableOf c))) (order-bytesOf (orderOf a) J) (withinLimits-table (orderOf a) J g f e))
-        (λ e. withinLimits-parts J (tableOf c) (g .closed) (good c bc r .closed) e .0)
+        (λ e. withinLimits-parts J (tableOf c) (g .closed) (good c r .closed) e .0)
 
     right-grouped : andThen (joinFull o b c) (λ (bc : List ℕ). joinFull o′ a bc) ≡ result (orderOf a) (joinTables (tableOf a) (joinTables (tableOf b) (tableOf c)))
     unfolding joinedBytes
     right-grouped =
         let J = joinTables (tableOf b) (tableOf c) in
-        let g = good-join (tableOf b) (tableOf c) (good b bb q) (good c bc r) in
-        let f = fits-withinLimits (tableOf b) (tableOf c) (good b bb q) (good c bc r) (fits b bb q) (fits c bc r) in
+        let g = good-join (tableOf b) (tableOf c) (good b q) (good c r) in
+        let f = fits-withinLimits (tableOf b) (tableOf c) (good b q) (good c r) (fits b bb q) (fits c bc r) in
         ap (λ (x : Option (List ℕ)). andThen x (λ (bc : List ℕ). joinFull o′ a bc)) (joined-accepted o b c full q r)
         ∙ grouped (orderOf b) (orderOf a) J (joinTables (tableOf a) J) (λ (bc : List ℕ). joinFull o′ a bc)
         (λ e. joined-accepted o′ a (bytesOf (orderOf b) J) full′ p (withinLimits-accepted (orderOf b) J g f e) ∙ ap (λ (T : Table). result (orderOf a) (joinTables (tableOf a) T)) (withinLimits-table (orderOf b) J g f e))
-        (λ e. withinLimits-parts (tableOf a) J (good a ba p .closed) (g .closed) e .1)
+        (λ e. withinLimits-parts (tableOf a) J (good a p .closed) (g .closed) e .1)
 
 -- nothing is handed on where the next join refuses whatever it is given
 andThen-none : (o : Option (List ℕ)) (next : List ℕ → Option (List ℕ)) → ((b : List ℕ) → next b ≡ none) → andThen o next ≡ none
@@ -191,7 +191,7 @@ module _ (o₁ o₂ o₃ o₄ : List ℕ) (f₁ : length o₁ ≡ byteLimit) (f�
           → (z : Option Answer) → refusal c fullPlaces fullPlaces ≡ z → left ≡ right
       go none p none q none r =
           left-grouped a b c ba bb bc p q r o₁ o₂ f₁ f₂
-          ∙ ap (result (orderOf a)) (joinTables-assoc (tableOf a) (tableOf b) (tableOf c) (good a ba p .closed) (good b bb q .closed))
+          ∙ ap (result (orderOf a)) (joinTables-assoc (tableOf a) (tableOf b) (tableOf c) (good a p .closed) (good b q .closed))
           ∙ sym (right-grouped a b c ba bb bc p q r o₃ o₄ f₃ f₄)
       go (some x) p y q z r =
           ap (λ (o : Option (List ℕ)). andThen o (λ (ab : List ℕ). joinFull o₂ ab c)) (first-refused o₁ a b f₁ p)

@@ -24,10 +24,12 @@ pub mod Names
 pub mod Joining
 pub mod JoinFits
 pub mod Acceptance
+pub mod JoinRefusals
 pub mod FullJoins
 pub mod Grouping
 pub mod Neutral
 pub mod SizeAsked
+pub mod Numbers
 pub mod Reports
 pub mod Demands
 pub mod Outcomes

@@ -9,7 +9,7 @@ use native.Mathlib.Nat.{add-zero}
 use native.Mathlib.Omega.{arith}
 use borrow.Author.Tests.{le-leb}
 use lib.ListN.{length, drop}
-use Rattle.paper.proofs.Acceptance.{accepted-fits, accepted-bytes, accepted-short, accepted-good}
+use Rattle.paper.proofs.Acceptance.{accepted-fits, accepted-bytes, accepted-short, accepted-closed}
 use Rattle.paper.proofs.Choices.{and-true}
 use Rattle.paper.proofs.FullJoins.{joined-accepted}
 use Rattle.paper.proofs.Rename.{rename-id}
@@ -82,7 +82,7 @@ module _ (out : List ℕ) (full : length out ≡ byteLimit) (b : List ℕ) (byte
   join-empty-left =
       joined-accepted out empty b full (empty-accepted (orderOf b)) p
       ∙ handed-back (orderOf empty) (joinTables (tableOf empty) (tableOf b)) (empty-order (orderOf b))
-      (ap (λ (E : Table). joinTables E (tableOf b)) (empty-table (orderOf b)) ∙ joinTables-empty-left (tableOf b) (accepted-good b fullPlaces fullPlaces p bytes .closed))
+      (ap (λ (E : Table). joinTables E (tableOf b)) (empty-table (orderOf b)) ∙ joinTables-empty-left (tableOf b) (accepted-closed b fullPlaces fullPlaces p))
 
   pub join-empty-right : joinFull out b empty ≡ some b
   unfolding joinedBytes

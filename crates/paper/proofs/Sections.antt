@@ -10,6 +10,7 @@ use lib.Dec.{leb}
 use lib.ListN.{length, take, drop, length-append, take-append-drop}
 use lib.Seq.{take-at, drop-at, length-take-le}
 use Rattle.paper.specs.Fit.{Whole, EveryWhole}
+use Rattle.paper.specs.Good.{WholeWalk}
 use Rattle.paper.specs.Table.{Record, kindIn, tailLength}
 use Rattle.paper.specs.Walk.{Walked, records, stopped, ahead, known, walkRecord, walkFrom, flat}
 
@@ -73,12 +74,6 @@ walkFrom-flat (suc room) k (r ∷ rs) h few =
     walkRecord-whole (λ (left : List ℕ). walkFrom room (suc k) left) k r (flat rs) (h .0)
     ∙ ap (ahead r) (walkFrom-flat room (suc k) rs (h .1) (omega arith))
 
--- what a walk that goes through has found: whole records, of just these words, and no more of them than there is room for
-pub record WholeWalk (room : ℕ) (ws : List ℕ) (rs : List Record) : Type 0 where
-  pub flat-found : flat rs ≡ ws
-  pub whole-found : EveryWhole rs
-  pub few-found : length rs ≤ room
-
 -- no words, no records
 found-none : (room : ℕ) (rs : List Record) → rs ≡ [] → WholeWalk room [] rs
 found-none room rs e = rw e (record { flat-found = refl; whole-found = tt; few-found = omega arith })
@@ -93,7 +88,7 @@ found-step room n i t ws rest rs s f =
       few-found = omega (arith, f .few-found);
     })
 
--- where a walk goes through, the words of what it found are the words that it walked
+-- where a walk goes through, it has found whole records, and the words of what it found are the words that it walked
 pub flat-walkFrom : (room k : ℕ) (ws : List ℕ) (rs : List Record) → walkFrom room k ws ≡ records rs → WholeWalk room ws rs
 flat-walkFrom zero k [] rs e = found-none zero rs (cc)
 flat-walkFrom zero k (n ∷ ws) rs e = absurd (let z : _≡_ {A = ℕ} 0 1 = cc in omega arith)

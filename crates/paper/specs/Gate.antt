@@ -34,8 +34,11 @@ unfoldable pub phase2 : List ℕ → Option Answer
 phase2 b = walkReport (walk b)
 
 -- 9: "walk done, index or work slice has under n + 1 places"
+abbrev pub sliceRules : ℕ → ℕ → ℕ → List Rule
+sliceRules n places workPlaces = 9 when (ltb places (n + 1) || ltb workPlaces (n + 1)) ∷ []
+
 unfoldable pub shortSlices : ℕ → ℕ → ℕ → Option Answer
-shortSlices n places workPlaces = naming 0 (firstDue (9 when (ltb places (n + 1) || ltb workPlaces (n + 1)) ∷ []))
+shortSlices n places workPlaces = naming 0 (firstDue (sliceRules n places workPlaces))
 
 -- the phases over a table's types: what each asks of a type, smallest number first
 unfoldable pub phase3 : Table → ℕ → List Rule

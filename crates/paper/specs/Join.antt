@@ -5,7 +5,7 @@ use mathlib.Core.Option.{Option, none, some}
 use lib.Dec.{ltb}
 use lib.ListN.{length, drop}
 use Rattle.paper.specs.Answer.{Answer, value, inside}
-use Rattle.paper.specs.Choice.{_when_, firstDue, orElse}
+use Rattle.paper.specs.Choice.{Rule, _when_, firstDue, orElse}
 use Rattle.paper.specs.Gate.{refusal, naming, zeros}
 use Rattle.paper.specs.Header.{orderOf}
 use Rattle.paper.specs.Limits.{typeLimit, byteLimit}
@@ -33,14 +33,15 @@ unfoldable pub joinedBytes : List ℕ → List ℕ → List ℕ
 joinedBytes a b = bytesOf (orderOf a) (joinTables (tableOf a) (tableOf b))
 
 -- 18, 19, 20: "over 4,096 types together; joined length over 65,536; output shorter than that length; in that order"
-unfoldable pub limitReport : List ℕ → List ℕ → ℕ → Option Answer
-limitReport a b room =
-    naming 0
-    (firstDue
-    (18 when ltb typeLimit (count (tableOf a) + count (tableOf b))
+abbrev pub limitRules : List ℕ → List ℕ → ℕ → List Rule
+limitRules a b room =
+    18 when ltb typeLimit (count (tableOf a) + count (tableOf b))
     ∷ 19 when ltb byteLimit (length (joinedBytes a b))
     ∷ 20 when ltb room (length (joinedBytes a b))
-    ∷ []))
+    ∷ []
+
+unfoldable pub limitReport : List ℕ → List ℕ → ℕ → Option Answer
+limitReport a b room = naming 0 (firstDue (limitRules a b room))
 
 -- 16: "the first table is refused; 17, the second"
 unfoldable pub joinRefusal : List ℕ → List ℕ → ℕ → ℕ → ℕ → Option Answer

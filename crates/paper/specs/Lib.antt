@@ -24,3 +24,4 @@ pub mod Full
 pub mod Computes
 pub mod Fit
 pub mod Good
+pub mod Smallest
