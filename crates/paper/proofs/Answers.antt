@@ -3,6 +3,7 @@
 use Prim.Native.Nat.{ℕ, _-_}
 use mathlib.Core.Path.{_≡_, refl, sym, ap, _∙_}
 use mathlib.Core.List.{[], _∷_}
+use native.Mathlib.Omega.{arith}
 use lib.ListN.{getD}
 use Rattle.paper.specs.Answer.{Answer, reportAsPaper, checkedAsPaper, sizedAsPaper, joinedAsPaper}
 use Rattle.paper.specs.declared.Report.{Report}
@@ -69,6 +70,15 @@ checked-back : (c : Checked) → checkedBack (checkedAsPaper c) ≡ c
 unfolding checkedAsPaper checkedBack checkedOf
 checked-back (Accepted n) = refl
 checked-back (Refused r) = refused-back r
+
+-- no report has the number 0, which is acceptance
+pub report-number : (r : Report) → reportAsPaper r .number ≡ 0 → ⊥
+unfolding checkedBack checkedOf
+report-number r e =
+    let a = reportAsPaper r in
+    let back : Accepted (a .t) ≡ Refused r = sym (ap (λ (n : ℕ). checkedOf n (a .t)) e) ∙ refused-back r in
+    let z : _≡_ {A = ℕ} 0 1 = cc in
+    omega arith
 
 -- ── a report ──
 

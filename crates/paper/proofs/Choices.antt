@@ -1,7 +1,7 @@
 -- Laws of `Choice`, and of the tests that rules are joined with.
 -- Assumes nothing.
 use Prim.Native.Nat.{ℕ, zero, suc}
-use mathlib.Core.Path.{_≡_, refl, ap, ap₂}
+use mathlib.Core.Path.{_≡_, refl, sym, ap, ap₂, subst}
 use mathlib.Core.Bool.{Bool, true, false, not, cond, _&&_, _||_, false≢true}
 use mathlib.Core.List.{List, [], _∷_, map}
 use mathlib.Core.Logic.{inl, inr}
@@ -10,7 +10,7 @@ use native.Mathlib.Omega.{arith}
 use borrow.Author.Tests.{eqb-true, eq-eqb, not-false}
 use lib.Dec.{eqb}
 use lib.ListN.{getD}
-use Rattle.paper.specs.Choice.{differ, same, every, any, isEmpty, times, Rule, _when_, firstDue}
+use Rattle.paper.specs.Choice.{differ, same, member, every, any, isEmpty, times, Rule, _when_, firstDue}
 use Rattle.paper.specs.Smallest.{NoneDue, DueFirst}
 
 -- ── both of two tests ──
@@ -91,6 +91,16 @@ same-true (x ∷ xs) (y ∷ ys) e =
 pub same-refl : (xs : List ℕ) → same xs xs ≡ true
 same-refl [] = refl
 same-refl (x ∷ xs) = rw (eq-eqb x x refl) (same-refl xs)
+
+-- what holds at each of some numbers holds at a number among them
+abbrev pub Each : (ℕ → Type 0) → List ℕ → Type 0
+Each P [] = Unit {0}
+Each P (c ∷ cs) = P c × Each P cs
+
+pub member-each : (P : ℕ → Type 0) (k : ℕ) (cs : List ℕ) → member k cs ≡ true → Each P cs → P k
+member-each P k [] e h = absurd (false≢true e)
+member-each P k (c ∷ cs) e h =
+    or-cases (eqb k c) (member k cs) e (λ p. subst P (sym (eqb-true k c p)) (h .0)) (λ q. member-each P k cs q (h .1))
 
 -- ── rules that are due ──
 

@@ -12,7 +12,7 @@ use Rattle.paper.proofs.JoinRefusals.{joinRefusal-joinable}
 use Rattle.paper.proofs.JoinFits.{good-join, fits-join}
 use Rattle.paper.proofs.Joining.{size-rename, count-join, first-record, second-record, first-renaming, second-renaming}
 use Rattle.paper.proofs.SizeAsked.{sizeOf-exact}
-use Rattle.paper.proofs.Tables.{length-bytesOf, tableOf-bytesOf}
+use Rattle.paper.proofs.Tables.{length-bytesOf, bytes-bytesOf, tableOf-bytesOf}
 use Rattle.paper.specs.Chain.{heldBy, Chain}
 use Rattle.paper.specs.Fit.{Bytes, Fits}
 use Rattle.paper.specs.Gate.{refusal}
@@ -80,7 +80,12 @@ module _ (a b : List ℕ) (bytes-a : Bytes a) (bytes-b : Bytes b) (places work r
       let n = count-join A B in
       fits-join A B good-A good-B (accepted-fits a places work first-accepted bytes-a) (accepted-fits b places work second-accepted bytes-b) (omega (arith, joinable .few)) short
 
-  -- the joined blob holds the joined table
+  -- the joined blob is bytes
+  pub join-bytes : Bytes (joinedBytes a b)
+  unfolding joinedBytes A B
+  join-bytes = bytes-bytesOf (orderOf a) (joinTables A B) fits-J
+
+  -- it holds the joined table
   pub join-table : tableOf (joinedBytes a b) ≡ joinTables (tableOf a) (tableOf b)
   unfolding joinedBytes A B
   join-table = tableOf-bytesOf (orderOf a) (joinTables A B) fits-J

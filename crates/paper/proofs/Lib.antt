@@ -16,6 +16,7 @@ pub mod Gates
 pub mod Insides
 pub mod Sizes
 pub mod RenamingSizes
+pub mod Bases
 pub mod RenamingBases
 pub mod RenamingTails
 pub mod RenamingSpans
@@ -30,7 +31,9 @@ pub mod Grouping
 pub mod Neutral
 pub mod SizeAsked
 pub mod Numbers
+pub mod Answered
 pub mod Reports
 pub mod Demands
 pub mod Outcomes
+pub mod Questions
 pub mod Bench

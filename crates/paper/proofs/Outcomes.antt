@@ -1,27 +1,25 @@
--- Demand 1: what a check and a join leave in every lent slice, refused or not; and the size question of a check's own index.
+-- Demand 1: what a check and a join leave in every lent slice, refused or not; the places in a check's index, and the sizes that it answers.
 -- Assumes nothing.
-use Prim.Native.Nat.{ℕ, suc, _+_, _-_, _≤_, _<_}
-use mathlib.Core.Path.{_≡_, ap, _∙_}
-use mathlib.Core.Bool.{_||_}
-use mathlib.Core.List.{List, [], _∷_, _++_}
+use Prim.Native.Nat.{ℕ, zero, suc, _+_, _-_, _*_, _≤_, _<_}
+use mathlib.Core.Path.{_≡_, sym, ap, _∙_}
+use mathlib.Core.List.{List, _∷_, _++_}
 use mathlib.Core.Option.{none, some}
 use native.Mathlib.Omega.{arith}
-use borrow.Author.Tests.{ltb-false}
-use lib.Dec.{ltb}
 use lib.ListN.{length, getD, take, drop, length-append, length-take, length-replicate, List·getD-append}
-use lib.Seq.{getD-take}
-use Rattle.paper.proofs.Choices.{or-false, firstDue-none}
+use lib.Seq.{getD-take, take-all, take-at}
+use Rattle.paper.proofs.Acceptance.{accepted-meets, accepted-bytes}
+use Rattle.paper.proofs.Bytes.{length-bytesOfWords}
 use Rattle.paper.proofs.Demands.{accepted-size}
-use Rattle.paper.proofs.Gates.{orElse-none, naming-none}
-use Rattle.paper.proofs.Places.{length-placesOf}
+use Rattle.paper.proofs.Places.{length-placesOf, place-record}
 use Rattle.paper.specs.Answer.{Answer, accepted, value}
-use Rattle.paper.specs.Choice.{_when_}
 use Rattle.paper.specs.Fit.{Bytes}
-use Rattle.paper.specs.Gate.{phase1, phase2, shortSlices, refusal, zeros, indexOf, Outcome, outcome, gate}
+use Rattle.paper.specs.Gate.{refusal, zeros, indexOf, Outcome, outcome, gate}
+use Rattle.paper.specs.Header.{orderOf}
 use Rattle.paper.specs.Join.{joinedBytes, joinRefusal, joinOutcome, join}
 use Rattle.paper.specs.Size.{exactSize, answerOf, sizeOf}
-use Rattle.paper.specs.Table.{Table, count}
+use Rattle.paper.specs.Table.{Table, count, recordAt, wordsOf}
 use Rattle.paper.specs.Walk.{tableOf, placesOf}
+use Rattle.paper.specs.Word.{bytesOfWords}
 
 -- ── a check ──
 
@@ -50,7 +48,7 @@ module _ (a b : List ℕ) (places work : ℕ) (out : List ℕ) where
   unfolding join
   join-made e = ap (joinOutcome (joinedBytes a b) places work out) e
 
--- ── the index of a check answers sizes ──
+-- ── the index that a check leaves ──
 
 module _ (T : Table) (places : ℕ) (enough : count T < places) where
   length-indexOf : length (indexOf T places) ≡ places
@@ -66,22 +64,40 @@ module _ (T : Table) (places : ℕ) (enough : count T < places) where
   getD-indexOf t h = let p = length-placesOf T in List·getD-append (placesOf T) (zeros (places - (count T + 1))) 0 t (omega arith)
 
 module _ (b : List ℕ) (bytes : Bytes b) (places work : ℕ) (e : refusal b places work ≡ none) where
-  enough-places : count (tableOf b) < places
-  unfolding refusal shortSlices
-  enough-places =
-      let T = tableOf b in
-      let short = orElse-none (shortSlices (count T) places work) _ (orElse-none (phase2 b) _ (orElse-none (phase1 b) _ e .1) .1) .0 in
-      let due = firstDue-none (9 when (ltb places (count T + 1) || ltb work (count T + 1)) ∷ []) (naming-none 0 _ short) in
-      omega (arith, ltb-false places (count T + 1) (or-false _ _ (due .0) .0))
+  enough : count (tableOf b) < places
+  enough = accepted-meets b places work e .readable .enough-places
 
-  -- the index that a check leaves, cut to n + 1 places or longer, answers every type's exact size
+  -- every place lent is still there
+  pub index-length : length (gate b places work .index) ≡ places
+  index-length = ap (λ (o : Outcome). length (o .index)) (gate-accepted b places work e) ∙ length-indexOf (tableOf b) places enough
+
+  -- place k holds where in the blob the bytes of record k stand
+  pub index-place : (k : ℕ) → 1 ≤ k → k ≤ count (tableOf b)
+      → take (4 * length (wordsOf (recordAt (tableOf b) k))) (drop (getD (gate b places work .index) k 0) b)
+      ≡ bytesOfWords (orderOf b) (wordsOf (recordAt (tableOf b) k))
+  index-place zero low high = absurd (omega arith)
+  index-place (suc t) low high =
+      let T = tableOf b in
+      let ws = wordsOf (recordAt T (suc t)) in
+      ap (λ (o : Outcome). take (4 * length ws) (drop (getD (o .index) (suc t) 0) b)) (gate-accepted b places work e)
+      ∙ ap (λ (p : ℕ). take (4 * length ws) (drop p b)) (getD-indexOf T places enough t high)
+      ∙ ap (λ (s : List ℕ). take (4 * length ws) (drop (getD (placesOf T) t 0) s)) (sym (accepted-bytes b places work e bytes))
+      ∙ ap (take (4 * length ws)) (place-record (orderOf b) T t high)
+      ∙ take-at (bytesOfWords (orderOf b) ws) _ (4 * length ws) (length-bytesOfWords (orderOf b) ws)
+
+  -- cut to n + 1 places or longer, it answers every type's exact size
   pub checked-size : (k : ℕ) → count (tableOf b) < k → (t : ℕ) → t ≤ count (tableOf b)
       → sizeOf b (take k (gate b places work .index)) t ≡ answerOf (exactSize (tableOf b) t)
   checked-size k long t h =
       let T = tableOf b in
-      let n = enough-places in
       ap (λ (o : Outcome). sizeOf b (take k (o .index)) t) (gate-accepted b places work e)
       ∙ accepted-size b bytes places work e (take k (indexOf T places))
-      (let l = length-take k (indexOf T places) in let m = length-indexOf T places n in omega arith)
-      (λ u l. getD-take k (indexOf T places) (suc u) 0 (omega arith) ∙ getD-indexOf T places n u l)
+      (let l = length-take k (indexOf T places) in let m = length-indexOf T places enough in let n = enough in omega arith)
+      (λ u l. getD-take k (indexOf T places) (suc u) 0 (omega arith) ∙ getD-indexOf T places enough u l)
       t h
+
+  -- and so it does whole
+  pub whole-size : (t : ℕ) → t ≤ count (tableOf b) → sizeOf b (gate b places work .index) t ≡ answerOf (exactSize (tableOf b) t)
+  whole-size t h =
+      ap (λ (i : List ℕ). sizeOf b i t) (sym (take-all places (gate b places work .index) (omega (arith, index-length))))
+      ∙ checked-size places enough t h

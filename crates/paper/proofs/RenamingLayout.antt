@@ -9,9 +9,8 @@ use native.Mathlib.Omega.{arith}
 use borrow.Author.Tests.{eqb-true, leb-true}
 use lib.Dec.{eqb, ltb}
 use lib.ListN.{length, getD}
-use Rattle.paper.proofs.Choices.{and-left, and-right, when-same, if-same, cond-cong, every-map}
+use Rattle.paper.proofs.Choices.{and-left, and-right, when-same, if-same, cond-cong, every-map, member-each}
 use Rattle.paper.proofs.Renaming.{Renaming, inside, Inside}
-use Rattle.paper.proofs.RenamingBases.{member-each}
 use Rattle.paper.proofs.RenamingSizes.{type-0, name-0, getD-rename, exactSize-rename}
 use Rattle.paper.proofs.RenamingSpans.{renameMember, renameEntry, memberRoles, entryRoles, membersIn-rename, entriesIn-rename, members-every, entries-every, placedFrom-rename, offsets-rename, isRegular-rename, spanOf-rename, entryCovers-rename}
 use Rattle.paper.proofs.RenamingTails.{renameParameter, tailRoles-kind, tail-length, tail-number, third-role, parametersOf-rename, isLast00-rename}
