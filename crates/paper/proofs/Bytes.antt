@@ -4,7 +4,9 @@ use Prim.Native.Nat.{ℕ, zero, suc, _*_, _/_, _%_}
 use mathlib.Core.Path.{_≡_, refl, ap, _∙_}
 use mathlib.Core.List.{List, [], _∷_, _++_}
 use native.Mathlib.Omega.{arith}
-use lib.ListN.{length, take, drop}
+use lib.ListN.{length, getD, take, drop}
+use mir.Syntax.{w8}
+use mir.Val.{Fits}
 use Rattle.paper.specs.Fit.{Below, Bytes, wordBound}
 use Rattle.paper.specs.Word.{Order, wordOf, wordBytes, words, bytesOfWords}
 use Rattle.paper.proofs.Words.{firstWord-wordBytes, wordBytes-wordOf, wordOf-bound}
@@ -36,6 +38,11 @@ pub below-drop : (n k : ℕ) (s : List ℕ) → Below n s → Below n (drop k s)
 below-drop n zero s h = h
 below-drop n (suc k) [] h = tt
 below-drop n (suc k) (x ∷ s) h = below-drop n k s (h .1)
+
+-- a u8 slice holds bytes: what code knows of every element of one
+pub slice-bytes : (b : List ℕ) → ((i : ℕ) → Fits w8 (getD b i 0)) → Bytes b
+slice-bytes [] h = tt
+slice-bytes (x ∷ b) h = (h 0 .fits, slice-bytes b (λ i. h (suc i)))
 
 module _ (order : Order) where
   -- ── from words to bytes ──
