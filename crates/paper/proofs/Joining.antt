@@ -30,7 +30,7 @@ use Rattle.paper.specs.Size.{exactSize}
 use Rattle.paper.specs.Table.{Record, Table, count, nothing, recordAt}
 use Rattle.paper.specs.Tails.{tailOk}
 
-whole-at : (rs : List Record) → EveryWhole rs → (i : ℕ) → i < length rs → Whole (getD rs i nothing)
+pub whole-at : (rs : List Record) → EveryWhole rs → (i : ℕ) → i < length rs → Whole (getD rs i nothing)
 whole-at [] h i l = absurd (omega arith)
 whole-at (r ∷ rs) h zero l = h .0
 whole-at (r ∷ rs) h (suc i) l = whole-at rs (h .1) i (omega arith)

@@ -23,6 +23,7 @@ pub mod RenamingSpans
 pub mod RenamingLayout
 pub mod Names
 pub mod Joining
+pub mod Reading
 pub mod JoinFits
 pub mod Acceptance
 pub mod JoinRefusals

@@ -7,6 +7,7 @@ pub mod Kind
 pub mod Table
 pub mod Header
 pub mod Walk
+pub mod Reading
 pub mod Name
 pub mod Heads
 pub mod Names

@@ -1,0 +1,21 @@
+-- The record that some bytes begin with: what code that sees a record's bytes is promised of. A word that is not there reads as 0.
+use Prim.Native.Nat.{ℕ, zero, suc, _+_}
+use mathlib.Core.List.{List, [], _∷_}
+use Rattle.paper.specs.Table.{Record, tailLength}
+use Rattle.paper.specs.Word.{Order, wordAt}
+
+module _ (order : Order) where
+  -- so many words from a place on
+  abbrev pub wordsFrom : List ℕ → ℕ → ℕ → List ℕ
+  wordsFrom s p zero = []
+  wordsFrom s p (suc n) = wordAt order s p ∷ wordsFrom s (p + 4) n
+
+  -- "Head: name_off, info, size or type, 32 bits each", and the tail that the info word asks for
+  unfoldable pub recordIn : List ℕ → Record
+  recordIn s =
+      record {
+        nameOff = wordAt order s 0;
+        info = wordAt order s 4;
+        third = wordAt order s 8;
+        tail = wordsFrom s 12 (tailLength (wordAt order s 4));
+      }
