@@ -1,6 +1,4 @@
 pub mod Headers
-pub mod Columns
-pub mod TailWords
 pub mod Left
 pub mod WalkSteps
 pub mod Progress

@@ -8,11 +8,12 @@ use native.Mathlib.Omega.{arith}
 use borrow.Author.Tests.{lt-ltb, le-ltb, le-leb, lt-leb, leb-true, leb-false, not-true, not-false, eq-eqb, ne-eqb}
 use lib.Dec.{leb, eqb}
 use lib.ListN.{length, getD, take, drop, length-drop}
-use lib.Seq.{drop-drop}
+use Rattle.paper.proofs.Reading.{wordAt-drop}
+use Rattle.rows.proofs.RoleCodes.{sizeRuleOf-sizeCode}
+use Rattle.rows.specs.Codes.{sizeCode, sizeRuleOf}
 use Rattle.gate.proofs.Scans.{part-rest}
-use Rattle.gate.specs.SizeStep.{codeOf, ruleOf, readable, stepOf}
-use Rattle.paper.specs.Header.{orderOf}
-use Rattle.paper.specs.Kind.{SizeRule, eight, sizeWord, countTimes, referent, noSize, rowOf}
+use Rattle.gate.specs.SizeStep.{readable, stepOf}
+use Rattle.paper.specs.Kind.{noSize, rowOf}
 use Rattle.paper.specs.Size.{Step, lost, stepBy, stepAtPlace, stepAt}
 use Rattle.paper.specs.Header.{orderOf}
 use Rattle.paper.specs.KindNo.{ARRAY}
@@ -22,20 +23,13 @@ use Rattle.paper.specs.Word.{lowFirst, wordAt}
 
 -- ── rules as numbers ──
 
-pub ruleOf-codeOf : (s : SizeRule) → ruleOf (codeOf s) ≡ s
-ruleOf-codeOf eight = refl
-ruleOf-codeOf sizeWord = refl
-ruleOf-codeOf countTimes = refl
-ruleOf-codeOf referent = refl
-ruleOf-codeOf noSize = refl
-
-pub ruleOf-other : (n : ℕ) → (n ≡ 1 → ⊥) → (n ≡ 2 → ⊥) → (n ≡ 3 → ⊥) → (n ≡ 4 → ⊥) → ruleOf n ≡ noSize
-ruleOf-other zero a b c d = refl
-ruleOf-other (suc zero) a b c d = absurd (a refl)
-ruleOf-other (suc (suc zero)) a b c d = absurd (b refl)
-ruleOf-other (suc (suc (suc zero))) a b c d = absurd (c refl)
-ruleOf-other (suc (suc (suc (suc zero)))) a b c d = absurd (d refl)
-ruleOf-other (suc (suc (suc (suc (suc n))))) a b c d = refl
+pub sizeRuleOf-other : (n : ℕ) → (n ≡ 1 → ⊥) → (n ≡ 2 → ⊥) → (n ≡ 3 → ⊥) → (n ≡ 4 → ⊥) → sizeRuleOf n ≡ noSize
+sizeRuleOf-other zero a b c d = refl
+sizeRuleOf-other (suc zero) a b c d = absurd (a refl)
+sizeRuleOf-other (suc (suc zero)) a b c d = absurd (b refl)
+sizeRuleOf-other (suc (suc (suc zero))) a b c d = absurd (c refl)
+sizeRuleOf-other (suc (suc (suc (suc zero)))) a b c d = absurd (d refl)
+sizeRuleOf-other (suc (suc (suc (suc (suc n))))) a b c d = refl
 
 -- ── a record that can be read ──
 
@@ -72,19 +66,15 @@ module _ (s : List ℕ) {w : ℕ} (info : w ≡ wordAt lowFirst s 4) {k : ℕ} (
   stepOf-unreadable e = sym (ap choose (not-true (readable k (length s)) (sym test ∙ e))) ∙ stepOf-says
 
   pub stepOf-readable : t ≡ false → {third element n r : ℕ} {x : Step} → third ≡ wordAt lowFirst s 8 → element ≡ wordAt lowFirst s 12 → n ≡ wordAt lowFirst s 20
-      → r ≡ codeOf (rowOf k .size) → x ≡ stepBy (ruleOf r) third element n → x ≡ stepOf s
+      → r ≡ sizeCode (rowOf k .size) → x ≡ stepBy (sizeRuleOf r) third element n → x ≡ stepOf s
   stepOf-readable e {r = r} e₈ e₁₂ e₂₀ code d =
-      let rule : ruleOf r ≡ rowOf k .size = ap ruleOf code ∙ ruleOf-codeOf _ in
+      let rule : sizeRuleOf r ≡ rowOf k .size = ap sizeRuleOf code ∙ sizeRuleOf-sizeCode _ in
       d
       ∙ (λ i. stepBy (rule i) (e₈ i) (e₁₂ i) (e₂₀ i))
       ∙ sym (ap choose (not-false (readable k (length s)) (sym test ∙ e)))
       ∙ stepOf-says
 
 -- ── the record of a type ──
-
-wordAt-drop : (b : List ℕ) (p k : ℕ) → wordAt lowFirst (drop p b) k ≡ wordAt lowFirst b (p + k)
-unfolding wordAt
-wordAt-drop b p k = rw drop-drop refl
 
 -- a test of a difference is a test of a sum
 leb-shift : (k p n : ℕ) → p ≤ n → leb k (n - p) ≡ leb (p + k) n
@@ -114,7 +104,7 @@ module _ (b index : List ℕ) (t : ℕ) where
     stepAt-inside h c =
         let p = getD index t 0 in
         let same : leb 24 (length (drop p b)) ≡ leb (p + 24) (length b) = rw length-drop (leb-shift 24 p (length b) (omega arith)) in
-        rw (lt-ltb _ _ inside, le-leb _ _ h, le-leb _ _ c, wordAt-drop b p 4, wordAt-drop b p 8, wordAt-drop b p 12, wordAt-drop b p 20, same) refl
+        rw (lt-ltb _ _ inside, le-leb _ _ h, le-leb _ _ c, wordAt-drop lowFirst b p 4, wordAt-drop lowFirst b p 8, wordAt-drop lowFirst b p 12, wordAt-drop lowFirst b p 20, same) refl
 
     pub stepAt-part : 24 ≤ getD index t 0 → getD index t 0 + 12 ≤ length b → {x : Step}
         → x ≡ stepOf (take (length b - getD index t 0) (drop (getD index t 0) b)) → x ≡ stepAt b index t

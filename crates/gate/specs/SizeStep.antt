@@ -1,12 +1,12 @@
--- What the size question in code reads off one record, in the paper's words, and its rules as numbers.
+-- What the size question in code reads off one record, in the paper's words.
 use Prim.Native.Nat.{ℕ}
 use mathlib.Core.Bool.{Bool, cond, not, _&&_, _||_}
-use mathlib.Core.List.{List, [], _∷_}
+use mathlib.Core.List.{List}
 use lib.Dec.{leb, eqb}
-use lib.ListN.{length, getD}
+use lib.ListN.{length}
 use Rattle.gate.specs.declared.sizes.Step.{Step}
 use Rattle.gate.specs.declared.sizes.Step.the-variants.{Is, ManyOf, Sizeless, Lost}
-use Rattle.paper.specs.Kind.{SizeRule, eight, sizeWord, countTimes, referent, noSize, rowOf}
+use Rattle.paper.specs.Kind.{rowOf}
 use Rattle.paper.specs.KindNo.{ARRAY}
 use Rattle.paper.specs.Size as size
 use Rattle.paper.specs.Size.{is, manyOf, sizeless, lost, stepBy}
@@ -19,18 +19,6 @@ stepAsPaper (Is s) = is s
 stepAsPaper (ManyOf n u) = manyOf n (u .0)
 stepAsPaper Sizeless = sizeless
 stepAsPaper Lost = lost
-
--- ── rules as numbers ──
-
-abbrev pub codeOf : SizeRule → ℕ
-codeOf noSize = 0
-codeOf eight = 1
-codeOf sizeWord = 2
-codeOf countTimes = 3
-codeOf referent = 4
-
-abbrev pub ruleOf : ℕ → SizeRule
-ruleOf code = getD (noSize ∷ eight ∷ sizeWord ∷ countTimes ∷ referent ∷ []) code noSize
 
 -- ── a record by the bytes from its place on ──
 

@@ -1,7 +1,7 @@
 // The places of the records, which an accepted blob leaves in the index.
 use crate::clear::clear;
-use crate::kinds::tail_words;
 use paper::Place;
+use rows::tail_words;
 ghost use mathlib.Core.Path.{_≡_};
 ghost use lib.ListN.{length};
 ghost use Rattle.paper.specs.Gate.{indexOf};

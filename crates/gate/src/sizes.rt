@@ -1,16 +1,17 @@
 // The exact size of a type, asked of any blob and any index. Counts are multiplied down the chain of records.
-use crate::kinds::is_known;
-use crate::kinds::kind_of;
-use crate::kinds::size_rule;
 use paper::Place;
 use paper::Sized;
 use paper::TypeNo;
+use rows::is_known;
+use rows::kind_of;
+use rows::size_rule;
 ghost use mathlib.Core.Path.{_≡_};
 ghost use Prim.Native.Nat.{_*_, _≤_};
 ghost use mathlib.Core.Bool.{not};
-ghost use Rattle.gate.specs.SizeStep.{cut, readable, ruleOf, stepAsPaper, stepOf};
+ghost use Rattle.gate.specs.SizeStep.{cut, readable, stepAsPaper, stepOf};
 ghost use Rattle.paper.specs.Answer.{sizedAsPaper};
 ghost use Rattle.paper.specs.Size.{exactly, sizeAnswer, sizeOf, stepAt, stepBy};
+ghost use Rattle.rows.specs.Codes.{sizeRuleOf};
 
 // What one record says of a size: it, so many times another type's, none, or that it cannot be read.
 enum Step {
@@ -22,7 +23,7 @@ enum Step {
 
 // By rule: from a record's third word, its element and its element count.
 fn step_by(rule: u32, third: u32, element: u32, n: u32) -> Step
-    ensures { λ r. ⌜ stepAsPaper r ≡ stepBy (ruleOf rule) third element n ⌝ }
+    ensures { λ r. ⌜ stepAsPaper r ≡ stepBy (sizeRuleOf rule) third element n ⌝ }
 {
     match rule {
         1 => Step::Is(8),

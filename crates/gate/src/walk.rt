@@ -1,10 +1,10 @@
 // Phase 2, reports 6 to 8: the records of the type section are walked and counted.
-use crate::kinds::is_known;
-use crate::kinds::kind_of;
-use crate::kinds::tail_words;
 use paper::Place;
 use paper::Report;
 use paper::TypeNo;
+use rows::is_known;
+use rows::kind_of;
+use rows::tail_words;
 ghost use mathlib.Core.Path.{_≡_};
 ghost use Prim.Native.Nat.{_≤_};
 ghost use Rattle.paper.specs.Walk as paper;

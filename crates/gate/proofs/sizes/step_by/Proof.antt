@@ -1,6 +1,6 @@
 -- `gate::sizes::step_by` meets its contract: a case for each rule.
 -- Assumes nothing.
-use Rattle.gate.proofs.SizeSteps.{ruleOf-other}
+use Rattle.gate.proofs.SizeSteps.{sizeRuleOf-other}
 use borrow.Author.Needs.{needs}
 use Rattle.gate.proofs.sizes.step_by.Statement.{statement}
 use Rattle.gate.proofs.sizes.step_by.Tie as tie
@@ -18,7 +18,7 @@ returns-4 : tie.Need-returns-4
 returns-4 c = rw (c .match .keys4)
 
 returns-5 : tie.Need-returns-5
-returns-5 c = let r = c .match .rest in rw (ruleOf-other _ (r .0 .0 .0 .1) (r .0 .0 .1) (r .0 .1) (r .1))
+returns-5 c = let r = c .match .rest in rw (sizeRuleOf-other _ (r .0 .0 .0 .1) (r .0 .0 .1) (r .0 .1) (r .1))
 
 pub step-by-spec : {M : Type 1} → statement M
 step-by-spec = tie.close (tie.spec returns returns-2 returns-3 returns-4 returns-5)

@@ -8,7 +8,7 @@ use denote.Ref.{now}
 use Rattle.paper.specs.Table.{kindIn, tailLength}
 use Rattle.paper.specs.Walk.{known}
 use Rattle.gate.specs.declared.walk.Step.the-variants.{Next}
-use Rattle.gate.proofs.TailWords.{tailLength-few}
+use Rattle.rows.proofs.RoleCodes.{tailLength-few}
 use Rattle.gate.proofs.WalkSteps.{nextPlace, knownAt, way-stepFrom, head-cut, unknown, tail-cut, onward}
 use borrow.Author.Needs.{needs}
 use Rattle.gate.proofs.walk.step_from.Statement.{statement}

@@ -1,8 +1,8 @@
--- `kinds::is_known` meets its contract: the second bound matters only where the first holds.
+-- `rows::info::is_known` meets its contract: the second bound matters only where the first holds.
 -- Assumes nothing.
 use borrow.Author.Tests.{le-leb, lt-leb}
-use Rattle.gate.proofs.kinds.is_known.Statement.{statement}
-use Rattle.gate.proofs.kinds.is_known.Tie as tie
+use Rattle.rows.proofs.info.is_known.Statement.{statement}
+use Rattle.rows.proofs.info.is_known.Tie as tie
 
 returns : tie.Need-returns
 returns c = simp (le-leb _ _ (c .if1 .taken))

@@ -1,0 +1,90 @@
+-- Laws of roles as numbers: code and role undo each other, and what stands past a row's words is a plain number.
+-- Assumes nothing.
+use Prim.Native.Nat.{ℕ, zero, suc, _+_, _*_, _≤_, _<_}
+use mathlib.Core.Path.{_≡_, refl, sym, ap}
+use native.Mathlib.Nat.{mul-le-mul}
+use native.Mathlib.Omega.{arith}
+use borrow.Author.Tests.{leb-true}
+use lib.Dec.{leb}
+use lib.ListN.{length, getD, List·getD-eq-default}
+use mathlib.Core.List.{List}
+use Rattle.paper.specs.Kind.{NameRule, offset0, anyName, offset0OrIdentifier, identifier, nonEmpty, sectionName, RefRule, voidOrPlain, plain, anInt, aProto, aVar, taggable, Role, names, refers, holds, number, SizeRule, eight, sizeWord, countTimes, referent, noSize, Row, rows, rowOf}
+use Rattle.paper.specs.Table.{kindIn, vlenIn, tailLength}
+use Rattle.paper.proofs.Rows.{rowOf-every}
+use Rattle.rows.specs.Codes.{nameCode, refCode, roleCode, roleOf, roleAt, sizeCode, sizeRuleOf}
+
+-- ── codes and what they stand for ──
+
+pub roleOf-nameCode : (rule : NameRule) → roleOf (nameCode rule) ≡ names rule
+roleOf-nameCode offset0 = refl
+roleOf-nameCode anyName = refl
+roleOf-nameCode offset0OrIdentifier = refl
+roleOf-nameCode identifier = refl
+roleOf-nameCode nonEmpty = refl
+roleOf-nameCode sectionName = refl
+
+roleOf-refCode : (rule : RefRule) → roleOf (refCode rule) ≡ refers rule
+roleOf-refCode voidOrPlain = refl
+roleOf-refCode plain = refl
+roleOf-refCode anInt = refl
+roleOf-refCode aProto = refl
+roleOf-refCode aVar = refl
+roleOf-refCode taggable = refl
+
+roleOf-holds : (rule : RefRule) → roleOf (refCode rule + 6) ≡ holds rule
+roleOf-holds voidOrPlain = refl
+roleOf-holds plain = refl
+roleOf-holds anInt = refl
+roleOf-holds aProto = refl
+roleOf-holds aVar = refl
+roleOf-holds taggable = refl
+
+-- a role comes back from its code, so the codes are one to one
+pub roleOf-roleCode : (ρ : Role) → roleOf (roleCode ρ) ≡ ρ
+roleOf-roleCode number = refl
+roleOf-roleCode (names rule) = roleOf-nameCode rule
+roleOf-roleCode (refers rule) = roleOf-refCode rule
+roleOf-roleCode (holds rule) = roleOf-holds rule
+
+pub sizeRuleOf-sizeCode : (s : SizeRule) → sizeRuleOf (sizeCode s) ≡ s
+sizeRuleOf-sizeCode eight = refl
+sizeRuleOf-sizeCode sizeWord = refl
+sizeRuleOf-sizeCode countTimes = refl
+sizeRuleOf-sizeCode referent = refl
+sizeRuleOf-sizeCode noSize = refl
+
+-- ── how many words a row has ──
+
+-- the words of a kind's tail that stand once, and those of an entry
+abbrev onceOf : ℕ → ℕ
+onceOf k = length (rowOf k .once)
+
+abbrev eachOf : ℕ → ℕ
+eachOf k = length (rowOf k .each)
+
+pub once-few : (k : ℕ) → onceOf k ≤ 3
+once-few k = leb-true _ _ (rowOf-every (λ (r : Row). leb (length (r .once)) 3) (unfold rows in refl) k)
+
+pub each-few : (k : ℕ) → eachOf k ≤ 3
+each-few k = leb-true _ _ (rowOf-every (λ (r : Row). leb (length (r .each)) 3) (unfold rows in refl) k)
+
+-- no tail has over 196,608 words, where a 16-bit number counts its entries
+pub tail-few : (k v : ℕ) → v < 65536 → onceOf k + v * eachOf k ≤ 196608
+tail-few k v h =
+    omega (arith, once-few k, mul-le-mul {n₁ = v} {m₁ = eachOf k} {n₂ = 65535} {m₂ = 3} (omega arith) (each-few k))
+
+pub tailLength-few : (info : ℕ) → tailLength info ≤ 196608
+unfolding tailLength
+tailLength-few info = tail-few (kindIn info) (vlenIn info) (omega arith)
+
+-- ── words that a row does not have ──
+
+-- behind at most three words, a place that is none of the first three has a plain number
+pub roleAt-past : (ρs : List Role) (i : ℕ) → length ρs ≤ 3 → (i ≡ 0 → ⊥) → (i ≡ 1 → ⊥) → (i ≡ 2 → ⊥) → 0 ≡ roleAt ρs i
+roleAt-past ρs i few a b c = sym (ap roleCode (List·getD-eq-default ρs number (later i a b c)))
+  where
+    later : (j : ℕ) → (j ≡ 0 → ⊥) → (j ≡ 1 → ⊥) → (j ≡ 2 → ⊥) → length ρs ≤ j
+    later zero a b c = absurd (a refl)
+    later (suc zero) a b c = absurd (b refl)
+    later (suc (suc zero)) a b c = absurd (c refl)
+    later (suc (suc (suc j))) a b c = omega arith

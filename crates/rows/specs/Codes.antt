@@ -1,0 +1,106 @@
+-- The rows of the kinds as numbers: what each cell of the code's table says.
+use Prim.Native.Nat.{ℕ, _+_, _<_}
+use mathlib.Core.Path.{_≡_}
+use mathlib.Core.Bool.{cond}
+use mathlib.Core.List.{List, [], _∷_}
+use lib.ListN.{length, getD}
+use Rattle.paper.specs.Choice.{same}
+use Rattle.paper.specs.Kind.{NameRule, offset0, anyName, offset0OrIdentifier, identifier, nonEmpty, sectionName, RefRule, voidOrPlain, plain, anInt, aProto, aVar, taggable, Role, names, refers, holds, number, Values, free, oneOf, SizeRule, eight, sizeWord, countTimes, referent, noSize, Row, rowOf}
+
+-- ── roles: 0 a plain number, 1 to 6 a name, 7 to 12 a reference, 13 to 18 a by-value reference ──
+
+abbrev pub nameCode : NameRule → ℕ
+nameCode offset0 = 1
+nameCode anyName = 2
+nameCode offset0OrIdentifier = 3
+nameCode identifier = 4
+nameCode nonEmpty = 5
+nameCode sectionName = 6
+
+abbrev pub refCode : RefRule → ℕ
+refCode voidOrPlain = 7
+refCode plain = 8
+refCode anInt = 9
+refCode aProto = 10
+refCode aVar = 11
+refCode taggable = 12
+
+abbrev pub roleCode : Role → ℕ
+roleCode number = 0
+roleCode (names rule) = nameCode rule
+roleCode (refers rule) = refCode rule
+roleCode (holds rule) = refCode rule + 6
+
+-- the role of a code, a plain number where it is none
+abbrev pub roleOf : ℕ → Role
+roleOf code =
+    getD
+    (number
+    ∷ names offset0 ∷ names anyName ∷ names offset0OrIdentifier ∷ names identifier ∷ names nonEmpty ∷ names sectionName
+    ∷ refers voidOrPlain ∷ refers plain ∷ refers anInt ∷ refers aProto ∷ refers aVar ∷ refers taggable
+    ∷ holds voidOrPlain ∷ holds plain ∷ holds anInt ∷ holds aProto ∷ holds aVar ∷ holds taggable
+    ∷ [])
+    code
+    number
+
+-- the role of a word by its place among others: what is outside is a plain number
+abbrev pub roleAt : List Role → ℕ → ℕ
+roleAt ρs i = roleCode (getD ρs i number)
+
+-- ── where a size comes from ──
+
+abbrev pub sizeCode : SizeRule → ℕ
+sizeCode noSize = 0
+sizeCode eight = 1
+sizeCode sizeWord = 2
+sizeCode countTimes = 3
+sizeCode referent = 4
+
+abbrev pub sizeRuleOf : ℕ → SizeRule
+sizeRuleOf code = getD (noSize ∷ eight ∷ sizeWord ∷ countTimes ∷ referent ∷ []) code noSize
+
+-- ── which numbers a part of a head may be ──
+
+-- the numbers of each code: 0 only, FUNC's linkage, INT's sizes, ENUM's sizes, FLOAT's sizes, and any
+abbrev pub valuesOf : ℕ → Values
+valuesOf code =
+    getD
+    (oneOf (0 ∷ [])
+    ∷ oneOf (0 ∷ 1 ∷ 2 ∷ [])
+    ∷ oneOf (1 ∷ 2 ∷ 4 ∷ 8 ∷ 16 ∷ [])
+    ∷ oneOf (1 ∷ 2 ∷ 4 ∷ 8 ∷ [])
+    ∷ oneOf (2 ∷ 4 ∷ 8 ∷ 12 ∷ 16 ∷ [])
+    ∷ [])
+    code
+    free
+
+abbrev pub valuesCode : Values → ℕ
+valuesCode free = 5
+valuesCode (oneOf ws) =
+    cond (same ws (0 ∷ [])) 0
+    (cond (same ws (0 ∷ 1 ∷ 2 ∷ [])) 1
+    (cond (same ws (1 ∷ 2 ∷ 4 ∷ 8 ∷ 16 ∷ [])) 2
+    (cond (same ws (1 ∷ 2 ∷ 4 ∷ 8 ∷ [])) 3
+    4)))
+
+-- ── a row ──
+
+-- kind_flag, vlen, third word and its role, name, tail once and its roles, tail per entry and its roles, size
+abbrev pub codes : Row → List ℕ
+codes r =
+    valuesCode (r .flag)
+    ∷ valuesCode (r .vlen)
+    ∷ valuesCode (r .thirdValues)
+    ∷ roleCode (r .thirdRole)
+    ∷ nameCode (r .name)
+    ∷ length (r .once)
+    ∷ roleAt (r .once) 0 ∷ roleAt (r .once) 1 ∷ roleAt (r .once) 2
+    ∷ length (r .each)
+    ∷ roleAt (r .each) 0 ∷ roleAt (r .each) 1 ∷ roleAt (r .each) 2
+    ∷ sizeCode (r .size)
+    ∷ []
+
+-- the number of a kind's row among the twenty
+pub record RowNo (kind r : ℕ) : Type 0 where
+  pub inside : r < 20
+  pub same-row : rowOf r ≡ rowOf kind

@@ -1,0 +1,21 @@
+// What an info word says, and the row of each kind: what its head may hold, the role of each word, where its size comes from.
+mod heads; // what a head may hold
+mod info; // the parts of an info word
+mod roles; // the role of each word
+mod table; // the kinds' rows
+
+pub use heads::flag_allowed;
+pub use heads::third_allowed;
+pub use heads::vlen_allowed;
+pub use info::flag_of;
+pub use info::is_known;
+pub use info::kind_of;
+pub use info::vlen_of;
+pub use roles::entry_role;
+pub use roles::entry_words;
+pub use roles::name_role;
+pub use roles::once_role;
+pub use roles::once_words;
+pub use roles::size_rule;
+pub use roles::tail_words;
+pub use roles::third_role;

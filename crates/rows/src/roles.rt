@@ -1,0 +1,76 @@
+// The words of a record by kind: how many there are, the role of each, and where the size comes from.
+use crate::info::kind_of;
+use crate::info::vlen_of;
+use crate::table::cell;
+ghost use mathlib.Core.Path.{_≡_};
+ghost use lib.ListN.{length};
+ghost use Rattle.paper.specs.Kind.{rowOf};
+ghost use Rattle.paper.specs.Table.{tailLength};
+ghost use Rattle.rows.specs.Codes.{nameCode, roleAt, roleCode, sizeCode};
+
+// The role of a head's third word.
+pub fn third_role(kind: u32) -> u32
+    ensures { λ r. ⌜ r ≡ roleCode (rowOf kind .thirdRole) ⌝ }
+{
+    cell(kind, 3)
+}
+
+// The role of a head's name: the code of its rule.
+pub fn name_role(kind: u32) -> u32
+    ensures { λ r. ⌜ r ≡ nameCode (rowOf kind .name) ⌝ }
+{
+    cell(kind, 4)
+}
+
+// How many words of a tail stand once.
+pub fn once_words(kind: u32) -> u32
+    ensures { λ r. ⌜ r ≡ length (rowOf kind .once) ⌝ }
+{
+    cell(kind, 5)
+}
+
+// The role of one of them; a plain number where there is none.
+pub fn once_role(kind: u32, i: u32) -> u32
+    ensures { λ r. ⌜ r ≡ roleAt (rowOf kind .once) i ⌝ }
+{
+    match i {
+        0 => cell(kind, 6),
+        1 => cell(kind, 7),
+        2 => cell(kind, 8),
+        _ => 0,
+    }
+}
+
+// How many words an entry of a tail has.
+pub fn entry_words(kind: u32) -> u32
+    ensures { λ r. ⌜ r ≡ length (rowOf kind .each) ⌝ }
+{
+    cell(kind, 9)
+}
+
+// The role of one of them; a plain number where there is none.
+pub fn entry_role(kind: u32, i: u32) -> u32
+    ensures { λ r. ⌜ r ≡ roleAt (rowOf kind .each) i ⌝ }
+{
+    match i {
+        0 => cell(kind, 10),
+        1 => cell(kind, 11),
+        2 => cell(kind, 12),
+        _ => 0,
+    }
+}
+
+// Where a kind's size comes from.
+pub fn size_rule(kind: u32) -> u32
+    ensures { λ r. ⌜ r ≡ sizeCode (rowOf kind .size) ⌝ }
+{
+    cell(kind, 13)
+}
+
+// How many words follow a head with this info word.
+pub fn tail_words(info: u32) -> u32
+    ensures { λ r. ⌜ r ≡ tailLength info ⌝ }
+{
+    let kind = kind_of(info);
+    once_words(kind) + vlen_of(info) * entry_words(kind)
+}
