@@ -146,21 +146,28 @@ fn cut_tails(found: &mut Vec<Case>, kind: Kind) {
     }
 }
 
-/// Every reference of a record, to one type of every kind and past them.
+/// Every reference of a record, to one type of every kind, to void and past
+/// the types. A table for each kind referred to keeps them short.
 fn turned_references(found: &mut Vec<Case>, kind: Kind) {
-    let mut zoo = one_of(kind);
     for other in ALL_KINDS {
-        add_one(&mut zoo, other);
+        let mut m = one_of(kind);
+        let to = add_one(&mut m, other);
+        turn_each(found, &m, &[to]);
     }
-    let Some(table) = crate::generate::pieces::table_of(&zoo) else {
+    let others = [0, 1, 2, 3, 4, 5, 6, 7, 1 << 31, u32::MAX];
+    turn_each(found, &one_of(kind), &others);
+}
+
+fn turn_each(found: &mut Vec<Case>, whole: &Make, others: &[u32]) {
+    let Some(table) = crate::generate::pieces::table_of(whole) else {
         return;
     };
     for reference in references(&table.records[4]) {
-        for to in (0..=zoo.count() + 1).chain([1 << 31, u32::MAX]) {
-            let mut m = zoo.clone();
+        for to in others {
+            let mut m = whole.clone();
             match reference.word {
-                2 => m.at(5).third = to,
-                word => m.at(5).tail[word - 3] = to,
+                2 => m.at(5).third = *to,
+                word => m.at(5).tail[word - 3] = *to,
             }
             add(found, &m);
         }

@@ -54,15 +54,16 @@ const MOST_TRIES: usize = 20_000;
 pub fn cases(wanted: &Wanted) -> Vec<Case> {
     let mut found = Vec::new();
     if wanted.edges {
+        // at every scale: an edge left out is a rule that is not tried
         found.extend(edges::cases());
-        found.retain(|case| answers(case, wanted));
+        found.retain(|case| asked_for(case, wanted));
     }
     let all = found.len() + wanted.cases;
     let mut r = Random::new(wanted.seed);
     let mut tries = 0;
     while found.len() < all && tries < MOST_TRIES {
         let case = one(&mut r, wanted);
-        if answers(&case, wanted) {
+        if fits(&case, wanted.scale) && asked_for(&case, wanted) {
             found.push(case);
             tries = 0;
         } else {
@@ -72,11 +73,9 @@ pub fn cases(wanted: &Wanted) -> Vec<Case> {
     found
 }
 
-/// Has a case the number asked for, and does it fit?
-fn answers(case: &Case, wanted: &Wanted) -> bool {
-    wanted.ops.contains(&case.op)
-        && fits(case, wanted.scale)
-        && wanted.only.is_none_or(|number| run(case).number == number)
+/// Has a case an op and the number asked for?
+fn asked_for(case: &Case, wanted: &Wanted) -> bool {
+    wanted.ops.contains(&case.op) && wanted.only.is_none_or(|number| run(case).number == number)
 }
 
 /// Checks and joins have the most answers, so they come more often.
