@@ -83,7 +83,8 @@ fn add_one(m: &mut Make, kind: Kind) -> u32 {
     }
 }
 
-/// Each header word, a little and a lot off; each length up to 25.
+/// Each header word, a little and a lot off; each length up to 25; string
+/// sections that begin or end wrongly.
 fn headers(found: &mut Vec<Case>) {
     let blob = one_of(Kind::Ptr).blob();
     for place in (0..24).step_by(4) {
@@ -96,6 +97,9 @@ fn headers(found: &mut Vec<Case>) {
     }
     for length in 0..=25 {
         add_blob(found, Make::new().blob()[..length].to_vec(), 1);
+    }
+    for strings in [&[][..], &[0], &[1], &[0, 0], &[1, 0], &[0, 1], &[0, 1, 0]] {
+        add_blob(found, blob_of(&[], strings), 1);
     }
     for places in 0..8 {
         let case = Case {
