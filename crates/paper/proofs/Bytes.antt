@@ -1,10 +1,11 @@
 -- Laws of `Word` and `Fit`, in any byte order: runs of words and runs of bytes undo each other, and what of a bounded list is bounded.
 -- Assumes nothing.
-use Prim.Native.Nat.{ℕ, zero, suc, _*_, _/_, _%_}
+use Prim.Native.Nat.{ℕ, zero, suc, _-_, _*_, _/_, _%_}
 use mathlib.Core.Path.{_≡_, refl, ap, _∙_}
 use mathlib.Core.List.{List, [], _∷_, _++_}
 use native.Mathlib.Omega.{arith}
-use lib.ListN.{length, getD, take, drop}
+use lib.ListN.{length, getD, take, drop, length-drop}
+use lib.Seq.{take-all}
 use mir.Syntax.{w8}
 use mir.Val.{Fits}
 use Rattle.paper.specs.Fit.{Below, Bytes, wordBound}
@@ -38,6 +39,10 @@ pub below-drop : (n k : ℕ) (s : List ℕ) → Below n s → Below n (drop k s)
 below-drop n zero s h = h
 below-drop n (suc k) [] h = tt
 below-drop n (suc k) (x ∷ s) h = below-drop n k s (h .1)
+
+-- the rest of a list, as a part of a slice has it
+pub part-rest : (b : List ℕ) (p : ℕ) → take (length b - p) (drop p b) ≡ drop p b
+part-rest b p = take-all (length b - p) (drop p b) (simp length-drop (omega arith))
 
 -- a u8 slice holds bytes: what code knows of every element of one
 pub slice-bytes : (b : List ℕ) → ((i : ℕ) → Fits w8 (getD b i 0)) → Bytes b

@@ -72,7 +72,7 @@ fn sized(s: Sized) -> Answer
 fn size(x: u32, a: &[u8], given: &[u32], index: &[u32], work: &[u32], output: &[u8]) -> Seen
     ensures { λ s. ⌜ s ≡ seenWith (sizeOf (now (a .entry)) (now (given .entry)) x) (now (index .entry)) (now (work .entry)) (now (output .entry)) ⌝ }
 {
-    seen(sized(gate::size(a, given, TypeNo(x))), index, work, output)
+    seen(sized(sizes::size(a, given, TypeNo(x))), index, work, output)
 }
 
 // Op 3: the name in a at offset x; the part stands for the output.
@@ -80,9 +80,9 @@ fn name(x: u32, a: &[u8], index: &[u32], work: &[u32]) -> Seen
     requires { ⌜ length (now a) < 4294967296 ⌝ }
     ensures { λ s. ⌜ s ≡ seenWith (named (now (a .entry)) x) (now (index .entry)) (now (work .entry)) (nameAt (now (a .entry)) x) ⌝ }
 {
-    let part = gate::name(a, NameOff(x));
+    let part = scan::name(a, NameOff(x));
     let p = part.len() as u32;
-    if gate::nameless(a, NameOff(x)) {
+    if scan::nameless(a, NameOff(x)) {
         return seen(plain(1, p), index, work, part);
     }
     seen(plain(0, p), index, work, part)

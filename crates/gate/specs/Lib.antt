@@ -1,4 +1,0 @@
-pub mod Header
-pub mod Part
-pub mod Phase2
-pub mod SizeStep

@@ -1,0 +1,8 @@
+pub mod Headers
+pub mod Left
+pub mod WalkSteps
+pub mod Progress
+pub mod Findings
+pub mod Written
+pub mod Placing
+pub mod Scans

@@ -1,0 +1,84 @@
+-- Laws of `stepFrom`: a step in the bytes is a step of the walk over the words that are left.
+-- Assumes nothing.
+use Prim.Native.Nat.{ℕ, zero, suc, _+_, _*_, _≤_, _<_}
+use mathlib.Core.Path.{_≡_, refl}
+use mathlib.Core.Bool.{Bool, true, false, cond}
+use mathlib.Core.List.{List, [], _∷_}
+use native.Mathlib.Omega.{arith}
+use borrow.Author.Tests.{leb-true, leb-false, le-leb, lt-leb}
+use lib.Dec.{leb}
+use lib.ListN.{length, drop}
+use Rattle.paper.specs.Table.{kindIn, tailLength}
+use Rattle.paper.specs.Walk.{Walked, records, stopped, ahead, known, walkRecord, walkFrom}
+use Rattle.paper.specs.Word.{lowFirst, wordAt}
+use Rattle.paper.proofs.Sections.{recordFrom}
+use Rattle.scan.specs.declared.walk.Step.{Step}
+use Rattle.scan.specs.declared.walk.Step.the-variants.{Next, Cut, Unknown}
+use Rattle.scan.specs.Phase2.{stepFrom}
+
+-- ── how a step goes ──
+
+-- the place behind a record, by its info word
+abbrev pub nextPlace : List ℕ → ℕ → ℕ
+nextPlace b at = at + 12 + 4 * tailLength (wordAt lowFirst b (at + 4))
+
+abbrev pub knownAt : List ℕ → ℕ → Bool
+knownAt b at = known (kindIn (wordAt lowFirst b (at + 4)))
+
+-- the four ways of a step
+pub data Way (b : List ℕ) (at end : ℕ) : Step → Type 0 where
+  head-cut : end < at + 12 → Way b at end Cut
+  unknown : at + 12 ≤ end → knownAt b at ≡ false → Way b at end Unknown
+  tail-cut : at + 12 ≤ end → knownAt b at ≡ true → end < nextPlace b at → Way b at end Cut
+  onward : at + 12 ≤ end → knownAt b at ≡ true → nextPlace b at ≤ end → Way b at end (Next (record { 0 = nextPlace b at }))
+
+pub stepFrom-way : (b : List ℕ) (at end : ℕ) → Way b at end (stepFrom b at end)
+unfolding stepFrom
+stepFrom-way b at end = go (leb (at + 12) end) refl (knownAt b at) refl (leb (nextPlace b at) end) refl
+  where
+    go : (t : Bool) → leb (at + 12) end ≡ t → (k : Bool) → knownAt b at ≡ k → (n : Bool) → leb (nextPlace b at) end ≡ n → Way b at end (cond t (cond k (cond n (Next (record { 0 = nextPlace b at })) Cut) Unknown) Cut)
+    go false e k ek n en = head-cut (leb-false _ _ e)
+    go true e false ek n en = unknown (leb-true _ _ e) ek
+    go true e true ek false en = tail-cut (leb-true _ _ e) ek (leb-false _ _ en)
+    go true e true ek true en = onward (leb-true _ _ e) ek (leb-true _ _ en)
+
+-- and back: each way is that of `stepFrom`
+pub way-stepFrom : {b : List ℕ} {at end : ℕ} {s : Step} → Way b at end s → stepFrom b at end ≡ s
+unfolding stepFrom
+way-stepFrom (head-cut h) = simp (lt-leb _ _ h)
+way-stepFrom (unknown h k) = simp (le-leb _ _ h, k)
+way-stepFrom (tail-cut h k n) = simp (le-leb _ _ h, k, lt-leb _ _ n)
+way-stepFrom (onward h k n) = simp (le-leb _ _ h, k, le-leb _ _ n)
+
+-- ── a step of the walk ──
+
+-- where no words are left, the walk is done
+pub walkFrom-done : (room k : ℕ) → walkFrom room k [] ≡ records []
+walkFrom-done zero k = refl
+walkFrom-done (suc room) k = refl
+
+-- words are left and there is no room for a record more
+pub walkFrom-full : (k : ℕ) (ws : List ℕ) → 0 < length ws → walkFrom 0 k ws ≡ stopped 8 k
+walkFrom-full k [] h = absurd (omega arith)
+walkFrom-full k (w ∷ ws) h = refl
+
+-- fewer words are left than a head has
+pub walkFrom-short : (room k : ℕ) (ws : List ℕ) → 0 < length ws → length ws < 3 → walkFrom (suc room) k ws ≡ stopped 6 k
+walkFrom-short room k [] h l = absurd (omega arith)
+walkFrom-short room k (n ∷ []) h l = refl
+walkFrom-short room k (n ∷ i ∷ []) h l = refl
+walkFrom-short room k (n ∷ i ∷ t ∷ ws) h l = absurd (omega arith)
+
+module _ (rest : List ℕ → Walked) (k n i t : ℕ) (ws : List ℕ) where
+  pub walkRecord-unknown : known (kindIn i) ≡ false → walkRecord rest k n i t ws ≡ stopped 7 k
+  unfolding walkRecord
+  walkRecord-unknown e = rw e
+
+  pub walkRecord-cut : known (kindIn i) ≡ true → length ws < tailLength i → walkRecord rest k n i t ws ≡ stopped 6 k
+  unfolding walkRecord
+  walkRecord-cut e h = rw (e, lt-leb _ _ h)
+
+  pub walkRecord-onward : known (kindIn i) ≡ true → tailLength i ≤ length ws
+      → walkRecord rest k n i t ws ≡ ahead (recordFrom n i t ws) (rest (drop (tailLength i) ws))
+  unfolding walkRecord
+  walkRecord-onward e h = rw (e, le-leb _ _ h)

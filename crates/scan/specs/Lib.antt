@@ -1,0 +1,3 @@
+pub mod Header
+pub mod Part
+pub mod Phase2

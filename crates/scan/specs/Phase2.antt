@@ -1,0 +1,53 @@
+-- What the functions of phase 2 ask and answer, in the paper's terms.
+use Prim.Native.Nat.{ℕ, _+_, _*_, _%_, _≤_}
+use mathlib.Core.Path.{_≡_}
+use mathlib.Core.Bool.{cond}
+use mathlib.Core.List.{List}
+use lib.Dec.{leb}
+use lib.ListN.{length}
+use Rattle.paper.specs.Answer.{Answer, report, reportAsPaper}
+use Rattle.paper.specs.Header.{headerLength, typeLen}
+use Rattle.paper.specs.Limits.{byteLimit}
+use Rattle.paper.specs.Table.{kindIn, tailLength}
+use Rattle.paper.specs.Walk.{records, stopped, known, walk}
+use Rattle.paper.specs.Walk as paper
+use Rattle.paper.specs.Word.{lowFirst, wordAt}
+use Rattle.scan.specs.declared.walk.Step.{Step}
+use Rattle.scan.specs.declared.walk.Step.the-variants.{Next, Cut, Unknown}
+use Rattle.scan.specs.declared.walk.Walked.{Walked}
+use Rattle.scan.specs.declared.walk.Walked.the-variants.{Whole, Stopped}
+
+-- what phase 1 has shown of a blob whose type section is so many bytes long
+pub record TypeSection (b : List ℕ) (n : ℕ) : Type 0 where
+  pub is-type-len : n ≡ typeLen b
+  pub whole-words : n % 4 ≡ 0
+  pub inside : headerLength + n ≤ length b
+  pub short : length b ≤ byteLimit
+
+-- what a walk has found, but for the records themselves: how many there are, or a report
+pub data Finding : Type 0 where
+  counted : ℕ → Finding
+  refused : Answer → Finding
+
+abbrev pub findingOf : paper.Walked → Finding
+findingOf (records rs) = counted (length rs)
+findingOf (stopped n t) = refused (report n t)
+
+abbrev pub walkedAsPaper : Walked → Finding
+walkedAsPaper (Whole n) = counted n
+walkedAsPaper (Stopped r) = refused (reportAsPaper r)
+
+-- what phases 1 and 2 have shown before the places are written: a walk that counted n records, and enough places for them
+pub record WalkDone (b : List ℕ) (n places : ℕ) : Type 0 where
+  pub section : TypeSection b (typeLen b)
+  pub finds : findingOf (walk b) ≡ counted n
+  pub enough : n + 1 ≤ places
+
+-- one step from a place: the place behind the record there, or why there is none
+unfoldable pub stepFrom : List ℕ → ℕ → ℕ → Step
+stepFrom b at end =
+    let info = wordAt lowFirst b (at + 4) in
+    let next = at + 12 + 4 * tailLength info in
+    cond (leb (at + 12) end)
+    (cond (known (kindIn info)) (cond (leb next end) (Next (record { 0 = next })) Cut) Unknown)
+    Cut

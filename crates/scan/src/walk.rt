@@ -1,0 +1,66 @@
+// Phase 2, reports 6 to 8: the records of the type section are walked and counted.
+use paper::Place;
+use paper::Report;
+use paper::TypeNo;
+use rows::is_known;
+use rows::kind_of;
+use rows::tail_words;
+ghost use mathlib.Core.Path.{_≡_};
+ghost use Prim.Native.Nat.{_≤_};
+ghost use Rattle.paper.specs.Walk as paper;
+ghost use Rattle.scan.specs.Phase2.{TypeSection, findingOf, walkedAsPaper, stepFrom};
+
+// What stands at a record's place: the place behind the record, or why there is none.
+pub(crate) enum Step {
+    Next(Place),
+    Cut,
+    Unknown,
+}
+
+// What a walk of the type section finds: the count of its records, or a report.
+pub(crate) enum Walked {
+    Whole(u32),
+    Stopped(Report),
+}
+
+// One step, from a record's place in a section that ends at `end`. Differences are taken, since a sum could pass 32 bits.
+fn step_from(b: &[u8], at: Place, end: Place) -> Step
+    requires { ⌜ at .0 ≤ end .0 ⌝ }
+    ensures { λ r. ⌜ r ≡ stepFrom (now (b .entry)) (at .0) (end .0) ⌝ }
+{
+    let room = end.0 - at.0;
+    if room < 12 {
+        return Step::Cut;
+    }
+    let info = words::read(b, Place(at.0 + 4));
+    if !is_known(kind_of(info)) {
+        return Step::Unknown;
+    }
+    let tail = 4 * tail_words(info);
+    if room - 12 < tail {
+        return Step::Cut;
+    }
+    Step::Next(Place(at.0 + 12 + tail))
+}
+
+// The walk of a type section of `len` bytes. 8 is tested before anything is read of the record.
+pub(crate) fn walk(b: &[u8], len: u32) -> Walked
+    requires { ⌜ TypeSection (now b) len ⌝ }
+    ensures { λ r. ⌜ walkedAsPaper r ≡ findingOf (paper.walk (now (b .entry))) ⌝ }
+{
+    let end = 24 + len;
+    let mut at: u32 = 24;
+    let mut count: u32 = 0;
+    while at < end {
+        if count == 4096 {
+            return Walked::Stopped(Report::ManyTypes);
+        }
+        match step_from(b, Place(at), Place(end)) {
+            Step::Next(next) => at = next.0,
+            Step::Cut => return Walked::Stopped(Report::RecordCut(TypeNo(count + 1))),
+            Step::Unknown => return Walked::Stopped(Report::UnknownKind(TypeNo(count + 1))),
+        }
+        count += 1;
+    }
+    Walked::Whole(count)
+}

@@ -1,0 +1,56 @@
+-- `sizes::step_of` meets its contract: what the record says, by its words.
+-- Assumes nothing.
+use Rattle.sizes.proofs.SizeSteps.{stepOf-unreadable, stepOf-readable}
+use borrow.Author.Needs.{needs}
+use Rattle.sizes.proofs.step_of.Statement.{statement}
+use Rattle.sizes.proofs.step_of.Tie as tie
+
+read-requires : tie.Need-read-requires
+read-requires c κs = search needs
+
+kind-of-requires : tie.Need-kind-of-requires
+kind-of-requires c κs = search needs
+
+unreadable-requires : tie.Need-unreadable-requires
+unreadable-requires c κs = search needs
+
+returns : tie.Need-returns
+returns c = stepOf-unreadable _ (c .before .before .before .read .ensures) (c .before .before .kind-of .ensures) (c .before .unreadable .ensures) (c .if1 .taken)
+
+read-requires-2 : tie.Need-read-requires-2
+read-requires-2 c κs = search needs
+
+read-requires-3 : tie.Need-read-requires-3
+read-requires-3 c κs = search needs
+
+read-requires-4 : tie.Need-read-requires-4
+read-requires-4 c κs = search needs
+
+size-rule-requires : tie.Need-size-rule-requires
+size-rule-requires c κs = search needs
+
+step-by-requires : tie.Need-step-by-requires
+step-by-requires c κs = search needs
+
+returns-2 : tie.Need-returns-2
+returns-2 c =
+    let d = c .before .before .before .before .before in
+    stepOf-readable _
+    (d .before .before .before .read .ensures) (d .before .before .kind-of .ensures) (d .before .unreadable .ensures) (d .if1 .left)
+    (c .before .before .before .before .read2 .ensures) (c .before .before .before .read3 .ensures)
+    (c .before .before .read4 .ensures) (c .before .size-rule .ensures) (c .step-by .ensures)
+
+pub step-of-spec : {M : Type 1} → statement M
+step-of-spec =
+    tie.close
+    (tie.spec
+    read-requires
+    kind-of-requires
+    unreadable-requires
+    returns
+    read-requires-2
+    read-requires-3
+    read-requires-4
+    size-rule-requires
+    step-by-requires
+    returns-2)

@@ -1,0 +1,38 @@
+-- What the size question in code reads off one record, in the paper's words.
+use Prim.Native.Nat.{ℕ}
+use mathlib.Core.Bool.{Bool, cond, not, _&&_, _||_}
+use mathlib.Core.List.{List}
+use lib.Dec.{leb, eqb}
+use lib.ListN.{length}
+use Rattle.sizes.specs.declared.Step.{Step}
+use Rattle.sizes.specs.declared.Step.the-variants.{Is, ManyOf, Sizeless, Lost}
+use Rattle.paper.specs.Kind.{rowOf}
+use Rattle.paper.specs.KindNo.{ARRAY}
+use Rattle.paper.specs.Size as size
+use Rattle.paper.specs.Size.{is, manyOf, sizeless, lost, stepBy}
+use Rattle.paper.specs.Table.{kindIn}
+use Rattle.paper.specs.Walk.{known}
+use Rattle.paper.specs.Word.{lowFirst, wordAt}
+
+abbrev pub stepAsPaper : Step → size.Step
+stepAsPaper (Is s) = is s
+stepAsPaper (ManyOf n u) = manyOf n (u .0)
+stepAsPaper Sizeless = sizeless
+stepAsPaper Lost = lost
+
+-- ── a record by the bytes from its place on ──
+
+-- the kind is known, and an array's tail is inside
+unfoldable pub readable : ℕ → ℕ → Bool
+readable kind len = known kind && (not (eqb kind ARRAY) || leb 24 len)
+
+unfoldable pub stepOf : List ℕ → size.Step
+stepOf s =
+    let kind = kindIn (wordAt lowFirst s 4) in
+    cond (readable kind (length s)) (stepBy (rowOf kind .size) (wordAt lowFirst s 8) (wordAt lowFirst s 12) (wordAt lowFirst s 20)) lost
+
+-- ── counts ──
+
+-- a product of counts, cut where every size but 0 overflows
+unfoldable pub cut : ℕ → ℕ
+cut n = cond (leb n 4294967296) n 4294967296

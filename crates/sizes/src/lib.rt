@@ -1,0 +1,129 @@
+// The exact size of a type, asked of any blob and any index. Counts are multiplied down the chain of records.
+use paper::Place;
+use paper::Sized;
+use paper::TypeNo;
+use rows::is_known;
+use rows::kind_of;
+use rows::size_rule;
+ghost use mathlib.Core.Path.{_≡_};
+ghost use Prim.Native.Nat.{_*_, _≤_};
+ghost use mathlib.Core.Bool.{not};
+ghost use Rattle.sizes.specs.SizeStep.{cut, readable, stepAsPaper, stepOf};
+ghost use Rattle.paper.specs.Answer.{sizedAsPaper};
+ghost use Rattle.paper.specs.Size.{exactly, sizeAnswer, sizeOf, stepAt, stepBy};
+ghost use Rattle.rows.specs.Codes.{sizeRuleOf};
+
+// What one record says of a size: it, so many times another type's, none, or that it cannot be read.
+enum Step {
+    Is(u32),
+    ManyOf(u32, TypeNo),
+    Sizeless,
+    Lost,
+}
+
+// By rule: from a record's third word, its element and its element count.
+fn step_by(rule: u32, third: u32, element: u32, n: u32) -> Step
+    ensures { λ r. ⌜ stepAsPaper r ≡ stepBy (sizeRuleOf rule) third element n ⌝ }
+{
+    match rule {
+        1 => Step::Is(8),
+        2 => Step::Is(third),
+        3 => Step::ManyOf(n, TypeNo(element)),
+        4 => Step::ManyOf(1, TypeNo(third)),
+        _ => Step::Sizeless,
+    }
+}
+
+// A kind that is not known, or an array that its record's bytes do not hold.
+fn unreadable(kind: u32, len: usize) -> bool
+    ensures { λ r. ⌜ r ≡ not (readable kind len) ⌝ }
+{
+    if !is_known(kind) {
+        return true;
+    }
+    if kind != 3 {
+        return false;
+    }
+    !(24 <= len)
+}
+
+// What a record says, by the bytes from its place on. Its words are read from there, so that no place wraps.
+fn step_of(s: &[u8]) -> Step
+    ensures { λ r. ⌜ stepAsPaper r ≡ stepOf (now (s .entry)) ⌝ }
+{
+    let kind = kind_of(words::read(s, Place(4)));
+    if unreadable(kind, s.len()) {
+        return Step::Lost;
+    }
+    let third = words::read(s, Place(8));
+    let element = words::read(s, Place(12));
+    let n = words::read(s, Place(20));
+    step_by(size_rule(kind), third, element, n)
+}
+
+// What the record of a type says: 21 where the index or the blob does not reach it.
+fn step_at(b: &[u8], index: &[u32], t: TypeNo) -> Step
+    ensures { λ r. ⌜ stepAsPaper r ≡ stepAt (now (b .entry)) (now (index .entry)) (t .0) ⌝ }
+{
+    let k = t.0 as usize;
+    if index.len() <= k {
+        return Step::Lost;
+    }
+    let p = index[k] as usize;
+    if p < 24 {
+        return Step::Lost;
+    }
+    if b.len() < p + 12 {
+        return Step::Lost;
+    }
+    step_of(&b[p..])
+}
+
+// A product of counts, cut where every size but 0 overflows.
+fn times(p: u64, n: u32) -> u64
+    requires { ⌜ p ≤ 4294967296 ⌝ }
+    ensures { λ r. ⌜ r ≡ cut (p * n) ⌝ }
+{
+    let q = p * (n as u64);
+    if q <= 4294967296 {
+        return q;
+    }
+    4294967296
+}
+
+// So many times a size.
+fn many(p: u64, s: u32) -> Sized
+    requires { ⌜ p ≤ 4294967296 ⌝ }
+    ensures { λ r. ⌜ sizedAsPaper r ≡ sizeAnswer (exactly (p * s)) ⌝ }
+{
+    let q = p * (s as u64);
+    if q <= 4294967295 {
+        return Sized::Exact(q as u32);
+    }
+    Sized::Overflow
+}
+
+// The exact size of a type. It trusts nobody: no more records are read than the index has places.
+pub fn size(b: &[u8], index: &[u32], t: TypeNo) -> Sized
+    ensures { λ r. ⌜ sizedAsPaper r ≡ sizeOf (now (b .entry)) (now (index .entry)) (t .0) ⌝ }
+{
+    let mut at = t.0;
+    let mut count: u64 = 1;
+    let mut reads = index.len();
+    while at != 0 {
+        if reads == 0 {
+            return Sized::TooFar;
+        }
+        reads -= 1;
+        match step_at(b, index, TypeNo(at)) {
+            Step::Is(s) => return many(count, s),
+            Step::ManyOf(n, u) => {
+                count = times(count, n);
+                at = u.0;
+            }
+            Step::Sizeless => return Sized::NoSize,
+            Step::Lost => return Sized::Lost,
+        }
+    }
+    Sized::NoSize
+}
