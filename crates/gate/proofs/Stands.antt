@@ -1,0 +1,82 @@
+-- Laws of `Standing`: where a type's record begins, and that the bytes from there on are that record.
+-- Assumes nothing.
+use Prim.Native.Nat.{ℕ, zero, suc, _≤_, _<_}
+use mathlib.Core.Path.{_≡_, refl, sym, ap, ap₂, _∙_}
+use mathlib.Core.Bool.{Bool, true, false, cond, _||_}
+use mathlib.Core.List.{List, []}
+use mathlib.Core.Option.{none}
+use native.Mathlib.Omega.{arith}
+use borrow.Author.Tests.{eq-eqb, ne-eqb, lt-ltb, le-ltb, ltb-true, ltb-false}
+use lib.Dec.{eqb, ltb}
+use lib.ListN.{length, getD, drop}
+use lib.Seq.{drop-length}
+use Rattle.gate.specs.Standing.{Standing, placeIn}
+use Rattle.paper.proofs.Acceptance.{readable-walk}
+use Rattle.paper.proofs.Headers.{facts-headerReport}
+use Rattle.paper.proofs.Insides.{recordAt-outside}
+use Rattle.paper.proofs.Places.{blob-place-high}
+use Rattle.paper.proofs.Reading.{recordIn-place}
+use Rattle.paper.specs.Header.{orderOf}
+use Rattle.paper.specs.Kind.{rows, rowOf}
+use Rattle.paper.specs.Reading.{recordIn}
+use Rattle.paper.specs.Table.{Record, nothing, recordAt, tailLength}
+use Rattle.paper.specs.Walk.{tableOf}
+use Rattle.paper.specs.Word.{lowFirst, wordAt}
+
+-- ── the place of a type ──
+
+module _ (index : List ℕ) (n end : ℕ) where
+  pub placeIn-void : {t : ℕ} → t ≡ 0 → end ≡ placeIn index n t end
+  unfolding placeIn
+  placeIn-void {t} e = sym (ap (λ (z : Bool). cond (z || ltb n t) end (getD index t 0)) (eq-eqb t 0 e))
+
+  pub placeIn-above : {t : ℕ} → (t ≡ 0 → ⊥) → n < t → end ≡ placeIn index n t end
+  unfolding placeIn
+  placeIn-above {t} ne h = sym (ap₂ (λ (z a : Bool). cond (z || a) end (getD index t 0)) (ne-eqb t 0 ne) (lt-ltb n t h))
+
+  pub placeIn-type : {t : ℕ} → (t ≡ 0 → ⊥) → t ≤ n → getD index t 0 ≡ placeIn index n t end
+  unfolding placeIn
+  placeIn-type {t} ne h = sym (ap₂ (λ (z a : Bool). cond (z || a) end (getD index t 0)) (ne-eqb t 0 ne) (le-ltb n t h))
+
+-- ── the record there ──
+
+-- no bytes are the record of no kind
+recordIn-empty : recordIn lowFirst [] ≡ nothing
+unfolding recordIn wordAt tailLength rowOf rows
+recordIn-empty = refl
+
+module _ {b index : List ℕ} {n : ℕ} (s : Standing b index n) where
+  at-end : recordIn lowFirst (drop (length b) b) ≡ nothing
+  at-end = ap (recordIn lowFirst) (drop-length b) ∙ recordIn-empty
+
+  pub stands-inside : (t : ℕ) → placeIn index n t (length b) ≤ length b
+  stands-inside zero = let e = placeIn-void index n (length b) {t = 0} refl in omega arith
+  stands-inside (suc t) = go (ltb n (suc t)) refl
+    where
+      go : (z : Bool) → ltb n (suc t) ≡ z → placeIn index n (suc t) (length b) ≤ length b
+      go true x = let e = placeIn-above index n (length b) {t = suc t} (λ z. omega arith) (ltb-true n (suc t) x) in omega arith
+      go false x =
+          let h = ltb-false n (suc t) x in
+          let e = placeIn-type index n (length b) {t = suc t} (λ z. omega arith) h in
+          let p = s .placed t h in
+          let c = s .counted in
+          let high = blob-place-high b (s .bytes) (facts-headerReport b (s .readable .header)) (tableOf b .records) (readable-walk b (length index) (suc n) (s .readable)) t (omega arith) in
+          omega arith
+
+  pub stands-record : (t : ℕ) → recordIn lowFirst (drop (placeIn index n t (length b)) b) ≡ recordAt (tableOf b) t
+  unfolding orderOf
+  stands-record zero = ap (λ (p : ℕ). recordIn lowFirst (drop p b)) (sym (placeIn-void index n (length b) {t = 0} refl)) ∙ at-end
+  stands-record (suc t) = go (ltb n (suc t)) refl
+    where
+      go : (z : Bool) → ltb n (suc t) ≡ z → recordIn lowFirst (drop (placeIn index n (suc t) (length b)) b) ≡ recordAt (tableOf b) (suc t)
+      go true x =
+          let h = ltb-true n (suc t) x in
+          let c = s .counted in
+          ap (λ (p : ℕ). recordIn lowFirst (drop p b)) (sym (placeIn-above index n (length b) {t = suc t} (λ z. omega arith) h))
+          ∙ at-end
+          ∙ sym (recordAt-outside (tableOf b) (suc t) (omega arith))
+      go false x =
+          let h = ltb-false n (suc t) x in
+          let c = s .counted in
+          ap (λ (p : ℕ). recordIn lowFirst (drop p b)) (sym (placeIn-type index n (length b) {t = suc t} (λ z. omega arith) h) ∙ s .placed t h)
+          ∙ recordIn-place b (s .bytes) (facts-headerReport b (s .readable .header)) (tableOf b .records) (readable-walk b (length index) (suc n) (s .readable)) t (omega arith)

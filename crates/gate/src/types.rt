@@ -1,0 +1,34 @@
+// The record of a type, as bytes: the one place that knows where a type stands.
+use paper::TypeNo;
+ghost use mathlib.Core.Path.{_≡_};
+ghost use Prim.Native.Nat.{_<_};
+ghost use lib.ListN.{length};
+ghost use Rattle.gate.specs.Standing.{Standing, placeIn};
+ghost use Rattle.paper.specs.Reading.{recordIn};
+ghost use Rattle.paper.specs.Table.{recordAt};
+ghost use Rattle.paper.specs.Walk.{tableOf};
+ghost use Rattle.paper.specs.Word.{lowFirst};
+
+// Where a type's record begins in the blob; the blob's end for void and for a number above n.
+fn place_of(index: &[u32], n: u32, t: TypeNo, end: usize) -> usize
+    requires { ⌜ n < length (now index) ⌝ }
+    ensures { λ r. ⌜ r ≡ placeIn (now (index .entry)) n (t .0) end ⌝ }
+{
+    let k = t.0;
+    if k == 0 {
+        return end;
+    }
+    if n < k {
+        return end;
+    }
+    index[k as usize] as usize
+}
+
+// The bytes from a type's record on; none for void and for a number above n, which read as the record of no kind.
+pub(crate) fn record_of<'a>(b: &'a [u8], index: &[u32], n: u32, t: TypeNo) -> &'a [u8]
+    requires { ⌜ Standing (now b) (now index) n ⌝ }
+    ensures { λ r. ⌜ recordIn lowFirst (now r) ≡ recordAt (tableOf (now (b .entry))) (t .0) ⌝ }
+{
+    let from = place_of(index, n, t, b.len());
+    &b[from..]
+}
