@@ -1,0 +1,29 @@
+-- Laws of phase 3 of one record: the first test that fails names the report.
+-- Assumes nothing.
+use mathlib.Core.Path.{_≡_, refl, sym, _∙_}
+use mathlib.Core.Bool.{Bool, true, false, not}
+use mathlib.Core.List.{List}
+use mathlib.Core.Option.{none, some}
+use Prim.Native.Nat.{ℕ}
+use borrow.Author.Tests.{not-true, not-false}
+use Rattle.paper.specs.Choice.{firstDue}
+use Rattle.paper.specs.Heads.{headOk}
+use Rattle.paper.specs.Names.{namesOk}
+use Rattle.paper.specs.Table.{Record}
+use Rattle.paper.specs.Tails.{tailOk}
+use Rattle.rules.specs.Phase.{rulesOf}
+
+module _ (strings : List ℕ) (r : Record) {a : Bool} (head : a ≡ headOk r) where
+  pub due-head : not a ≡ true → some 10 ≡ firstDue (rulesOf strings r)
+  due-head n = rw (sym head ∙ not-true a n) refl
+
+  module _ (good : not a ≡ false) {b : Bool} (named : b ≡ namesOk strings r) where
+    pub due-named : not b ≡ true → some 11 ≡ firstDue (rulesOf strings r)
+    due-named n = rw (sym head ∙ not-false a good, sym named ∙ not-true b n) refl
+
+    module _ (fair : not b ≡ false) {c : Bool} (tail : c ≡ tailOk r) where
+      pub due-tail : not c ≡ true → some 12 ≡ firstDue (rulesOf strings r)
+      due-tail n = rw (sym head ∙ not-false a good, sym named ∙ not-false b fair, sym tail ∙ not-true c n) refl
+
+      pub due-none : not c ≡ false → none ≡ firstDue (rulesOf strings r)
+      due-none n = rw (sym head ∙ not-false a good, sym named ∙ not-false b fair, sym tail ∙ not-false c n) refl

@@ -1,0 +1,33 @@
+// Phase 3 of one record: the smallest of reports 10, 11 and 12 that is due.
+use crate::heads::head_ok;
+use crate::names::names_ok;
+use crate::tails::tail_ok;
+ghost use mathlib.Core.Path.{_≡_};
+ghost use Rattle.paper.specs.Choice.{firstDue};
+ghost use Rattle.paper.specs.Reading.{recordIn};
+ghost use Rattle.paper.specs.Word.{lowFirst};
+ghost use Rattle.rules.specs.Phase.{dueAsPaper, rulesOf};
+
+// What phase 3 says of a record: nothing, or 10, 11 or 12.
+pub enum Due {
+    Nothing,
+    Head,
+    Named,
+    Tail,
+}
+
+// "later, the smallest type, then the smallest number": of one type, the smallest number.
+pub fn phase3(bytes: &[u8], strings: &[u8]) -> Due
+    ensures { λ r. ⌜ dueAsPaper r ≡ firstDue (rulesOf (now (strings .entry)) (recordIn lowFirst (now (bytes .entry)))) ⌝ }
+{
+    if !head_ok(bytes) {
+        return Due::Head;
+    }
+    if !names_ok(bytes, strings) {
+        return Due::Named;
+    }
+    if !tail_ok(bytes) {
+        return Due::Tail;
+    }
+    Due::Nothing
+}
