@@ -1,12 +1,12 @@
 -- "Name at an offset", its second question, and identifiers.
-use Prim.Native.Nat.{ℕ}
+use Prim.Native.Nat.{ℕ, _+_}
 use mathlib.Core.Bool.{Bool, true, false, not, cond, _&&_, _||_}
 use mathlib.Core.List.{List, [], _∷_}
 use mathlib.Core.Option.{Option, none, some}
 use lib.Dec.{leb, ltb, eqb}
 use lib.ListN.{length, drop}
 use Rattle.paper.specs.Choice.{every, isSome}
-use Rattle.paper.specs.Header.{stringsIn, strLen, headerReport}
+use Rattle.paper.specs.Header.{headerLength, typeLen, stringsIn, strLen, headerReport}
 
 -- up to the first zero byte
 abbrev pub untilZero : List ℕ → List ℕ
@@ -24,6 +24,10 @@ nameless b off = isSome (headerReport b) || not (ltb off (strLen b))
 -- "the part of the lent blob from that offset up to its first zero byte", empty where the second question says yes
 unfoldable pub nameAt : List ℕ → ℕ → List ℕ
 nameAt b off = cond (nameless b off) [] (nameIn (stringsIn b) off)
+
+-- where that part begins in the blob; 0 where there is none
+unfoldable pub nameStart : List ℕ → ℕ → ℕ
+nameStart b off = cond (nameless b off) 0 (headerLength + typeLen b + off)
 
 abbrev pub between : ℕ → ℕ → ℕ → Bool
 between low high c = leb low c && leb c high

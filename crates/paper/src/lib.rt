@@ -10,6 +10,12 @@ pub struct NameOff(pub u32);
 // The place of a byte in a blob.
 pub struct Place(pub u32);
 
+// A part of a blob: where it begins, and how many bytes it has.
+pub struct Part {
+    pub start: Place,
+    pub length: u32,
+}
+
 // The gate's reports 1 to 15, in the paper's order.
 pub enum Report {
     Length,

@@ -2,19 +2,18 @@
 -- Assumes nothing.
 use Prim.Native.Nat.{ℕ, zero, suc, _+_, _-_, _<_, _≤_}
 use mathlib.Core.Path.{_≡_, refl, sym, ap, subst, _∙_}
-use mathlib.Core.Bool.{true, false, not, false≢true}
+use mathlib.Core.Bool.{Bool, true, false, not, cond, false≢true}
 use mathlib.Core.List.{List, [], _∷_, _++_, append-nil}
 use mathlib.Core.Option.{Option, none, some}
 use native.Mathlib.Numerals.{add-one}
 use native.Mathlib.Omega.{arith}
 use borrow.Author.Tests.{eq-eqb, ne-eqb, ltb-true, not-false}
-use lib.Dec.{ltb}
+use lib.Dec.{eqb, ltb}
 use lib.ListN.{length, getD, take, drop, length-drop, List·getD-eq-default}
-use lib.Seq.{drop-drop, drop-length, take-all}
+use lib.Seq.{drop-drop, length-take-le}
 use Rattle.paper.proofs.Choices.{or-false}
-use Rattle.paper.proofs.Bytes.{part-rest}
 use Rattle.paper.proofs.Headers.{headerReport-facts}
-use Rattle.scan.specs.Part.{Beginning, Ending}
+use Rattle.scan.specs.Part.{Ending}
 use Rattle.scan.specs.Header.{HeaderOf, SectionsOf}
 use Rattle.scan.specs.declared.header.Header.{Header}
 use Rattle.scan.specs.declared.header.Header.the-variants.{Good, Bad}
@@ -23,7 +22,7 @@ use Rattle.paper.specs.declared.Report.{Report}
 use Rattle.paper.specs.Answer.{Answer}
 use Rattle.paper.specs.Gate.{naming, phase1}
 use Rattle.paper.specs.Header.{orderOf, strLen, typeLen, stringsIn, headerReport}
-use Rattle.paper.specs.Name.{untilZero, nameIn, nameless, nameAt}
+use Rattle.paper.specs.Name.{untilZero, nameIn, nameless, nameAt, nameStart}
 use Rattle.paper.specs.Choice.{isSome}
 use Rattle.paper.specs.Word.{lowFirst, wordAt}
 
@@ -60,6 +59,23 @@ scanned-stop {s} {i} e z =
 pub scanned-end : {s : List ℕ} {i : ℕ} → Scanned s i → length s ≤ i → Ending s i
 scanned-end {s} {i} e h = scanned-stop e (List·getD-eq-default s 0 h)
 
+untilZero-short : (s : List ℕ) → length (untilZero s) ≤ length s
+untilZero-short [] = omega arith
+untilZero-short (c ∷ s) = go (eqb c 0) (untilZero-short s)
+  where
+    go : (t : Bool) → length (untilZero s) ≤ length s → length (cond t [] (c ∷ untilZero s)) ≤ suc (length s)
+    go true h = omega arith
+    go false h = omega arith
+
+-- what stands up to the first zero byte is the front of the bytes
+untilZero-take : (s : List ℕ) → take (length (untilZero s)) s ≡ untilZero s
+untilZero-take [] = refl
+untilZero-take (c ∷ s) = go (eqb c 0) (untilZero-take s)
+  where
+    go : (t : Bool) → take (length (untilZero s)) s ≡ untilZero s → take (length (cond t [] (c ∷ untilZero s))) (c ∷ s) ≡ cond t [] (c ∷ untilZero s)
+    go true h = refl
+    go false h = ap (λ (r : List ℕ). c ∷ r) h
+
 -- ── a name by what phase 1 says ──
 
 naming-some : {C : Type 0} (o : Option ℕ) {r : Answer} → naming 0 o ≡ some r → ((n : ℕ) → o ≡ some n → C) → C
@@ -94,22 +110,55 @@ module _ (b : List ℕ) (off : ℕ) where
   unfolding nameless
   named-offset e = ltb-true _ _ (not-false _ (or-false (isSome (headerReport b)) _ e .1))
 
-  -- where there is no name, the end of the blob will do
-  pub beginning-nameless : nameless b off ≡ true → Beginning b off (length b)
+  -- where there is no name, the part begins at 0 and is empty
+  pub nameStart-none : nameless b off ≡ true → 0 ≡ nameStart b off
+  unfolding nameStart
+  nameStart-none e = rw e refl
+
+  pub nameAt-none : nameless b off ≡ true → nameAt b off ≡ []
   unfolding nameAt
-  beginning-nameless e = record { inside = omega arith; name = rw (e, drop-length b) refl }
+  nameAt-none e = rw e refl
 
-  -- else it begins so far into the strings
-  pub beginning-named : nameless b off ≡ false → {w : ℕ} → w ≡ wordAt lowFirst b 12 → Beginning b off (24 + w + off)
-  unfolding orderOf nameAt nameIn stringsIn typeLen
-  beginning-named e {w} d =
-      let sum = headerReport-facts b (named-header e) .sum in
-      record {
-        inside = omega (arith, named-offset e);
-        name = rw (e, d, drop-drop) refl;
-      }
+  module _ (e : nameless b off ≡ false) where
+    -- else it begins so far into the strings, inside the blob
+    pub nameStart-some : {w : ℕ} → w ≡ wordAt lowFirst b 12 → 24 + w + off ≡ nameStart b off
+    unfolding orderOf nameStart typeLen
+    nameStart-some d = rw (e, d) refl
 
--- from where it begins up to where it ends, a part of a slice is the name
-pub part-name : {b : List ℕ} {off p n : ℕ} → Beginning b off p → Ending (take (length b - p) (drop p b)) n
-    → take n (take (length b - p) (drop p b)) ≡ nameAt b off
-part-name {b} {off} {p} begins ends = ends .until ∙ ap untilZero (part-rest b p) ∙ begins .name
+    pub named-inside : nameStart b off < length b
+    unfolding nameStart
+    named-inside = let sum = headerReport-facts b (named-header e) .sum in rw e (omega (arith, named-offset e))
+
+    pub named-short : length b ≤ 65536
+    named-short = headerReport-facts b (named-header e) .short
+
+    named-bytes : untilZero (drop (nameStart b off) b) ≡ nameAt b off
+    unfolding nameStart nameAt nameIn stringsIn
+    named-bytes = rw (e, drop-drop) refl
+
+    -- what stands from there up to the first zero byte is the name
+    pub named-ending : {n : ℕ} → Ending (drop (nameStart b off) b) n → take n (drop (nameStart b off) b) ≡ nameAt b off
+    named-ending ends = ends .until ∙ named-bytes
+
+    pub named-long : {n : ℕ} → Ending (drop (nameStart b off) b) n → n ≡ length (nameAt b off)
+    named-long ends = sym (length-take-le _ _ (ends .inside)) ∙ ap length (named-ending ends)
+
+  -- ── a name is a part of the blob ──
+
+  pub nameAt-inside : nameStart b off + length (nameAt b off) ≤ length b
+  nameAt-inside = go (nameless b off) refl
+    where
+      go : (t : Bool) → nameless b off ≡ t → nameStart b off + length (nameAt b off) ≤ length b
+      go true e = let s = nameStart-none e in let n = ap length (nameAt-none e) in omega arith
+      go false e =
+          let inside = named-inside e in
+          let n = untilZero-short (drop (nameStart b off) b) in
+          let l = length-drop (nameStart b off) b in
+          omega (arith, ap length (named-bytes e))
+
+  pub nameAt-part : take (length (nameAt b off)) (drop (nameStart b off) b) ≡ nameAt b off
+  nameAt-part = go (nameless b off) refl
+    where
+      go : (t : Bool) → nameless b off ≡ t → take (length (nameAt b off)) (drop (nameStart b off) b) ≡ nameAt b off
+      go true e = ap (λ (n : List ℕ). take (length n) (drop (nameStart b off) b)) (nameAt-none e) ∙ sym (nameAt-none e)
+      go false e = ap (λ (n : List ℕ). take (length n) (drop (nameStart b off) b)) (sym (named-bytes e)) ∙ untilZero-take (drop (nameStart b off) b) ∙ named-bytes e

@@ -7,3 +7,4 @@ mod walk; // phase 2: reports 6 to 8
 
 pub use names::name;
 pub use names::nameless;
+pub use names::part;

@@ -1,11 +1,12 @@
-// The name at an offset, a part of the lent blob, and the question whether there is none.
+// The name at an offset, a part of the lent blob; where it lies; and the question whether there is none.
 use crate::header;
 use crate::header::Header;
 use paper::NameOff;
+use paper::Part;
 use paper::Place;
 ghost use mathlib.Core.Path.{_≡_};
-ghost use Rattle.scan.specs.Part.{Beginning, Ending};
-ghost use Rattle.paper.specs.Name.{nameless, nameAt};
+ghost use Rattle.scan.specs.Part.{Ending, NamePart, PartOf};
+ghost use Rattle.paper.specs.Name.{nameless};
 
 // How many bytes stand before the first zero byte, or the end.
 fn until_zero(s: &[u8]) -> usize
@@ -31,22 +32,31 @@ pub fn nameless(b: &[u8], at: NameOff) -> bool
     }
 }
 
-// Where a name starts; the end of the blob where there is none.
-fn start(b: &[u8], at: NameOff) -> usize
-    ensures { λ r. ⌜ Beginning (now (b .entry)) (at .0) r ⌝ }
+// Where the name at an offset lies in the blob, and how long it is; 0 and 0 where there is none.
+pub fn part(b: &[u8], at: NameOff) -> Part
+    ensures { λ r. ⌜ PartOf r (now (b .entry)) (at .0) ⌝ }
 {
     if nameless(b, at) {
-        return b.len();
+        return Part {
+            start: Place(0),
+            length: 0,
+        };
     }
-    24 + words::read(b, Place(12)) as usize + at.0 as usize
+    let start = 24 + words::read(b, Place(12)) + at.0;
+    let from = start as usize;
+    let n = until_zero(&b[from..]);
+    Part {
+        start: Place(start),
+        length: n as u32,
+    }
 }
 
 // The part of the blob from the offset up to its first zero byte; empty where there is no name.
 pub fn name(b: &[u8], at: NameOff) -> &[u8]
-    ensures { λ r. ⌜ now r ≡ nameAt (now (b .entry)) (at .0) ⌝ }
+    ensures { λ r. ⌜ NamePart r (b .entry) (at .0) ⌝ }
 {
-    let from = start(b, at);
-    let rest = &b[from..];
-    let n = until_zero(rest);
-    &rest[..n]
+    let p = part(b, at);
+    let from = p.start.0 as usize;
+    let end = from + p.length as usize;
+    &b[from..end]
 }

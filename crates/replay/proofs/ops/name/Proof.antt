@@ -15,7 +15,7 @@ name-requires : tie.Need-name-requires
 name-requires c κs = search needs
 
 cast-p : tie.Need-cast-p
-cast-p c = omega (arith, nameAt-short (now (c .before .before .before .before .args .a)) (c .before .before .before .before .args .x), ap length (c .name .ensures))
+cast-p c = omega (arith, nameAt-short (now (c .before .before .before .before .args .a)) (c .before .before .before .before .args .x), ap length (c .name .ensures .bytes))
 
 nameless-requires : tie.Need-nameless-requires
 nameless-requires c κs = search needs
@@ -30,7 +30,7 @@ returns : tie.Need-returns
 returns c =
     let d = c .before .before .before in
     let n = d .before in
-    rw (← d .nameless .ensures, c .before .before .if1 .taken, ← n .name .ensures)
+    rw (← d .nameless .ensures, c .before .before .if1 .taken, ← n .name .ensures .bytes)
     (c .seen .ensures ∙ ap (λ (r : Answer). seenWith r (now (n .before .before .before .before .args .index)) (now (n .before .before .before .before .args .work)) (now (n .name .result))) (c .before .plain .ensures))
 
 plain-requires-2 : tie.Need-plain-requires-2
@@ -43,7 +43,7 @@ returns-2 : tie.Need-returns-2
 returns-2 c =
     let d = c .before .before .before in
     let n = d .before in
-    rw (← d .nameless .ensures, c .before .before .if1 .left, ← n .name .ensures)
+    rw (← d .nameless .ensures, c .before .before .if1 .left, ← n .name .ensures .bytes)
     (c .seen2 .ensures ∙ ap (λ (r : Answer). seenWith r (now (n .before .before .before .before .args .index)) (now (n .before .before .before .before .args .work)) (now (n .name .result))) (c .before .plain2 .ensures))
 
 pub name-spec : {M : Type 1} → statement M
