@@ -6,3 +6,4 @@ pub mod Findings
 pub mod Written
 pub mod Placing
 pub mod Scans
+pub mod Founds

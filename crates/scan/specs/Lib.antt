@@ -1,3 +1,4 @@
 pub mod Header
 pub mod Part
 pub mod Phase2
+pub mod Scan
