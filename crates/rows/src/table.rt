@@ -5,7 +5,11 @@ ghost use lib.ListN.{getD};
 ghost use Rattle.paper.specs.Kind.{rowOf};
 ghost use Rattle.rows.specs.Codes.{RowNo, codes};
 
-// kind_flag, vlen, third word, its role; name; words once, their roles; words of an entry, their roles; size.
+// The columns: kind_flag, vlen, third word, its role; name; words once, three roles; words of an entry, three roles; size.
+// Numbers of a head: 0 only 0, 1 a linkage, 2 an INT's sizes, 3 an ENUM's, 4 a FLOAT's, 5 any.
+// Roles: 0 a plain number; a name, 1 offset 0, 2 any, 3 offset 0 or an identifier, 4 an identifier, 5 not empty, 6 a section's;
+// a reference, 7 to void or a plain kind, 8 plain, 9 an INT, 10 a prototype, 11 a variable, 12 what a tag may have; by value 6 more.
+// Sizes: 0 none, 1 eight, 2 the size word, 3 count times element, 4 the referent's.
 const ROWS: [[u8; 14]; 20] = [
     [0, 0, 5, 0, 1, 0, 0, 0, 0, 0, 0, 0, 0, 0], // no kind
     [0, 0, 2, 0, 2, 1, 0, 0, 0, 0, 0, 0, 0, 2], // INT

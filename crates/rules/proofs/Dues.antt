@@ -1,17 +1,20 @@
 -- Laws of phase 3 of one record: the first test that fails names the report.
 -- Assumes nothing.
-use mathlib.Core.Path.{_≡_, refl, sym, _∙_}
-use mathlib.Core.Bool.{Bool, true, false, not}
+use mathlib.Core.Path.{_≡_, refl, sym, ap, _∙_}
+use mathlib.Core.Bool.{Bool, true, false, not, cond}
 use mathlib.Core.List.{List}
-use mathlib.Core.Option.{none, some}
+use mathlib.Core.Option.{Option, none, some}
 use Prim.Native.Nat.{ℕ}
 use borrow.Author.Tests.{not-true, not-false}
+use lib.Dec.{eqb}
 use Rattle.paper.specs.Choice.{firstDue}
 use Rattle.paper.specs.Heads.{headOk}
 use Rattle.paper.specs.Names.{namesOk}
 use Rattle.paper.specs.Table.{Record}
 use Rattle.paper.specs.Tails.{tailOk}
-use Rattle.rules.specs.Phase.{rulesOf}
+use Rattle.rules.specs.declared.phase.Due.{Due}
+use Rattle.rules.specs.declared.phase.Due.the-variants.{Nothing, Head, Named, Tail}
+use Rattle.rules.specs.Phase.{dueAsPaper, rulesOf}
 
 module _ (strings : List ℕ) (r : Record) {a : Bool} (head : a ≡ headOk r) where
   pub due-head : not a ≡ true → some 10 ≡ firstDue (rulesOf strings r)
@@ -27,3 +30,19 @@ module _ (strings : List ℕ) (r : Record) {a : Bool} (head : a ≡ headOk r) wh
 
       pub due-none : not c ≡ false → none ≡ firstDue (rulesOf strings r)
       due-none n = rw (sym head ∙ not-false a good, sym named ∙ not-false b fair, sym tail ∙ not-false c n) refl
+
+-- ── answers ──
+
+abbrev dueOf : Option ℕ → Due
+dueOf none = Nothing
+dueOf (some n) = cond (eqb n 10) Head (cond (eqb n 11) Named Tail)
+
+dueOf-dueAsPaper : (d : Due) → dueOf (dueAsPaper d) ≡ d
+dueOf-dueAsPaper Nothing = refl
+dueOf-dueAsPaper Head = refl
+dueOf-dueAsPaper Named = refl
+dueOf-dueAsPaper Tail = refl
+
+-- two answers with the same number are one
+pub due-one : (x y : Due) → dueAsPaper x ≡ dueAsPaper y → x ≡ y
+due-one x y e = sym (dueOf-dueAsPaper x) ∙ ap dueOf e ∙ dueOf-dueAsPaper y
