@@ -1,3 +1,3 @@
-pub mod Cells
+pub mod Columns
 pub mod Members
 pub mod RoleCodes

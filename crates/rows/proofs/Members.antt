@@ -14,7 +14,7 @@ use Rattle.paper.specs.Heads.{allowed}
 use Rattle.paper.specs.Kind.{Row, Values, free, rows, rowOf}
 use Rattle.paper.proofs.Choices.{or-left, or-right, false-or}
 use Rattle.rows.specs.Codes.{valuesOf, valuesCode}
-use Rattle.rows.proofs.Cells.{rowOf-agree}
+use Rattle.rows.proofs.Columns.{rowOf-agree}
 
 -- ── a match on numbers ──
 

@@ -1,11 +1,10 @@
--- The rows of the kinds as numbers: what each cell of the code's table says.
-use Prim.Native.Nat.{ℕ, _+_, _<_}
-use mathlib.Core.Path.{_≡_}
+-- The rows of the kinds as numbers: what each column of the code's table says.
+use Prim.Native.Nat.{ℕ, _+_, _*_}
 use mathlib.Core.Bool.{cond}
 use mathlib.Core.List.{List, [], _∷_}
 use lib.ListN.{length, getD}
 use Rattle.paper.specs.Choice.{same}
-use Rattle.paper.specs.Kind.{NameRule, offset0, anyName, offset0OrIdentifier, identifier, nonEmpty, sectionName, RefRule, voidOrPlain, plain, anInt, aProto, aVar, taggable, Role, names, refers, holds, number, Values, free, oneOf, SizeRule, eight, sizeWord, countTimes, referent, noSize, Row, rowOf}
+use Rattle.paper.specs.Kind.{NameRule, offset0, anyName, offset0OrIdentifier, identifier, nonEmpty, sectionName, RefRule, voidOrPlain, plain, anInt, aProto, aVar, taggable, Role, names, refers, holds, number, Values, free, oneOf, SizeRule, eight, sizeWord, countTimes, referent, noSize, Row}
 
 -- ── roles: 0 a plain number, 1 to 6 a name, 7 to 12 a reference, 13 to 18 a by-value reference ──
 
@@ -85,22 +84,29 @@ valuesCode (oneOf ws) =
 
 -- ── a row ──
 
--- kind_flag, vlen, third word and its role, name, tail once and its roles, tail per entry and its roles, size
-abbrev pub codes : Row → List ℕ
-codes r =
-    valuesCode (r .flag)
+-- columns as one number, a byte each, the first the highest
+abbrev pub packed : ℕ → List ℕ → ℕ
+packed n [] = n
+packed n (c ∷ cs) = packed (n * 256 + c) cs
+
+-- what a head may hold: kind_flag, vlen, third word and its role, name, size
+unfoldable pub headCode : Row → ℕ
+headCode r =
+    packed 0
+    (valuesCode (r .flag)
     ∷ valuesCode (r .vlen)
     ∷ valuesCode (r .thirdValues)
     ∷ roleCode (r .thirdRole)
     ∷ nameCode (r .name)
-    ∷ length (r .once)
+    ∷ sizeCode (r .size)
+    ∷ [])
+
+-- the words of a tail: how many stand once and their roles, how many stand for each entry and theirs
+unfoldable pub tailCode : Row → ℕ
+tailCode r =
+    packed 0
+    (length (r .once)
     ∷ roleAt (r .once) 0 ∷ roleAt (r .once) 1 ∷ roleAt (r .once) 2
     ∷ length (r .each)
     ∷ roleAt (r .each) 0 ∷ roleAt (r .each) 1 ∷ roleAt (r .each) 2
-    ∷ sizeCode (r .size)
-    ∷ []
-
--- the number of a kind's row among the twenty
-pub record RowNo (kind r : ℕ) : Type 0 where
-  pub inside : r < 20
-  pub same-row : rowOf r ≡ rowOf kind
+    ∷ [])

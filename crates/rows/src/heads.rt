@@ -1,5 +1,6 @@
 // "Head (10)": which numbers the kind_flag, the vlen and the third word of each kind may be.
-use crate::table::cell;
+use crate::table::column;
+use crate::table::head_row;
 ghost use mathlib.Core.Path.{_≡_};
 ghost use Rattle.paper.specs.Heads.{allowed};
 ghost use Rattle.paper.specs.Kind.{rowOf};
@@ -59,19 +60,19 @@ fn allows(code: u32, w: u32) -> bool
 pub fn flag_allowed(kind: u32, flag: u32) -> bool
     ensures { λ r. ⌜ r ≡ allowed (rowOf kind .flag) flag ⌝ }
 {
-    allows(cell(kind, 0), flag)
+    allows(column(head_row(kind), 0x1_00_00_00_00_00), flag)
 }
 
 // A kind may have this vlen.
 pub fn vlen_allowed(kind: u32, vlen: u32) -> bool
     ensures { λ r. ⌜ r ≡ allowed (rowOf kind .vlen) vlen ⌝ }
 {
-    allows(cell(kind, 1), vlen)
+    allows(column(head_row(kind), 0x1_00_00_00_00), vlen)
 }
 
 // A kind may have this third word.
 pub fn third_allowed(kind: u32, third: u32) -> bool
     ensures { λ r. ⌜ r ≡ allowed (rowOf kind .thirdValues) third ⌝ }
 {
-    allows(cell(kind, 2), third)
+    allows(column(head_row(kind), 0x1_00_00_00), third)
 }

@@ -1,7 +1,9 @@
 // The words of a record by kind: how many there are, the role of each, and where the size comes from.
 use crate::info::kind_of;
 use crate::info::vlen_of;
-use crate::table::cell;
+use crate::table::column;
+use crate::table::head_row;
+use crate::table::tail_row;
 ghost use mathlib.Core.Path.{_≡_};
 ghost use lib.ListN.{length};
 ghost use Rattle.paper.specs.Kind.{rowOf};
@@ -12,21 +14,21 @@ ghost use Rattle.rows.specs.Codes.{nameCode, roleAt, roleCode, sizeCode}
 pub fn third_role(kind: u32) -> u32
     ensures { λ r. ⌜ r ≡ roleCode (rowOf kind .thirdRole) ⌝ }
 {
-    cell(kind, 3)
+    column(head_row(kind), 0x1_00_00)
 }
 
 // The role of a head's name: the code of its rule.
 pub fn name_role(kind: u32) -> u32
     ensures { λ r. ⌜ r ≡ nameCode (rowOf kind .name) ⌝ }
 {
-    cell(kind, 4)
+    column(head_row(kind), 0x1_00)
 }
 
 // How many words of a tail stand once.
 pub fn once_words(kind: u32) -> u32
     ensures { λ r. ⌜ r ≡ length (rowOf kind .once) ⌝ }
 {
-    cell(kind, 5)
+    column(tail_row(kind), 0x1_00_00_00_00_00_00_00)
 }
 
 // The role of one of them; a plain number where there is none.
@@ -34,9 +36,9 @@ pub fn once_role(kind: u32, i: u32) -> u32
     ensures { λ r. ⌜ r ≡ roleAt (rowOf kind .once) i ⌝ }
 {
     match i {
-        0 => cell(kind, 6),
-        1 => cell(kind, 7),
-        2 => cell(kind, 8),
+        0 => column(tail_row(kind), 0x1_00_00_00_00_00_00),
+        1 => column(tail_row(kind), 0x1_00_00_00_00_00),
+        2 => column(tail_row(kind), 0x1_00_00_00_00),
         _ => 0,
     }
 }
@@ -45,7 +47,7 @@ pub fn once_role(kind: u32, i: u32) -> u32
 pub fn entry_words(kind: u32) -> u32
     ensures { λ r. ⌜ r ≡ length (rowOf kind .each) ⌝ }
 {
-    cell(kind, 9)
+    column(tail_row(kind), 0x1_00_00_00)
 }
 
 // The role of one of them; a plain number where there is none.
@@ -53,9 +55,9 @@ pub fn entry_role(kind: u32, i: u32) -> u32
     ensures { λ r. ⌜ r ≡ roleAt (rowOf kind .each) i ⌝ }
 {
     match i {
-        0 => cell(kind, 10),
-        1 => cell(kind, 11),
-        2 => cell(kind, 12),
+        0 => column(tail_row(kind), 0x1_00_00),
+        1 => column(tail_row(kind), 0x1_00),
+        2 => column(tail_row(kind), 1),
         _ => 0,
     }
 }
@@ -64,7 +66,7 @@ pub fn entry_role(kind: u32, i: u32) -> u32
 pub fn size_rule(kind: u32) -> u32
     ensures { λ r. ⌜ r ≡ sizeCode (rowOf kind .size) ⌝ }
 {
-    cell(kind, 13)
+    column(head_row(kind), 1)
 }
 
 // How many words follow a head with this info word.

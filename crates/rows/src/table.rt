@@ -1,53 +1,73 @@
-// The rows of the kinds, a line for each, as in the definition. What a number means stands in specs/Codes.antt.
+// The rows of the kinds, a line for each and a byte for each column, as in the definition; what a number means stands in
+// specs/Codes.antt. A match and no const array: that would be laid on the stack at each look.
 ghost use mathlib.Core.Path.{_≡_};
-ghost use Prim.Native.Nat.{_<_};
-ghost use lib.ListN.{getD};
+ghost use Prim.Native.Nat.{_%_, _/_, _<_};
 ghost use Rattle.paper.specs.Kind.{rowOf};
-ghost use Rattle.rows.specs.Codes.{RowNo, codes};
+ghost use Rattle.rows.specs.Codes.{headCode, tailCode};
 
-// The columns: kind_flag, vlen, third word, its role; name; words once, three roles; words of an entry, three roles; size.
-// Numbers of a head: 0 only 0, 1 a linkage, 2 an INT's sizes, 3 an ENUM's, 4 a FLOAT's, 5 any.
-// Roles: 0 a plain number; a name, 1 offset 0, 2 any, 3 offset 0 or an identifier, 4 an identifier, 5 not empty, 6 a section's;
-// a reference, 7 to void or a plain kind, 8 plain, 9 an INT, 10 a prototype, 11 a variable, 12 what a tag may have; by value 6 more.
-// Sizes: 0 none, 1 eight, 2 the size word, 3 count times element, 4 the referent's.
-const ROWS: [[u8; 14]; 20] = [
-    [0, 0, 5, 0, 1, 0, 0, 0, 0, 0, 0, 0, 0, 0], // no kind
-    [0, 0, 2, 0, 2, 1, 0, 0, 0, 0, 0, 0, 0, 2], // INT
-    [0, 0, 5, 7, 1, 0, 0, 0, 0, 0, 0, 0, 0, 1], // PTR
-    [0, 0, 0, 0, 1, 3, 14, 9, 0, 0, 0, 0, 0, 3], // ARRAY
-    [5, 5, 5, 0, 3, 0, 0, 0, 0, 3, 4, 14, 0, 2], // STRUCT
-    [5, 5, 5, 0, 3, 0, 0, 0, 0, 3, 4, 14, 0, 2], // UNION
-    [5, 5, 3, 0, 3, 0, 0, 0, 0, 2, 4, 0, 0, 2], // ENUM
-    [5, 0, 0, 0, 4, 0, 0, 0, 0, 0, 0, 0, 0, 0], // FWD
-    [0, 0, 5, 13, 4, 0, 0, 0, 0, 0, 0, 0, 0, 4], // TYPEDEF
-    [0, 0, 5, 13, 1, 0, 0, 0, 0, 0, 0, 0, 0, 4], // VOLATILE
-    [0, 0, 5, 13, 1, 0, 0, 0, 0, 0, 0, 0, 0, 4], // CONST
-    [0, 0, 5, 13, 1, 0, 0, 0, 0, 0, 0, 0, 0, 4], // RESTRICT
-    [0, 1, 5, 10, 4, 0, 0, 0, 0, 0, 0, 0, 0, 0], // FUNC
-    [0, 5, 5, 7, 1, 0, 0, 0, 0, 2, 3, 7, 0, 0], // FUNC_PROTO
-    [0, 0, 5, 14, 4, 1, 0, 0, 0, 0, 0, 0, 0, 4], // VAR
-    [0, 5, 5, 0, 6, 0, 0, 0, 0, 3, 11, 0, 0, 2], // DATASEC
-    [0, 0, 4, 0, 2, 0, 0, 0, 0, 0, 0, 0, 0, 2], // FLOAT
-    [5, 0, 5, 12, 5, 1, 0, 0, 0, 0, 0, 0, 0, 0], // DECL_TAG
-    [5, 0, 5, 13, 5, 0, 0, 0, 0, 0, 0, 0, 0, 4], // TYPE_TAG
-    [5, 5, 3, 0, 3, 0, 0, 0, 0, 3, 4, 0, 0, 2], // ENUM64
-];
-
-// The row of a kind. One that is not known is turned away before it indexes anything, and has the row of no kind.
-fn row(kind: u32) -> usize
-    ensures { λ r. ⌜ RowNo kind r ⌝ }
+// kind_flag, vlen, third word (0 only 0, 1 a linkage, 2 an INT's sizes, 3 an ENUM's, 4 a FLOAT's, 5 any); the third word's role;
+// name; size (0 none, 1 eight, 2 the size word, 3 count times element, 4 the referent's).
+pub(crate) fn head_row(kind: u32) -> u64
+    ensures { λ r. ⌜ r ≡ headCode (rowOf kind) ⌝ }
 {
-    if 20 <= kind {
-        return 0;
+    match kind {
+        1 => 0x00_00_02_00_02_02, // INT
+        2 => 0x00_00_05_07_01_01, // PTR
+        3 => 0x00_00_00_00_01_03, // ARRAY
+        4 => 0x05_05_05_00_03_02, // STRUCT
+        5 => 0x05_05_05_00_03_02, // UNION
+        6 => 0x05_05_03_00_03_02, // ENUM
+        7 => 0x05_00_00_00_04_00, // FWD
+        8 => 0x00_00_05_0d_04_04, // TYPEDEF
+        9 => 0x00_00_05_0d_01_04, // VOLATILE
+        10 => 0x00_00_05_0d_01_04, // CONST
+        11 => 0x00_00_05_0d_01_04, // RESTRICT
+        12 => 0x00_01_05_0a_04_00, // FUNC
+        13 => 0x00_05_05_07_01_00, // FUNC_PROTO
+        14 => 0x00_00_05_0e_04_04, // VAR
+        15 => 0x00_05_05_00_06_02, // DATASEC
+        16 => 0x00_00_04_00_02_02, // FLOAT
+        17 => 0x05_00_05_0c_05_00, // DECL_TAG
+        18 => 0x05_00_05_0d_05_04, // TYPE_TAG
+        19 => 0x05_05_03_00_03_02, // ENUM64
+        _ => 0x00_00_05_00_01_00, // no kind
     }
-    kind as usize
 }
 
-// A cell of a kind's row.
-pub(crate) fn cell(kind: u32, column: usize) -> u32
-    requires { ⌜ column < 14 ⌝ }
-    ensures { λ r. ⌜ r ≡ getD (codes (rowOf kind)) column 0 ⌝ }
+// Words that stand once and three roles, words of an entry and three roles. Roles: 0 a plain number; 1 to 6 a name (offset 0,
+// any, offset 0 or an identifier, an identifier, not empty, a section's); 7 to 12 a reference (to void or a plain kind, a plain
+// one, an INT, a prototype, a variable, what a tag may have); 13 to 18 the same by value.
+pub(crate) fn tail_row(kind: u32) -> u64
+    ensures { λ r. ⌜ r ≡ tailCode (rowOf kind) ⌝ }
 {
-    let k = row(kind);
-    ROWS[k][column] as u32
+    match kind {
+        1 => 0x01_00_00_00_00_00_00_00, // INT
+        2 => 0x00_00_00_00_00_00_00_00, // PTR
+        3 => 0x03_0e_09_00_00_00_00_00, // ARRAY
+        4 => 0x00_00_00_00_03_04_0e_00, // STRUCT
+        5 => 0x00_00_00_00_03_04_0e_00, // UNION
+        6 => 0x00_00_00_00_02_04_00_00, // ENUM
+        7 => 0x00_00_00_00_00_00_00_00, // FWD
+        8 => 0x00_00_00_00_00_00_00_00, // TYPEDEF
+        9 => 0x00_00_00_00_00_00_00_00, // VOLATILE
+        10 => 0x00_00_00_00_00_00_00_00, // CONST
+        11 => 0x00_00_00_00_00_00_00_00, // RESTRICT
+        12 => 0x00_00_00_00_00_00_00_00, // FUNC
+        13 => 0x00_00_00_00_02_03_07_00, // FUNC_PROTO
+        14 => 0x01_00_00_00_00_00_00_00, // VAR
+        15 => 0x00_00_00_00_03_0b_00_00, // DATASEC
+        16 => 0x00_00_00_00_00_00_00_00, // FLOAT
+        17 => 0x01_00_00_00_00_00_00_00, // DECL_TAG
+        18 => 0x00_00_00_00_00_00_00_00, // TYPE_TAG
+        19 => 0x00_00_00_00_03_04_00_00, // ENUM64
+        _ => 0x00_00_00_00_00_00_00_00, // no kind
+    }
+}
+
+// A column: the byte that counts so much.
+pub(crate) fn column(row: u64, unit: u64) -> u32
+    requires { ⌜ 0 < unit ⌝ }
+    ensures { λ r. ⌜ r ≡ row / unit % 256 ⌝ }
+{
+    (row / unit % 256) as u32
 }

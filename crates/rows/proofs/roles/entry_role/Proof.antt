@@ -1,28 +1,43 @@
--- `rows::roles::entry_role` meets its contract: a cell for each of three places, and past them a plain number.
+-- `rows::roles::entry_role` meets its contract: a column for each of three places, and past them a plain number.
 -- Assumes nothing.
-use Rattle.paper.specs.Kind.{rowOf}
+use mathlib.Core.Path.{refl}
+use Rattle.paper.specs.Kind.{Row, rows, rowOf}
+use Rattle.rows.specs.Codes.{roleAt, tailCode}
+use Rattle.rows.proofs.Columns.{column-is}
 use Rattle.rows.proofs.RoleCodes.{each-few, roleAt-past}
 use borrow.Author.Needs.{needs}
 use Rattle.rows.proofs.roles.entry_role.Statement.{statement}
 use Rattle.rows.proofs.roles.entry_role.Tie as tie
 
-cell-requires : tie.Need-cell-requires
-cell-requires c κs = search needs
+tail-row-requires : tie.Need-tail-row-requires
+tail-row-requires c κs = search needs
 
-cell-requires-2 : tie.Need-cell-requires-2
-cell-requires-2 c κs = search needs
+column-requires : tie.Need-column-requires
+column-requires c κs = search needs
 
-cell-requires-3 : tie.Need-cell-requires-3
-cell-requires-3 c κs = search needs
+tail-row-requires-2 : tie.Need-tail-row-requires-2
+tail-row-requires-2 c κs = search needs
+
+column-requires-2 : tie.Need-column-requires-2
+column-requires-2 c κs = search needs
+
+tail-row-requires-3 : tie.Need-tail-row-requires-3
+tail-row-requires-3 c κs = search needs
+
+column-requires-3 : tie.Need-column-requires-3
+column-requires-3 c κs = search needs
 
 returns : tie.Need-returns
-returns c = rw (c .before .match .keys1) (c .cell .ensures)
+unfolding tailCode rows
+returns c = rw (c .before .before .match .keys1) (column-is tailCode (λ (r : Row). roleAt (r .each) 0) 65536 refl _ (c .before .tail-row .ensures) (c .column .ensures))
 
 returns-2 : tie.Need-returns-2
-returns-2 c = rw (c .before .match .keys2) (c .cell2 .ensures)
+unfolding tailCode rows
+returns-2 c = rw (c .before .before .match .keys2) (column-is tailCode (λ (r : Row). roleAt (r .each) 1) 256 refl _ (c .before .tail-row2 .ensures) (c .column2 .ensures))
 
 returns-3 : tie.Need-returns-3
-returns-3 c = rw (c .before .match .keys3) (c .cell3 .ensures)
+unfolding tailCode rows
+returns-3 c = rw (c .before .before .match .keys3) (column-is tailCode (λ (r : Row). roleAt (r .each) 2) 1 refl _ (c .before .tail-row3 .ensures) (c .column3 .ensures))
 
 returns-4 : tie.Need-returns-4
 returns-4 c =
@@ -33,4 +48,14 @@ returns-4 c =
 pub entry-role-spec : {M : Type 1} → statement M
 entry-role-spec =
     tie.close
-    (tie.spec cell-requires cell-requires-2 cell-requires-3 returns returns-2 returns-3 returns-4)
+    (tie.spec
+    tail-row-requires
+    column-requires
+    tail-row-requires-2
+    column-requires-2
+    tail-row-requires-3
+    column-requires-3
+    returns
+    returns-2
+    returns-3
+    returns-4)
