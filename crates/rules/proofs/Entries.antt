@@ -1,9 +1,9 @@
 -- What is left of the names of a tail: those of the entries from here on are those of all entries, where the ones passed are good.
 -- Assumes nothing.
-use Prim.Native.Nat.{ℕ, zero, suc, _+_, _-_, _*_, _<_, _≤_}
+use Prim.Native.Nat.{ℕ, suc, _+_, _-_, _*_, _<_, _≤_}
 use mathlib.Core.Path.{_≡_, refl, sym, ap, _∙_}
 use mathlib.Core.Bool.{Bool, true, false, not, _&&_}
-use mathlib.Core.List.{List, _++_}
+use mathlib.Core.List.{List}
 use native.Mathlib.Omega.{arith}
 use borrow.Author.Tests.{not-true, not-false}
 use lib.ListN.{length}
@@ -13,7 +13,6 @@ use Rattle.paper.specs.Names.{nameWordOk}
 use Rattle.paper.specs.Table.{kindIn, vlenIn}
 use Rattle.paper.specs.Word.{lowFirst}
 use Rattle.paper.proofs.Reading.{roled-append}
-use Rattle.rows.proofs.RoleCodes.{once-few}
 use Rattle.rules.specs.Parts.{namesFrom, tailNames}
 
 -- one entry more in front of the others

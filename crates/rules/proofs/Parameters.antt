@@ -1,13 +1,13 @@
 -- What is left of a prototype's parameters: the rule for those from here on is the rule for all, where the ones passed have a type.
 -- Assumes nothing.
-use Prim.Native.Nat.{ℕ, zero, suc, _+_, _-_, _*_, _<_, _≤_}
+use Prim.Native.Nat.{ℕ, suc, _+_, _-_, _*_, _<_, _≤_}
 use mathlib.Core.Path.{_≡_, refl, sym, ap, _∙_}
 use mathlib.Core.Bool.{Bool, true, false, not, _&&_, _||_}
 use mathlib.Core.List.{List}
 use native.Mathlib.Omega.{arith}
 use borrow.Author.Tests.{eq-eqb, ne-eqb}
 use lib.Dec.{eqb}
-use Rattle.paper.specs.Choice.{differ, isEmpty}
+use Rattle.paper.specs.Choice.{isEmpty}
 use Rattle.paper.specs.Reading.{wordsFrom}
 use Rattle.paper.specs.Tails.{Parameter, parametersIn, isLast00, voidsLast}
 use Rattle.paper.specs.Word.{lowFirst, wordAt}

@@ -1,6 +1,6 @@
 -- Laws of `runs`: a run of bytes up to the first zero byte, one byte at a time.
 -- Assumes nothing.
-use Prim.Native.Nat.{ℕ, zero, suc, _+_, _-_, _<_, _≤_}
+use Prim.Native.Nat.{ℕ, suc, _+_, _-_, _<_, _≤_}
 use mathlib.Core.Path.{_≡_, refl, sym, ap, _∙_}
 use mathlib.Core.Bool.{Bool, true, false, not, _&&_}
 use mathlib.Core.List.{List, [], _∷_}
@@ -27,10 +27,6 @@ leb-suc m n = go (leb m n) refl
 and-false : (a : Bool) → a && false ≡ false
 and-false true = refl
 and-false false = refl
-
-pub and-assoc : (a b c : Bool) → a && b && c ≡ a && (b && c)
-and-assoc true b c = refl
-and-assoc false b c = refl
 
 -- ── one byte ──
 

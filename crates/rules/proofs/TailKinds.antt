@@ -15,7 +15,6 @@ use Rattle.paper.specs.Reading.{wordsFrom, recordIn}
 use Rattle.paper.specs.Table.{kindIn, vlenIn, tailLength, bits}
 use Rattle.paper.specs.Tails.{widthIn, offsetIn, encodingIn, intWordOk, linkageWordOk, parametersIn, voidsLast, tailOk}
 use Rattle.paper.specs.Word.{lowFirst, wordAt}
-use Rattle.rows.proofs.Members.{member-no-key}
 use Rattle.rules.specs.Parts.{voidsLastFrom}
 
 -- ── encodings ──

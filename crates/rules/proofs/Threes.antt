@@ -1,21 +1,20 @@
 -- Laws of names by role: three words at a time, entry by entry, and the whole of a record.
 -- Assumes nothing.
-use Prim.Native.Nat.{ℕ, zero, suc, _+_, _-_, _*_, _<_, _≤_}
+use Prim.Native.Nat.{ℕ, zero, suc, _+_, _<_, _≤_}
 use mathlib.Core.Path.{_≡_, refl, sym, ap, _∙_}
 use mathlib.Core.Bool.{Bool, true, false, not, _&&_}
-use mathlib.Core.List.{List, [], _∷_, _++_}
+use mathlib.Core.List.{List, [], _∷_}
 use native.Mathlib.Omega.{arith}
 use borrow.Author.Tests.{lt-ltb, le-ltb, not-true, not-false}
 use lib.ListN.{length, getD}
-use Rattle.paper.specs.Choice.{times}
 use Rattle.paper.specs.Kind.{Role, names, refers, holds, number, voidOrPlain, plain, anInt, aProto, aVar, taggable, rowOf}
 use Rattle.paper.specs.Name.{nameIn}
 use Rattle.paper.specs.Names.{nameFits, nameOk, nameWordOk, namesOk}
 use Rattle.paper.specs.Reading.{recordIn}
-use Rattle.paper.specs.Table.{kindIn, vlenIn}
+use Rattle.paper.specs.Table.{kindIn}
 use Rattle.paper.specs.Word.{lowFirst, wordAt}
 use Rattle.paper.proofs.Choices.{every-getD}
-use Rattle.paper.proofs.Reading.{roled-append, everyWord-recordIn}
+use Rattle.paper.proofs.Reading.{everyWord-recordIn}
 use Rattle.rows.specs.Codes.{nameCode, roleCode, roleOf, roleAt}
 use Rattle.rows.proofs.RoleCodes.{roleOf-nameCode, roleOf-roleCode}
 use Rattle.rules.specs.Parts.{nameRuleOf, namesFrom, tailNames}
@@ -45,9 +44,6 @@ nameRuleOf-other (suc (suc (suc (suc (suc (suc n)))))) a b c d e = refl
 
 module _ (strings : List ℕ) where
   -- any other word passes
-  pub word-plain : {role : ℕ} (w : ℕ) → role ≡ 0 → true ≡ nameWordOk strings (roleOf role) w
-  word-plain w e = sym (ap (λ (n : ℕ). nameWordOk strings (roleOf n) w) e)
-
   pub word-other : (role w : ℕ) → 6 < role → true ≡ nameWordOk strings (roleOf role) w
   word-other zero w h = absurd (omega arith)
   word-other (suc zero) w h = absurd (omega arith)

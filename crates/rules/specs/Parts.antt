@@ -12,7 +12,7 @@ use Rattle.paper.specs.Names.{nameWordOk}
 use Rattle.paper.specs.Reading.{wordsFrom}
 use Rattle.paper.specs.Table.{kindIn, vlenIn, flagIn, everyRoled}
 use Rattle.paper.specs.Tails.{parametersIn, voidsLast}
-use Rattle.paper.specs.Word.{lowFirst, wordAt}
+use Rattle.paper.specs.Word.{lowFirst}
 
 -- report 10 by the info word and the third word
 abbrev pub headBy : ℕ → ℕ → Bool

@@ -1,6 +1,5 @@
 -- `rules::idents::is_letter` meets its contract: a case for each run of letters.
 -- Assumes nothing.
-use borrow.Author.Tests.{eq-eqb}
 use mathlib.Core.Path.{sym, refl, _∙_}
 use Rattle.paper.specs.Name.{isLetter}
 use borrow.Author.Needs.{needs}
