@@ -12,7 +12,7 @@ use Rattle.paper.specs.Choice.{times}
 use Rattle.paper.specs.Fit.{Bytes}
 use Rattle.paper.specs.Header.{orderOf, headerReport}
 use Rattle.paper.specs.Kind.{Role, names, number, rowOf}
-use Rattle.paper.specs.Reading.{wordsFrom, recordIn}
+use Rattle.paper.specs.Reading.{wordsFrom, recordIn, roled, tailRoled}
 use Rattle.paper.specs.Table.{Record, count, nothing, kindIn, vlenIn, tailLength, tailRoles, everyRoled, everyWord}
 use Rattle.paper.specs.Walk.{records, walk, tableOf, placesOf}
 use Rattle.paper.specs.Word.{Order, wordAt}
@@ -44,40 +44,41 @@ module _ (order : Order) where
       next : (j : ℕ) → j < length ws → wordAt order s (p + 4 + 4 * j) ≡ getD ws j 0
       next j l = let there : p + 4 + 4 * j ≡ p + 4 * suc j = omega arith in ap (wordAt order s) there ∙ h (suc j) (omega arith)
 
-  -- the words from a place on, each of its role, pass a test
-  abbrev pub roled : (Role → ℕ → Bool) → List ℕ → ℕ → List Role → Bool
-  roled f s p ρs = everyRoled f ρs (wordsFrom order s p (length ρs))
-
   -- one run of roles behind the other
   pub roled-append : (f : Role → ℕ → Bool) (s : List ℕ) (p : ℕ) (ρs σs : List Role)
-      → roled f s p (ρs ++ σs) ≡ (roled f s p ρs && roled f s (p + 4 * length ρs) σs)
-  roled-append f s p [] σs = let here : p + 4 * 0 ≡ p = omega arith in ap (λ (q : ℕ). roled f s q σs) (sym here)
+      → roled order f s p (ρs ++ σs) ≡ roled order f s p ρs && roled order f s (p + 4 * length ρs) σs
+  unfolding roled
+  roled-append f s p [] σs = let here : p + 4 * 0 ≡ p = omega arith in ap (λ (q : ℕ). roled order f s q σs) (sym here)
   roled-append f s p (ρ ∷ ρs) σs =
       let there : p + 4 + 4 * length ρs ≡ p + 4 * suc (length ρs) = omega arith in
       ap (λ (t : Bool). f ρ (wordAt order s p) && t)
-      (roled-append f s (p + 4) ρs σs ∙ ap (λ (q : ℕ). roled f s (p + 4) ρs && roled f s q σs) there)
+      (roled-append f s (p + 4) ρs σs ∙ ap (λ (q : ℕ). roled order f s (p + 4) ρs && roled order f s q σs) there)
       ∙ and-assoc (f ρ (wordAt order s p)) _ _
     where
       and-assoc : (a b c : Bool) → (a && (b && c)) ≡ ((a && b) && c)
       and-assoc true b c = refl
       and-assoc false b c = refl
 
-  -- a test of every word of a record: its name, its third word, the words that stand once, then entry by entry
-  pub everyWord-recordIn : (f : Role → ℕ → Bool) (s : List ℕ) → let row = rowOf (kindIn (wordAt order s 4)) in let v = vlenIn (wordAt order s 4) in
-      everyWord f (recordIn order s)
-      ≡ (f (names (row .name)) (wordAt order s 0)
-      && (f number (wordAt order s 4)
-      && (f (row .thirdRole) (wordAt order s 8) && (roled f s 12 (row .once) && roled f s (12 + 4 * length (row .once)) (times v (row .each))))))
-  unfolding recordIn tailLength tailRoles
+  -- a test of every word of a record: the three of the head, then the tail
+  pub everyWord-recordIn : (f : Role → ℕ → Bool) (s : List ℕ) → let info = wordAt order s 4 in let row = rowOf (kindIn info) in
+      roled order f s 0 (names (row .name) ∷ number ∷ row .thirdRole ∷ []) && tailRoled order f s info ≡ everyWord f (recordIn order s)
+  unfolding recordIn roled tailLength tailRoles
   everyWord-recordIn f s =
       let row = rowOf (kindIn (wordAt order s 4)) in
       let v = vlenIn (wordAt order s 4) in
-      let few : length (row .once) + v * length (row .each) ≡ length (row .once ++ times v (row .each)) =
-      ap (λ (n : ℕ). length (row .once) + n) (sym (length-times v (row .each))) ∙ sym (length-append (row .once) (times v (row .each))) in
-      ap
+      let few : length (row .once ++ times v (row .each)) ≡ length (row .once) + v * length (row .each) =
+      length-append (row .once) (times v (row .each)) ∙ ap (λ (n : ℕ). length (row .once) + n) (length-times v (row .each)) in
+      regroup (f (names (row .name)) (wordAt order s 0)) (f number (wordAt order s 4)) (f (row .thirdRole) (wordAt order s 8)) (tailRoled order f s (wordAt order s 4))
+      ∙ ap
       (λ (t : Bool). f (names (row .name)) (wordAt order s 0) && (f number (wordAt order s 4) && (f (row .thirdRole) (wordAt order s 8) && t)))
-      (ap (λ (n : ℕ). everyRoled f (row .once ++ times v (row .each)) (wordsFrom order s 12 n)) few
-      ∙ roled-append f s 12 (row .once) (times v (row .each)))
+      (sym (roled-append f s 12 (row .once) (times v (row .each)))
+      ∙ ap (λ (n : ℕ). everyRoled f (row .once ++ times v (row .each)) (wordsFrom order s 12 n)) few)
+    where
+      regroup : (a b c d : Bool) → (a && (b && (c && true))) && d ≡ a && (b && (c && d))
+      regroup true true true d = refl
+      regroup true true false d = refl
+      regroup true false c d = refl
+      regroup false b c d = refl
 
 -- ── the record at a place ──
 

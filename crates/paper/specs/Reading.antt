@@ -1,7 +1,11 @@
 -- The record that some bytes begin with: what code that sees a record's bytes is promised of. A word that is not there reads as 0.
-use Prim.Native.Nat.{ℕ, zero, suc, _+_}
+use Prim.Native.Nat.{ℕ, zero, suc, _+_, _*_}
+use mathlib.Core.Bool.{Bool, _&&_}
 use mathlib.Core.List.{List, [], _∷_}
-use Rattle.paper.specs.Table.{Record, tailLength}
+use lib.ListN.{length}
+use Rattle.paper.specs.Choice.{times}
+use Rattle.paper.specs.Kind.{Role, rowOf}
+use Rattle.paper.specs.Table.{Record, kindIn, vlenIn, tailLength, everyRoled}
 use Rattle.paper.specs.Word.{Order, wordAt}
 
 module _ (order : Order) where
@@ -19,3 +23,13 @@ module _ (order : Order) where
         third = wordAt order s 8;
         tail = wordsFrom s 12 (tailLength (wordAt order s 4));
       }
+
+  -- a test of words by their roles, passed by those from a place on
+  unfoldable pub roled : (Role → ℕ → Bool) → List ℕ → ℕ → List Role → Bool
+  roled f s p ρs = everyRoled f ρs (wordsFrom s p (length ρs))
+
+  -- and by those of the tail of a record with this info word
+  abbrev pub tailRoled : (Role → ℕ → Bool) → List ℕ → ℕ → Bool
+  tailRoled f s info =
+      let row = rowOf (kindIn info) in
+      roled f s 12 (row .once) && roled f s (12 + 4 * length (row .once)) (times (vlenIn info) (row .each))

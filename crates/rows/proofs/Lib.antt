@@ -1,3 +1,4 @@
 pub mod Columns
 pub mod Members
 pub mod RoleCodes
+pub mod ByRole

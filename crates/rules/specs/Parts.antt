@@ -1,16 +1,15 @@
 -- What the parts of phase 3 in code are promised to answer, in the paper's words.
-use Prim.Native.Nat.{ℕ, _+_, _*_}
+use Prim.Native.Nat.{ℕ, _*_}
 use mathlib.Core.Bool.{Bool, _&&_, _||_}
 use mathlib.Core.List.{List, [], _∷_}
 use lib.Dec.{leb}
 use lib.ListN.{length, getD}
-use Rattle.paper.specs.Choice.{every, times}
+use Rattle.paper.specs.Choice.{every}
 use Rattle.paper.specs.Heads.{allowed, spareZero}
-use Rattle.paper.specs.Kind.{NameRule, offset0, anyName, offset0OrIdentifier, identifier, nonEmpty, sectionName, Role, rowOf}
+use Rattle.paper.specs.Kind.{NameRule, offset0, anyName, offset0OrIdentifier, identifier, nonEmpty, sectionName, rowOf}
 use Rattle.paper.specs.Name.{untilZero, isDigit, isLetter}
-use Rattle.paper.specs.Names.{nameWordOk}
 use Rattle.paper.specs.Reading.{wordsFrom}
-use Rattle.paper.specs.Table.{kindIn, vlenIn, flagIn, everyRoled}
+use Rattle.paper.specs.Table.{kindIn, vlenIn, flagIn}
 use Rattle.paper.specs.Tails.{parametersIn, voidsLast}
 use Rattle.paper.specs.Word.{lowFirst}
 
@@ -35,16 +34,6 @@ runs f most cs = every f (untilZero cs) && leb (length (untilZero cs)) most
 abbrev pub nameRuleOf : ℕ → NameRule
 nameRuleOf code =
     getD (sectionName ∷ offset0 ∷ anyName ∷ offset0OrIdentifier ∷ identifier ∷ nonEmpty ∷ []) code sectionName
-
--- names among the words of a record from a place on, each of its role
-unfoldable pub namesFrom : List ℕ → List ℕ → ℕ → List Role → Bool
-namesFrom strings s p ρs = everyRoled (nameWordOk strings) ρs (wordsFrom lowFirst s p (length ρs))
-
--- names in the tail of a record with this info word
-abbrev pub tailNames : List ℕ → List ℕ → ℕ → Bool
-tailNames strings s info =
-    let row = rowOf (kindIn info) in
-    namesFrom strings s 12 (row .once) && namesFrom strings s (12 + 4 * length (row .once)) (times (vlenIn info) (row .each))
 
 -- so many parameters from a place on: one of type 0 is last and has name 0
 unfoldable pub voidsLastFrom : List ℕ → ℕ → ℕ → Bool

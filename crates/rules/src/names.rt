@@ -19,10 +19,10 @@ ghost use Rattle.paper.specs.Choice.{times};
 ghost use Rattle.paper.specs.Kind.{rowOf};
 ghost use Rattle.paper.specs.Name.{nameIn};
 ghost use Rattle.paper.specs.Names.{nameFits, nameWordOk, namesOk};
-ghost use Rattle.paper.specs.Reading.{recordIn};
+ghost use Rattle.paper.specs.Reading.{recordIn, roled, tailRoled};
 ghost use Rattle.paper.specs.Word.{lowFirst, wordAt};
 ghost use Rattle.rows.specs.Codes.{roleOf};
-ghost use Rattle.rules.specs.Parts.{nameRuleOf, namesFrom, tailNames};
+ghost use Rattle.rules.specs.Parts.{nameRuleOf};
 
 // What a name's rule asks of an offset and the name that stands there.
 fn fits(strings: &[u8], rule: u32, at: NameOff) -> bool
@@ -60,7 +60,7 @@ fn word_ok(bytes: &[u8], strings: &[u8], at: Place, role: u32) -> bool
 // Three words from a place on.
 fn three_ok(bytes: &[u8], strings: &[u8], at: Place, r0: u32, r1: u32, r2: u32) -> bool
     requires { ⌜ at .0 < 1000000 ⌝ }
-    ensures { λ r. ⌜ r ≡ namesFrom (now (strings .entry)) (now (bytes .entry)) (at .0) (roleOf r0 ∷ roleOf r1 ∷ roleOf r2 ∷ []) ⌝ }
+    ensures { λ r. ⌜ r ≡ roled lowFirst (nameWordOk (now (strings .entry))) (now (bytes .entry)) (at .0) (roleOf r0 ∷ roleOf r1 ∷ roleOf r2 ∷ []) ⌝ }
 {
     let p = at.0;
     if !word_ok(bytes, strings, at, r0) {
@@ -75,7 +75,7 @@ fn three_ok(bytes: &[u8], strings: &[u8], at: Place, r0: u32, r1: u32, r2: u32) 
 // So many entries from a place on. The words that an entry does not have are plain numbers to `three_ok`.
 fn entries_ok(bytes: &[u8], strings: &[u8], at: Place, kind: u32, n: u32) -> bool
     requires { ⌜ (at .0 ≤ 24) × (n < 65536) ⌝ }
-    ensures { λ r. ⌜ r ≡ namesFrom (now (strings .entry)) (now (bytes .entry)) (at .0) (times n (rowOf kind .each)) ⌝ }
+    ensures { λ r. ⌜ r ≡ roled lowFirst (nameWordOk (now (strings .entry))) (now (bytes .entry)) (at .0) (times n (rowOf kind .each)) ⌝ }
 {
     let step = 4 * entry_words(kind);
     let r0 = entry_role(kind, 0);
@@ -95,7 +95,7 @@ fn entries_ok(bytes: &[u8], strings: &[u8], at: Place, kind: u32, n: u32) -> boo
 
 // The names of a tail, behind the head.
 fn tail_names_ok(bytes: &[u8], strings: &[u8], info: u32) -> bool
-    ensures { λ r. ⌜ r ≡ tailNames (now (strings .entry)) (now (bytes .entry)) info ⌝ }
+    ensures { λ r. ⌜ r ≡ tailRoled lowFirst (nameWordOk (now (strings .entry))) (now (bytes .entry)) info ⌝ }
 {
     let kind = kind_of(info);
     if !three_ok(

@@ -5,27 +5,28 @@ use mathlib.Core.Path.{_≡_, refl, _∙_}
 use denote.Ref.{now}
 use Rattle.paper.specs.Kind.{rowOf}
 use Rattle.rows.proofs.RoleCodes.{each-few}
-use Rattle.rules.specs.Parts.{namesFrom}
-use Rattle.rules.proofs.Entries.{Entering, entering-done, entering-bad, entering-next}
-use Rattle.rules.proofs.Threes.{three-codes}
+use Rattle.paper.specs.Names.{nameWordOk}
+use Rattle.paper.specs.Reading.{roled}
+use Rattle.paper.specs.Word.{lowFirst}
+use Rattle.rows.proofs.ByRole.{three-codes, Entering, entering-done, entering-bad, entering-next}
 use borrow.Author.Needs.{needs}
 use Rattle.rules.proofs.names.entries_ok.Statement.{statement}
 use Rattle.rules.proofs.names.entries_ok.Tie as tie
 
 abbrev Inv-loop : tie.InvT-loop
-Inv-loop bytes strings kind n step r0 r1 r2 p₀ left₀ p left = Entering strings bytes (rowOf kind .each) p₀ n p left
+Inv-loop bytes strings kind n step r0 r1 r2 p₀ left₀ p left = Entering lowFirst (nameWordOk strings) bytes (rowOf kind .each) p₀ n p left
 
 abbrev μ-loop : tie.MeasureT-loop
 μ-loop bytes strings kind n step r0 r1 r2 p₀ left₀ p left = left
 
 -- the three words at a place are those of an entry
-here : (c : tie.After-three-ok Inv-loop μ-loop) → let l = c .before .before in let a = l .before .before .before .before .before .before .before .args in c .three-ok .result ≡ namesFrom (now (a .strings)) (now (a .bytes)) (l .loop .p) (rowOf (a .kind) .each)
+here : (c : tie.After-three-ok Inv-loop μ-loop) → let l = c .before .before in let a = l .before .before .before .before .before .before .before .args in c .three-ok .result ≡ roled lowFirst (nameWordOk (now (a .strings))) (now (a .bytes)) (l .loop .p) (rowOf (a .kind) .each)
 here c =
     let l = c .before .before in
     let r = l .before in
     let a = r .before .before .before .before .before .before .args in
     c .three-ok .ensures
-    ∙ three-codes (now (a .strings)) (now (a .bytes)) (l .loop .p) (rowOf (a .kind) .each) (each-few (a .kind))
+    ∙ three-codes lowFirst (nameWordOk (now (a .strings))) (now (a .bytes)) (λ w. refl) (l .loop .p) (rowOf (a .kind) .each) (each-few (a .kind))
     (r .before .before .entry-role .ensures) (r .before .entry-role2 .ensures) (r .entry-role3 .ensures)
 
 entry-words-requires : tie.Need-entry-words-requires Inv-loop μ-loop

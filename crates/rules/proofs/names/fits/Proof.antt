@@ -7,7 +7,7 @@ use Rattle.paper.specs.Kind.{NameRule}
 use Rattle.paper.specs.Name.{nameIn}
 use Rattle.paper.specs.Names.{nameFits}
 use Rattle.rules.proofs.NameTests.{nonEmpty-first}
-use Rattle.rules.proofs.Threes.{nameRuleOf-other}
+use Rattle.rules.proofs.NameRoles.{nameRuleOf-other}
 use borrow.Author.Needs.{needs}
 use Rattle.rules.proofs.names.fits.Statement.{statement}
 use Rattle.rules.proofs.names.fits.Tie as tie

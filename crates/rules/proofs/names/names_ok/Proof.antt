@@ -1,7 +1,9 @@
 -- `rules::names::names_ok` meets its contract: the words of the head, then the tail.
 -- Assumes nothing.
 use denote.Ref.{now}
-use Rattle.rules.proofs.Threes.{names-head, names-tail}
+use Rattle.paper.specs.Names.{nameWordOk, namesOk}
+use Rattle.paper.specs.Word.{lowFirst}
+use Rattle.rows.proofs.ByRole.{record-head, record-tail}
 use borrow.Author.Needs.{needs}
 use Rattle.rules.proofs.names.names_ok.Statement.{statement}
 use Rattle.rules.proofs.names.names_ok.Tie as tie
@@ -22,22 +24,24 @@ three-ok-requires : tie.Need-three-ok-requires
 three-ok-requires c κs = search needs
 
 returns : tie.Need-returns
+unfolding namesOk
 returns c =
     let t = c .before in
     let k = t .before .before .before in
     let a = k .before .before .before .before .args in
-    names-head (now (a .strings)) (now (a .bytes)) (k .before .read .ensures) (k .kind-of .ensures)
+    record-head lowFirst (nameWordOk (now (a .strings))) (now (a .bytes)) (k .before .read .ensures) (k .kind-of .ensures)
     (t .before .before .name-role .ensures) (t .before .third-role .ensures) (t .three-ok .ensures) (c .if1 .taken)
 
 tail-names-ok-requires : tie.Need-tail-names-ok-requires
 tail-names-ok-requires c κs = search needs
 
 returns-2 : tie.Need-returns-2
+unfolding namesOk
 returns-2 c =
     let t = c .before .before in
     let k = t .before .before .before in
     let a = k .before .before .before .before .args in
-    names-tail (now (a .strings)) (now (a .bytes)) (k .before .read .ensures) (k .kind-of .ensures)
+    record-tail lowFirst (nameWordOk (now (a .strings))) (now (a .bytes)) (k .before .read .ensures) (k .kind-of .ensures)
     (t .before .before .name-role .ensures) (t .before .third-role .ensures) (t .three-ok .ensures) (c .before .if1 .left) (c .tail-names-ok .ensures)
 
 pub names-ok-spec : {M : Type 1} → statement M

@@ -1,24 +1,25 @@
 -- `rules::names::tail_names_ok` meets its contract: the words that stand once, then the entries.
 -- Assumes nothing.
 use native.Mathlib.Omega.{arith}
-use mathlib.Core.Path.{_≡_, _∙_}
+use mathlib.Core.Path.{_≡_, refl, _∙_}
 use denote.Ref.{now}
 use Rattle.paper.specs.Kind.{rowOf}
 use Rattle.rows.proofs.RoleCodes.{once-few}
-use Rattle.rules.specs.Parts.{namesFrom}
-use Rattle.rules.proofs.Entries.{tail-once, tail-entries}
-use Rattle.rules.proofs.Threes.{three-codes}
+use Rattle.paper.specs.Names.{nameWordOk}
+use Rattle.paper.specs.Reading.{roled}
+use Rattle.paper.specs.Word.{lowFirst}
+use Rattle.rows.proofs.ByRole.{three-codes, tail-once, tail-entries}
 use borrow.Author.Needs.{needs}
 use Rattle.rules.proofs.names.tail_names_ok.Statement.{statement}
 use Rattle.rules.proofs.names.tail_names_ok.Tie as tie
 
 -- the three words behind the head are those that stand once
-once : (c : tie.After-three-ok) → let k = c .before .before .before .before in let a = k .before .before .before .args in c .three-ok .result ≡ namesFrom (now (a .strings)) (now (a .bytes)) 12 (rowOf (k .kind-of .result) .once)
+once : (c : tie.After-three-ok) → let k = c .before .before .before .before in let a = k .before .before .before .args in c .three-ok .result ≡ roled lowFirst (nameWordOk (now (a .strings))) (now (a .bytes)) 12 (rowOf (k .kind-of .result) .once)
 once c =
     let k = c .before .before .before .before in
     let a = k .before .before .before .args in
     c .three-ok .ensures
-    ∙ three-codes (now (a .strings)) (now (a .bytes)) 12 (rowOf (k .kind-of .result) .once) (once-few (k .kind-of .result))
+    ∙ three-codes lowFirst (nameWordOk (now (a .strings))) (now (a .bytes)) (λ w. refl) 12 (rowOf (k .kind-of .result) .once) (once-few (k .kind-of .result))
     (c .before .before .before .once-role .ensures) (c .before .before .once-role2 .ensures) (c .before .once-role3 .ensures)
 
 kind-of-requires : tie.Need-kind-of-requires
@@ -40,7 +41,7 @@ returns : tie.Need-returns
 returns c =
     let k = c .before .before .before .before .before in
     let a = k .before .before .before .args in
-    tail-once (now (a .strings)) (now (a .bytes)) (a .info) (k .kind-of .ensures) (once (c .before)) (c .if1 .taken)
+    tail-once lowFirst (nameWordOk (now (a .strings))) (now (a .bytes)) (a .info) (k .kind-of .ensures) (once (c .before)) (c .if1 .taken)
 
 once-words-requires : tie.Need-once-words-requires
 once-words-requires c κs = search needs
@@ -63,7 +64,7 @@ returns-2 c =
     let e = o .before in
     let k = e .before .before .before .before .before in
     let a = k .before .before .before .args in
-    tail-entries (now (a .strings)) (now (a .bytes)) (a .info) (k .kind-of .ensures) (once (e .before)) (e .if1 .left)
+    tail-entries lowFirst (nameWordOk (now (a .strings))) (now (a .bytes)) (a .info) (k .kind-of .ensures) (once (e .before)) (e .if1 .left)
     (o .once-words .ensures) (c .before .vlen-of .ensures) (c .entries-ok .ensures)
 
 pub tail-names-ok-spec : {M : Type 1} → statement M

@@ -2,7 +2,9 @@
 -- Assumes nothing.
 use Rattle.rows.specs.Codes.{roleOf}
 use denote.Ref.{now}
-use Rattle.rules.proofs.Threes.{three-first, three-second, three-third}
+use Rattle.paper.specs.Names.{nameWordOk}
+use Rattle.paper.specs.Word.{lowFirst}
+use Rattle.rows.proofs.ByRole.{three-first, three-second, three-third}
 use borrow.Author.Needs.{needs}
 use Rattle.rules.proofs.names.three_ok.Statement.{statement}
 use Rattle.rules.proofs.names.three_ok.Tie as tie
@@ -14,7 +16,7 @@ returns : tie.Need-returns
 returns c =
     let w = c .before in
     let a = w .before .before .before .args in
-    three-first (now (a .strings)) (now (a .bytes)) (a .at .0) (roleOf (a .r0)) (roleOf (a .r1)) (roleOf (a .r2)) (w .word-ok .ensures) (c .if1 .taken)
+    three-first lowFirst (nameWordOk (now (a .strings))) (now (a .bytes)) (a .at .0) (roleOf (a .r0)) (roleOf (a .r1)) (roleOf (a .r2)) (w .word-ok .ensures) (c .if1 .taken)
 
 add-t10 : tie.Need-add-t10
 add-t10 c = search needs
@@ -27,7 +29,7 @@ returns-2 c =
     let e = c .before .before in
     let w = e .before in
     let a = w .before .before .before .args in
-    three-second (now (a .strings)) (now (a .bytes)) (a .at .0) (roleOf (a .r0)) (roleOf (a .r1)) (roleOf (a .r2)) (w .word-ok .ensures) (e .if1 .left)
+    three-second lowFirst (nameWordOk (now (a .strings))) (now (a .bytes)) (a .at .0) (roleOf (a .r0)) (roleOf (a .r1)) (roleOf (a .r2)) (w .word-ok .ensures) (e .if1 .left)
     (c .before .word-ok2 .ensures) (c .if2 .taken)
 
 add-t10-2 : tie.Need-add-t10-2
@@ -41,7 +43,7 @@ returns-3 c =
     let e = c .before .before .before in
     let w = e .before in
     let a = w .before .before .before .args in
-    three-third (now (a .strings)) (now (a .bytes)) (a .at .0) (roleOf (a .r0)) (roleOf (a .r1)) (roleOf (a .r2)) (w .word-ok .ensures) (e .if1 .left)
+    three-third lowFirst (nameWordOk (now (a .strings))) (now (a .bytes)) (a .at .0) (roleOf (a .r0)) (roleOf (a .r1)) (roleOf (a .r2)) (w .word-ok .ensures) (e .if1 .left)
     (c .before .before .word-ok2 .ensures) (c .before .if2 .left) (c .word-ok3 .ensures)
 
 pub three-ok-spec : {M : Type 1} → statement M

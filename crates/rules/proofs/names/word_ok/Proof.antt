@@ -4,7 +4,7 @@ use mathlib.Core.Path.{ap, _∙_}
 use denote.Ref.{now}
 use Rattle.paper.specs.Names.{nameWordOk}
 use Rattle.rows.specs.Codes.{roleOf}
-use Rattle.rules.proofs.Threes.{word-other, word-outside, word-inside}
+use Rattle.rules.proofs.NameRoles.{word-other, word-outside, word-inside}
 use borrow.Author.Needs.{needs}
 use Rattle.rules.proofs.names.word_ok.Statement.{statement}
 use Rattle.rules.proofs.names.word_ok.Tie as tie
