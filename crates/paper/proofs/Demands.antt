@@ -40,8 +40,9 @@ module _ (b : List ℕ) (bytes : Bytes b) (places work : ℕ) (accepted : refusa
       → ((t : ℕ) → t < count (tableOf b) → getD index (suc t) 0 ≡ getD (placesOf (tableOf b)) t 0)
       → (t : ℕ) → t ≤ count (tableOf b) → sizeOf b index t ≡ answerOf (exactSize (tableOf b) t)
   accepted-size index long at t h =
+      let s = accepted-good b places work accepted .sound in
       ap (λ (s : List ℕ). sizeOf s index t) (sym (accepted-bytes b places work accepted bytes))
-      ∙ sizeOf-exact (orderOf b) (tableOf b) (accepted-good b places work accepted) (accepted-fits b places work accepted bytes) index long at t h
+      ∙ sizeOf-exact (orderOf b) (tableOf b) (accepted-fits b places work accepted bytes) (sound-refs s) (sound-ends s) index long at t h
 
 -- ── demand 3: whatever two blobs are joined, with whatever slices ──
 

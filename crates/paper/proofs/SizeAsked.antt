@@ -10,19 +10,19 @@ use borrow.Author.Tests.{le-leb, lt-ltb, leb-true, eqb-true}
 use lib.Dec.{leb, eqb}
 use lib.ListN.{length, getD}
 use Rattle.paper.proofs.Choices.{and-true}
-use Rattle.paper.proofs.Insides.{sound-refs, sound-ends}
-use Rattle.paper.proofs.Joining.{good-whole}
+use Rattle.paper.proofs.Joining.{whole-at}
 use Rattle.paper.proofs.Places.{place-low, place-high, place-word}
 use Rattle.paper.proofs.Rows.{rowOf-every}
 use Rattle.paper.proofs.Tables.{order-bytesOf}
 use Rattle.paper.proofs.Sizes.{next, sizeBy-enough, next-inside, never-far}
 use Rattle.paper.specs.Answer.{Answer, report, value}
+use Rattle.paper.specs.Chain.{endless}
 use Rattle.paper.specs.Fit.{Fits}
-use Rattle.paper.specs.Good.{Good}
 use Rattle.paper.specs.Header.{headerLength, orderOf}
 use Rattle.paper.specs.Kind.{Row, SizeRule, eight, sizeWord, countTimes, referent, noSize, rows, rowOf}
 use Rattle.paper.specs.KindNo.{ARRAY}
 use Rattle.paper.specs.Limits.{sizeLimit}
+use Rattle.paper.specs.References.{refsOk}
 use Rattle.paper.specs.Size.{Step, is, manyOf, sizeless, lost, Found, exactly, noneAt, lostAt, tooFar, stepBy, scale, goOn, sizeBy, stepIn, sizeFound, exactSize, answerOf, stepAtPlace, stepAt, sizeAsked, sizeAnswer, sizeOf}
 use Rattle.paper.specs.Table.{Record, Table, count, recordAt, kindIn, kindOf, tailLength, wordsOf}
 use Rattle.paper.specs.Walk.{known, bytesOf, placesOf}
@@ -106,7 +106,8 @@ only-if : (t : Bool) {x : Bool} → (t ≡ true → x ≡ true) → not t || x �
 only-if true h = h refl
 only-if false h = refl
 
-module _ (order : Order) (T : Table) (g : Good T) (fits : Fits T) (index : List ℕ) (long : count T < length index)
+module _ (order : Order) (T : Table) (fits : Fits T) (refs : (t : ℕ) → 1 ≤ t → t ≤ count T → refsOk T (recordAt T t) ≡ true)
+    (ends : (t : ℕ) → 1 ≤ t → t ≤ count T → endless T t ≡ false) (index : List ℕ) (long : count T < length index)
     (at : (t : ℕ) → t < count T → getD index (suc t) 0 ≡ getD (placesOf T) t 0) where
   abbrev b : List ℕ
   b = bytesOf order T
@@ -120,7 +121,7 @@ module _ (order : Order) (T : Table) (g : Good T) (fits : Fits T) (index : List 
 
     tail-long : 3 ≤ length (rowOf (kindOf r) .once) → 3 ≤ length (r .tail)
     unfolding tailLength
-    tail-long c = let w = good-whole T g (suc t) (omega arith) h .whole-tail in omega arith
+    tail-long c = let w = whole-at (T .records) (fits .whole) t h .whole-tail in omega arith
 
     word : (j : ℕ) → j < length (wordsOf r) → wordAt (orderOf b) b (p + 4 * j) ≡ getD (wordsOf r) j 0
     word j l = ap (λ (o : Order). wordAt o b (p + 4 * j)) (order-bytesOf order T) ∙ place-word order T fits t h j l
@@ -138,7 +139,7 @@ module _ (order : Order) (T : Table) (g : Good T) (fits : Fits T) (index : List 
         (word 1 (omega arith))
         ∙ ap (λ (c : Bool). cond c (stepBy (rowOf (kindOf r) .size) (wordAt (orderOf b) b (p + 8)) (wordAt (orderOf b) b (p + 12)) (wordAt (orderOf b) b (p + 20))) lost)
         (and-true (and-true (and-true (le-leb headerLength p (place-low T t h)) (le-leb (p + 12) (length b) (inside-blob 3 (omega arith))))
-        (good-whole T g (suc t) (omega arith) h .known-kind))
+        (whole-at (T .records) (fits .whole) t h .known-kind))
         (only-if (eqb (kindOf r) ARRAY) (λ e. le-leb (p + 24) (length b) (array-inside (eqb-true (kindOf r) ARRAY e)))))
         ∙ stepBy-same (rowOf (kindOf r) .size) (length (rowOf (kindOf r) .once)) (rowOf-counts (kindOf r)) (word 2 (omega arith))
         (λ c. let l = tail-long c in (word 3 (omega arith), word 5 (omega arith)))
@@ -159,6 +160,6 @@ module _ (order : Order) (T : Table) (g : Good T) (fits : Fits T) (index : List 
   unfolding sizeOf sizeAsked exactSize
   sizeOf-exact t h =
       ap sizeAnswer
-      (sizeBy-same (stepAt b index) (stepIn T) (count T) step-at (next-inside T (sound-refs (g .sound))) (length index) t h
-      ∙ sizeBy-enough (stepIn T) {k = count T} {m = length index} t (omega arith) (never-far T (sound-ends (g .sound)) t h))
-      ∙ found-answer (sizeBy (stepIn T) (count T) t) (never-far T (sound-ends (g .sound)) t h) (never-lost T (count T) t)
+      (sizeBy-same (stepAt b index) (stepIn T) (count T) step-at (next-inside T refs) (length index) t h
+      ∙ sizeBy-enough (stepIn T) {k = count T} {m = length index} t (omega arith) (never-far T ends t h))
+      ∙ found-answer (sizeBy (stepIn T) (count T) t) (never-far T ends t h) (never-lost T (count T) t)
