@@ -1,11 +1,13 @@
 // The record of a type, as bytes: the one place that knows where a type stands.
+use paper::Place;
 use paper::TypeNo;
+use rows::kind_of;
 ghost use mathlib.Core.Path.{_≡_};
 ghost use Prim.Native.Nat.{_<_};
 ghost use lib.ListN.{length};
 ghost use Rattle.gate.specs.Standing.{Standing, placeIn};
 ghost use Rattle.paper.specs.Reading.{recordIn};
-ghost use Rattle.paper.specs.Table.{recordAt};
+ghost use Rattle.paper.specs.Table.{kindAt, recordAt};
 ghost use Rattle.paper.specs.Walk.{tableOf};
 ghost use Rattle.paper.specs.Word.{lowFirst};
 
@@ -31,4 +33,13 @@ pub(crate) fn record_of<'a>(b: &'a [u8], index: &[u32], n: u32, t: TypeNo) -> &'
 {
     let from = place_of(index, n, t, b.len());
     &b[from..]
+}
+
+// The kind of a type; 0 for void and for a number above n.
+pub(crate) fn kind_at(b: &[u8], index: &[u32], n: u32, t: TypeNo) -> u32
+    requires { ⌜ Standing (now b) (now index) n ⌝ }
+    ensures { λ r. ⌜ r ≡ kindAt (tableOf (now (b .entry))) (t .0) ⌝ }
+{
+    let bytes = record_of(b, index, n, t);
+    kind_of(words::read(bytes, Place(4)))
 }
