@@ -1,2 +1,3 @@
 pub mod Standing
 pub mod Refers
+pub mod Holding

@@ -23,7 +23,7 @@ use Rattle.paper.proofs.Places.{blob-place-word}
 -- ── words and tests of them, in a byte order ──
 
 -- a role for each word of a tail
-length-times : (v : ℕ) (ρs : List Role) → length (times v ρs) ≡ v * length ρs
+pub length-times : (v : ℕ) (ρs : List Role) → length (times v ρs) ≡ v * length ρs
 length-times zero ρs = omega arith
 length-times (suc v) ρs = length-append ρs (times v ρs) ∙ ap (λ (n : ℕ). length ρs + n) (length-times v ρs) ∙ omega arith
 
