@@ -1,3 +1,4 @@
 pub mod Standing
 pub mod Refers
 pub mod Holding
+pub mod Search

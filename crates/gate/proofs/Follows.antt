@@ -1,0 +1,81 @@
+-- What is held in a blob whose types phases 1 to 4 have passed: types of the table, found behind few words.
+-- Assumes nothing.
+use Prim.Native.Nat.{ℕ, zero, suc, _+_, _≤_, _<_}
+use mathlib.Core.Path.{_≡_, refl, sym, ap, _∙_, subst}
+use mathlib.Core.Bool.{Bool, true, false, cond}
+use mathlib.Core.List.{List, [], _∷_, List·Memᴰ, List·Memᴰ·head, List·Memᴰ·tail, List·Memᴰ·not-nil}
+use native.Mathlib.Omega.{arith}
+use lib.Dec.{eqb}
+use lib.ListN.{length, drop}
+use Rattle.paper.specs.Chain.{heldWord, heldIn, heldBy}
+use Rattle.paper.specs.Kind.{Role, names, refers, holds, number}
+use Rattle.paper.specs.Table.{Record, Table, count, recordAt, rolesOf, wordsOf}
+use Rattle.paper.specs.Walk.{tableOf}
+use Rattle.paper.specs.Word.{lowFirst, wordAt}
+use Rattle.paper.proofs.Insides.{held-inside}
+use Rattle.rows.proofs.RoleCodes.{tailLength-few}
+use Rattle.gate.specs.declared.held.Held.{Held}
+use Rattle.gate.specs.Holding.{heldFrom, HeldIs, NextHeld}
+use Rattle.gate.specs.Search.{Followable}
+use Rattle.gate.specs.Standing.{Standing, placeIn}
+use Rattle.gate.proofs.Holds.{length-words}
+use Rattle.gate.proofs.Stands.{stands-record}
+
+-- ── what is held from a word on is held ──
+
+heldIn-none : (ρs : List Role) → heldIn ρs [] ≡ []
+heldIn-none [] = refl
+heldIn-none (ρ ∷ ρs) = refl
+
+heldWord-later : (ρ : Role) (w : ℕ) (us : List ℕ) (u : ℕ) → List·Memᴰ u us → List·Memᴰ u (heldWord ρ w us)
+heldWord-later (names rule) w us u m = m
+heldWord-later (refers rule) w us u m = m
+heldWord-later number w us u m = m
+heldWord-later (holds rule) w us u m = go (eqb w 0)
+  where
+    go : (z : Bool) → List·Memᴰ u (cond z us (w ∷ us))
+    go true = m
+    go false = List·Memᴰ·tail m
+
+heldIn-drop : (j : ℕ) (ρs : List Role) (ws : List ℕ) (u : ℕ) → List·Memᴰ u (heldIn (drop j ρs) (drop j ws)) → List·Memᴰ u (heldIn ρs ws)
+heldIn-drop zero ρs ws u m = m
+heldIn-drop (suc j) [] ws u m = m
+heldIn-drop (suc j) (ρ ∷ ρs) [] u m = absurd (List·Memᴰ·not-nil (subst (List·Memᴰ u) (heldIn-none (drop j ρs)) m))
+heldIn-drop (suc j) (ρ ∷ ρs) (w ∷ ws) u m = heldWord-later ρ w (heldIn ρs ws) u (heldIn-drop j ρs ws u m)
+
+module _ (T : Table) where
+  pub held-from-first : (t : ℕ) → heldFrom (recordAt T t) 0 ≡ heldBy T t
+  unfolding heldFrom heldBy
+  held-from-first t = refl
+
+  pub held-from-held : (t j u : ℕ) → List·Memᴰ u (heldFrom (recordAt T t) j) → List·Memᴰ u (heldBy T t)
+  unfolding heldFrom heldBy
+  held-from-held t j u m = heldIn-drop j (rolesOf (recordAt T t)) (wordsOf (recordAt T t)) u m
+
+-- ── the answer of a look along the words of a type ──
+
+pub told : (j : ℕ) {q r : Record} {h g : Held} → q ≡ r → h ≡ g → HeldIs q j h → HeldIs r j g
+told j {h = h} e d is = subst (HeldIs _ j) d (subst (λ (r : Record). HeldIs r j h) e is)
+
+module _ {b index work : List ℕ} {n : ℕ} (f : Followable b index n work) where
+  pub few-types : n ≤ 4096
+  few-types = omega (arith, f .standing .counted, f .standing .readable .section .few-found)
+
+  pub held-types : (t u : ℕ) → List·Memᴰ u (heldBy (tableOf b) t) → (1 ≤ u) × (u ≤ n)
+  held-types t u m =
+      let c = f .standing .counted in
+      let h = held-inside (tableOf b) (λ s low high. f .refs s low (omega arith)) t u m in
+      (h .2 .0, omega arith)
+
+  module _ (t : ℕ) {j u k : ℕ} (next : NextHeld (recordAt (tableOf b) t) j u k) where
+    pub next-held : List·Memᴰ u (heldBy (tableOf b) t)
+    next-held = held-from-held (tableOf b) t j u (subst (List·Memᴰ u) (sym (next .next)) (List·Memᴰ·head refl))
+
+    pub next-type : (1 ≤ u) × (u ≤ n)
+    next-type = held-types t u next-held
+
+    pub next-small : k ≤ 196611
+    next-small =
+        let s = drop (placeIn index n t (length b)) b in
+        let same = ap (λ (r : Record). length (wordsOf r)) (stands-record (f .standing) t) in
+        omega (arith, next .inside, same, length-words s, tailLength-few (wordAt lowFirst s 4))
