@@ -7,3 +7,4 @@ pub mod Searching
 pub mod Weights
 pub mod Following
 pub mod Roots
+pub mod Looks

@@ -1,6 +1,6 @@
 -- Laws of `Standing`: where a type's record begins, and that the bytes from there on are that record.
 -- Assumes nothing.
-use Prim.Native.Nat.{ℕ, zero, suc, _≤_, _<_}
+use Prim.Native.Nat.{ℕ, zero, suc, _+_, _≤_, _<_}
 use mathlib.Core.Path.{_≡_, refl, sym, ap, ap₂, _∙_}
 use mathlib.Core.Bool.{Bool, true, false, cond, _||_}
 use mathlib.Core.List.{List, []}
@@ -12,11 +12,12 @@ use lib.ListN.{length, getD, drop}
 use lib.Seq.{drop-length}
 use Rattle.gate.specs.Standing.{Standing, placeIn}
 use Rattle.paper.proofs.Acceptance.{readable-walk}
+use Rattle.paper.proofs.Blobs.{strings-tableOf}
 use Rattle.paper.proofs.Headers.{facts-headerReport}
 use Rattle.paper.proofs.Insides.{recordAt-outside}
 use Rattle.paper.proofs.Places.{blob-place-high}
 use Rattle.paper.proofs.Reading.{recordIn-place}
-use Rattle.paper.specs.Header.{orderOf}
+use Rattle.paper.specs.Header.{orderOf, typeLen, stringsIn}
 use Rattle.paper.specs.Kind.{rows, rowOf}
 use Rattle.paper.specs.Reading.{recordIn}
 use Rattle.paper.specs.Table.{Record, nothing, recordAt, tailLength}
@@ -80,3 +81,13 @@ module _ {b index : List ℕ} {n : ℕ} (s : Standing b index n) where
           let c = s .counted in
           ap (λ (p : ℕ). recordIn lowFirst (drop p b)) (sym (placeIn-type index n (length b) {t = suc t} (λ z. omega arith) h) ∙ s .placed t h)
           ∙ recordIn-place b (s .bytes) (facts-headerReport b (s .readable .header)) (tableOf b .records) (readable-walk b (length index) (suc n) (s .readable)) t (omega arith)
+
+  -- ── the strings behind the type section ──
+
+  pub stands-section : {w : ℕ} → w ≡ wordAt lowFirst b 12 → 24 + w ≤ length b
+  unfolding orderOf typeLen
+  stands-section e = omega (arith, s .readable .header .sum)
+
+  pub stands-strings : {w : ℕ} → w ≡ wordAt lowFirst b 12 → drop (24 + w) b ≡ tableOf b .strings
+  unfolding orderOf typeLen stringsIn
+  stands-strings e = ap (λ (l : ℕ). drop (24 + l) b) e ∙ sym (strings-tableOf b)

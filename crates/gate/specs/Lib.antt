@@ -2,3 +2,4 @@ pub mod Standing
 pub mod Refers
 pub mod Holding
 pub mod Search
+pub mod Said

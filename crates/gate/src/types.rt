@@ -43,3 +43,12 @@ pub(crate) fn kind_at(b: &[u8], index: &[u32], n: u32, t: TypeNo) -> u32
     let bytes = record_of(b, index, n, t);
     kind_of(words::read(bytes, Place(4)))
 }
+
+// The string section of a blob that phase 1 has passed.
+pub(crate) fn strings_of<'a>(b: &'a [u8], index: &[u32], n: u32) -> &'a [u8]
+    requires { ⌜ Standing (now b) (now index) n ⌝ }
+    ensures { λ r. ⌜ now r ≡ tableOf (now (b .entry)) .strings ⌝ }
+{
+    let from = 24 + words::read(b, Place(12)) as usize;
+    &b[from..]
+}

@@ -1,0 +1,75 @@
+-- `gate::phases::heads_at` meets its contract: the number that is due of the type's record.
+-- Assumes nothing.
+use Prim.Native.Nat.{ℕ}
+use mathlib.Core.Path.{_≡_, sym, ap, _∙_}
+use mathlib.Core.Option.{Option}
+use denote.Ref.{now}
+use Rattle.gate.proofs.Looks.{heads-due}
+use Rattle.paper.specs.Answer.{reportAsPaper}
+use Rattle.paper.specs.Choice.{firstDue}
+use Rattle.paper.specs.Gate.{naming, phase3}
+use Rattle.paper.specs.Walk.{tableOf}
+use Rattle.rules.specs.Phase.{dueAsPaper}
+use Rattle.rules.specs.declared.phase.Due.{Due}
+use borrow.Author.Needs.{needs}
+use Rattle.gate.proofs.phases.heads_at.Statement.{statement}
+use Rattle.gate.proofs.phases.heads_at.Tie as tie
+
+-- what phase 3 said of the record is what it says of the type
+due : (c : tie.After-phase3) (d : Due) → let a = c .before .before .before .before .before .args in c .phase3 .result ≡ d → naming (a .t .0) (dueAsPaper d) ≡ naming (a .t .0) (firstDue (phase3 (tableOf (now (a .b))) (a .t .0)))
+due c d e =
+    let a = c .before .before .before .before .before .args in
+    ap (λ (d : Due). naming (a .t .0) (dueAsPaper d)) (sym e)
+    ∙ heads-due (tableOf (now (a .b))) (a .t .0) (c .phase3 .result) (c .phase3 .ensures) (c .before .strings-of .ensures) (c .before .before .record-of .ensures)
+
+record-of-requires : tie.Need-record-of-requires
+record-of-requires c κs = search needs
+
+strings-of-requires : tie.Need-strings-of-requires
+strings-of-requires c κs = search needs
+
+phase3-requires : tie.Need-phase3-requires
+phase3-requires c κs = search needs
+
+enum-told : tie.Need-enum-told
+enum-told c = search needs
+
+enum-told-2 : tie.Need-enum-told-2
+enum-told-2 c = search needs
+
+enum-told-3 : tie.Need-enum-told-3
+enum-told-3 c = search needs
+
+enum-told-4 : tie.Need-enum-told-4
+enum-told-4 c = search needs
+
+returns : tie.Need-returns
+returns c = due (c .before .before) _ (c .enum-told .given .1)
+
+returns-2 : tie.Need-returns-2
+unfolding reportAsPaper
+returns-2 c = due (c .before .before) _ (c .enum-told2 .given .1)
+
+returns-3 : tie.Need-returns-3
+unfolding reportAsPaper
+returns-3 c = due (c .before .before) _ (c .enum-told3 .given .1)
+
+returns-4 : tie.Need-returns-4
+unfolding reportAsPaper
+returns-4 c = due (c .before .before) _ (c .enum-told4 .given .1)
+
+pub heads-at-spec : {M : Type 1} → statement M
+heads-at-spec =
+    tie.close
+    (tie.spec
+    record-of-requires
+    strings-of-requires
+    phase3-requires
+    enum-told
+    enum-told-2
+    enum-told-3
+    enum-told-4
+    returns
+    returns-2
+    returns-3
+    returns-4)
