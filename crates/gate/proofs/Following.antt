@@ -1,17 +1,16 @@
 -- The search of phase 5 from one root: where it stands in a blob, and what each of the ways of a step tells.
 -- Assumes nothing.
 use Prim.Native.Nat.{ℕ, _+_, _-_, _*_, _≤_, _<_}
-use mathlib.Core.Path.{_≡_, refl, sym, ap, _∙_, subst}
+use mathlib.Core.Path.{_≡_, refl, _∙_}
 use mathlib.Core.Bool.{true, false}
-use mathlib.Core.List.{List, []}
-use mathlib.Core.Logic.{⊎-elim}
+use mathlib.Core.List.{List}
 use native.Mathlib.Omega.{arith}
 use lib.ListN.{length, getD, set, length-set}
 use Rattle.paper.specs.Chain.{heldBy, walks}
 use Rattle.paper.specs.Table.{recordAt}
 use Rattle.paper.specs.Walk.{tableOf}
 use Rattle.gate.specs.Holding.{heldFrom}
-use Rattle.gate.specs.Search.{asRoot, done, markOf, Followable, OnWay, Moved, along, into, back, RingMet, RootDone, Clean, Followed}
+use Rattle.gate.specs.Search.{asRoot, done, markOf, Followable, AtRoot, OnWay, Moved, along, into, back, RingMet, RootDone, Clean}
 use Rattle.gate.proofs.Follows.{held-from-first, few-types, held-types, next-held, next-type, next-small}
 use Rattle.gate.proofs.Searching.{Going, going-start, going-type, going-seen, going-along, going-into, going-ring, going-finished, going-back}
 use Rattle.gate.proofs.Weights.{weights, weights-entered, weights-left}
@@ -34,13 +33,12 @@ pub record Following (b index : List ℕ) (n size root : ℕ) (work : List ℕ) 
 abbrev pub toDo : ℕ → List ℕ → ℕ → ℕ
 toDo n work j = weights work n * 262145 + (262144 - j)
 
-pub following-start : {b index work : List ℕ} {n root : ℕ} → Followable b index n work → Clean (heldBy (tableOf b)) n work → 1 ≤ root → root ≤ n
-    → getD work root 0 ≡ 0 → Following b index n (length (set work root asRoot)) root (set work root asRoot) root 0
-following-start {b} {work = work} {n} {root} f clean low high new =
+pub following-start : {b index work : List ℕ} {n root : ℕ} → AtRoot b index n root work → getD work root 0 ≡ 0 → Following b index n (length (set work root asRoot)) root (set work root asRoot) root 0
+following-start {b} {work = work} {n} {root} r new =
     record {
-      ready = followable-marks f (length-set work root asRoot);
+      ready = followable-marks (r .ready) (length-set work root asRoot);
       size-kept = refl;
-      going = going-start (heldBy (tableOf b)) (restIn b) n (held-from-first (tableOf b)) clean low high (omega (arith, f .room)) new;
+      going = going-start (heldBy (tableOf b)) (restIn b) n (held-from-first (tableOf b)) (r .clean) (r .low) (r .high) (omega (arith, r .ready .room, r .high)) new;
     }
 
 module _ {b index work : List ℕ} {n size root t j : ℕ} (s : Following b index n size root work t j) where

@@ -1,17 +1,22 @@
 -- What is held in a blob whose types phases 1 to 4 have passed: types of the table, found behind few words.
 -- Assumes nothing.
-use Prim.Native.Nat.{ℕ, zero, suc, _+_, _≤_, _<_}
-use mathlib.Core.Path.{_≡_, refl, sym, ap, _∙_, subst}
+use Prim.Native.Nat.{ℕ, zero, suc, _≤_, _<_}
+use mathlib.Core.Path.{_≡_, refl, sym, ap, subst}
 use mathlib.Core.Bool.{Bool, true, false, cond}
 use mathlib.Core.List.{List, [], _∷_, List·Memᴰ, List·Memᴰ·head, List·Memᴰ·tail, List·Memᴰ·not-nil}
+use mathlib.Core.Option.{none}
 use native.Mathlib.Omega.{arith}
+use borrow.Author.Tests.{not-false}
 use lib.Dec.{eqb}
 use lib.ListN.{length, drop}
 use Rattle.paper.specs.Chain.{heldWord, heldIn, heldBy}
+use Rattle.paper.specs.Gate.{overTypes, phase4}
 use Rattle.paper.specs.Kind.{Role, names, refers, holds, number}
+use Rattle.paper.specs.References.{refsOk, refBad}
 use Rattle.paper.specs.Table.{Record, Table, count, recordAt, rolesOf, wordsOf}
 use Rattle.paper.specs.Walk.{tableOf}
 use Rattle.paper.specs.Word.{lowFirst, wordAt}
+use Rattle.paper.proofs.Gates.{overTypes-silent}
 use Rattle.paper.proofs.Insides.{held-inside}
 use Rattle.rows.proofs.RoleCodes.{tailLength-few}
 use Rattle.gate.specs.declared.held.Held.{Held}
@@ -56,6 +61,17 @@ module _ (T : Table) where
 
 pub told : (j : ℕ) {q r : Record} {h g : Held} → q ≡ r → h ≡ g → HeldIs q j h → HeldIs r j g
 told j {h = h} e d is = subst (HeldIs _ j) d (subst (λ (r : Record). HeldIs r j h) e is)
+
+-- ── after phase 4 ──
+
+-- where phase 4 says nothing, every reference is good
+pub silent-refs : (T : Table) → overTypes phase4 T ≡ none → (t : ℕ) → 1 ≤ t → t ≤ count T → refsOk T (recordAt T t) ≡ true
+unfolding phase4 refBad
+silent-refs T e t low high = not-false (refsOk T (recordAt T t)) (overTypes-silent T phase4 e t low high .0)
+
+pub followable : {b index work : List ℕ} {n : ℕ} → Standing b index n → n < length work → overTypes phase4 (tableOf b) ≡ none → Followable b index n work
+followable {b} s room e =
+    record { standing = s; refs = λ t low high. silent-refs (tableOf b) e t low (omega (arith, s .counted)); room = room }
 
 module _ {b index work : List ℕ} {n : ℕ} (f : Followable b index n work) where
   pub few-types : n ≤ 4096

@@ -8,7 +8,7 @@ use native.Mathlib.Nat.{mod-eq-of-lt, mod-eq-sub-mod}
 use native.Mathlib.Numerals.{add-one}
 use native.Mathlib.Omega.{arith}
 use borrow.Author.Tests.{ltb-true, ltb-false, eq-eqb, ne-eqb}
-use lib.Dec.{eqb, ltb}
+use lib.Dec.{ltb}
 use lib.ListN.{length, getD, drop, length-append, List·getD-append, drop-of-length-le}
 use lib.Seq.{drop-cons, getD-append-add}
 use Rattle.paper.specs.Chain.{heldWord, heldIn}

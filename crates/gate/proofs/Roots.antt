@@ -2,9 +2,9 @@
 -- Assumes nothing.
 use Prim.Native.Nat.{ℕ, zero, suc, _+_, _-_, _≤_, _<_}
 use mathlib.Core.Path.{_≡_, refl, sym, ap, _∙_}
-use mathlib.Core.Bool.{Bool, true, false, cond}
+use mathlib.Core.Bool.{Bool, true, false}
 use mathlib.Core.List.{List, [], _∷_}
-use mathlib.Core.Logic.{inl, inr, ⊎-elim}
+use mathlib.Core.Logic.{inl, ⊎-elim}
 use mathlib.Core.Option.{Option, none, some}
 use native.Mathlib.Numerals.{add-one}
 use native.Mathlib.Omega.{arith}
@@ -15,7 +15,7 @@ use Rattle.paper.specs.Choice.{_when_, firstDue, orElse}
 use Rattle.paper.specs.Gate.{naming, firstOf, overTypes, phase5, zeros}
 use Rattle.paper.specs.Table.{Table, count}
 use Rattle.paper.specs.Walk.{tableOf}
-use Rattle.gate.specs.Search.{done, Followable, Clean, Followed}
+use Rattle.gate.specs.Search.{Followable, Unsearched, AtRoot, Clean, Followed}
 
 -- ── marks between two roots ──
 
@@ -32,9 +32,9 @@ clean-start held n k {work} e =
     new x = ap (λ (s : List ℕ). getD s x 0) e ∙ getD-zeros k x
 
 -- a root that was seen before needs no search
-pub clean-seen : {held : ℕ → List ℕ} {n : ℕ} {work : List ℕ} → Clean held n work → (x : ℕ) → 1 ≤ x → x ≤ n → (getD work x 0 ≡ 0 → ⊥) → Followed held n x work false
-clean-seen clean x low high seen =
-    (clean .ended x low high (⊎-elim (λ z. absurd (seen z)) (λ d. d) (clean .marks x low high)), clean)
+pub root-seen : {b index work : List ℕ} {n root : ℕ} → AtRoot b index n root work → (getD work root 0 ≡ 0 → ⊥) → Followed (heldBy (tableOf b)) n root work false
+root-seen {root = root} r seen =
+    (r .clean .ended root (r .low) (r .high) (⊎-elim (λ z. absurd (seen z)) (λ d. d) (r .clean .marks root (r .low) (r .high))), r .clean)
 
 -- ── what phase 5 says of a type and those behind it ──
 
@@ -63,14 +63,14 @@ pub record Rooting (b index : List ℕ) (n size : ℕ) (work : List ℕ) (t : �
   pub few : t ≤ n
   pub left : overTypes phase5 (tableOf b) ≡ firstOf (phase5 (tableOf b)) (n - t) (t + 1)
 
-pub rooting-start : {b index work : List ℕ} {n : ℕ} → Followable b index n work → work ≡ zeros (length work) → Rooting b index n (length work) work 0
+pub rooting-start : {b index work : List ℕ} {n : ℕ} → Unsearched b index n work → Rooting b index n (length work) work 0
 unfolding overTypes
-rooting-start {b} {work = work} {n} f e =
-    let all : count (tableOf b) ≡ n - 0 = omega (arith, f .standing .counted) in
+rooting-start {b} {work = work} {n} s =
+    let all : count (tableOf b) ≡ n - 0 = omega (arith, s .ready .standing .counted) in
     record {
-      ready = f;
+      ready = s .ready;
       size-kept = refl;
-      clean = clean-start (heldBy (tableOf b)) n (length work) e;
+      clean = clean-start (heldBy (tableOf b)) n (length work) (s .unmarked);
       few = omega arith;
       left = ap (λ (k : ℕ). firstOf (phase5 (tableOf b)) k 1) all;
     }

@@ -1,6 +1,6 @@
 -- Laws of a search that follows references depth first: what is known on the way, and that each step keeps it. Over references of any sort.
 -- Assumes nothing.
-use Prim.Native.Nat.{ℕ, zero, suc, _+_, _-_, _*_, _/_, _%_, _≤_, _<_}
+use Prim.Native.Nat.{ℕ, zero, suc, _≤_, _<_}
 use mathlib.Core.Path.{_≡_, refl, sym, ap, _∙_, subst}
 use mathlib.Core.Bool.{Bool, true, false, false≢true}
 use mathlib.Core.List.{List, [], _∷_, List·Memᴰ, List·Memᴰ·head, List·Memᴰ·tail, List·Memᴰ·cases-cons, List·Memᴰ·not-nil}
@@ -11,9 +11,8 @@ use lib.Dec.{eqb}
 use lib.ListN.{length, getD, set}
 use lib.Seq.{getD-set-same, getD-set-other}
 use Rattle.paper.specs.Chain.{walks, Chain}
-use Rattle.paper.specs.Choice.{any}
 use Rattle.paper.proofs.Endless.{any-holds, chain-walks, walks-chain}
-use Rattle.gate.specs.Search.{done, asRoot, markOf, Clean}
+use Rattle.gate.specs.Search.{done, asRoot, markOf}
 
 -- ── a place set, and the others ──
 

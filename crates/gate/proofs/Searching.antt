@@ -1,8 +1,8 @@
 -- Where a search stands that follows references depth first, and that each step of it keeps what is known. Over references of any sort.
 -- Assumes nothing.
-use Prim.Native.Nat.{ℕ, zero, suc, _+_, _-_, _*_, _/_, _%_, _≤_, _<_}
+use Prim.Native.Nat.{ℕ, _-_, _/_, _%_, _≤_, _<_}
 use mathlib.Core.Path.{_≡_, refl, sym, ap, _∙_, subst}
-use mathlib.Core.Bool.{Bool, true, false, cond}
+use mathlib.Core.Bool.{true, false}
 use mathlib.Core.List.{List, [], _∷_, List·Memᴰ, List·Memᴰ·head, List·Memᴰ·tail, List·Memᴰ·cases-cons, List·Memᴰ·not-nil}
 use mathlib.Core.Logic.{_⊎_, inl, inr, ⊎-elim}
 use native.Mathlib.Omega.{arith}
@@ -10,7 +10,7 @@ use lib.ListN.{length, getD, set}
 use lib.Seq.{getD-set-same, getD-set-other}
 use Rattle.paper.specs.Chain.{walks}
 use Rattle.gate.specs.Search.{done, asRoot, markOf, Clean}
-use Rattle.gate.proofs.Searches.{getD-set, ends-step, ring-walks, Entered, Way, way-type, way-marked, way-all-marked, way-kept, way-onward, way-root}
+use Rattle.gate.proofs.Searches.{getD-set, ends-step, ring-walks, Way, way-type, way-marked, way-all-marked, way-kept, way-onward, way-root}
 
 -- at most 4,096 types, each leads to some of them, and those that are left from a word on are some of those
 module _ (held : ℕ → List ℕ) (rest : ℕ → ℕ → List ℕ) (n : ℕ) where

@@ -9,13 +9,14 @@ use lib.ListN.{length, getD, set}
 use Rattle.gate.specs.declared.chains.Ring.{Ring}
 use Rattle.gate.specs.declared.chains.Ring.the-variants.{Nowhere, From}
 use Rattle.gate.specs.declared.chains.Step.{Step}
-use Rattle.gate.specs.declared.chains.Step.the-variants.{On, Back, Finished}
+use Rattle.gate.specs.declared.chains.Step.the-variants.{On, Met, Finished}
 use Rattle.gate.specs.Holding.{heldFrom, NextHeld}
 use Rattle.gate.specs.Standing.{Standing}
 use Rattle.paper.specs.Answer.{Answer, report}
 use Rattle.paper.specs.Chain.{heldBy, walks}
+use Rattle.paper.specs.Gate.{zeros}
 use Rattle.paper.specs.References.{refsOk}
-use Rattle.paper.specs.Table.{Table, Record, recordAt}
+use Rattle.paper.specs.Table.{Record, recordAt}
 use Rattle.paper.specs.Walk.{tableOf}
 
 -- ── marks: 0 is a type not yet seen ──
@@ -28,7 +29,7 @@ done = 4294967295
 abbrev pub asRoot : ℕ
 asRoot = 1
 
--- on the way: entered from p, whose words are to be looked at from k on. Over twice as many numbers as a record can have words
+-- on the way: entered from p, whose words are to be looked at from k on. No record has 262,144 words, so p and k can be told again
 abbrev pub markOf : ℕ → ℕ → ℕ
 markOf p k = 1 + p * 262144 + k
 
@@ -39,6 +40,11 @@ pub record Followable (b index : List ℕ) (n : ℕ) (work : List ℕ) : Type 0 
   pub standing : Standing b index n
   pub refs : (t : ℕ) → 1 ≤ t → t ≤ n → refsOk (tableOf b) (recordAt (tableOf b) t) ≡ true
   pub room : n < length work
+
+-- and no type is marked yet
+pub record Unsearched (b index : List ℕ) (n : ℕ) (work : List ℕ) : Type 0 where
+  pub ready : Followable b index n work
+  pub unmarked : work ≡ zeros (length work)
 
 -- ── one step, from word j of type t ──
 
@@ -74,7 +80,7 @@ pub record RootDone (r : Record) (work : List ℕ) (t j : ℕ) (work′ : List �
 
 abbrev pub Stepped : Record → List ℕ → ℕ → ℕ → List ℕ → Step → Type 0
 Stepped r work t j work′ (On v i) = Moved r work t j work′ (v .0) i
-Stepped r work t j work′ Back = RingMet r work j
+Stepped r work t j work′ Met = RingMet r work j
 Stepped r work t j work′ Finished = RootDone r work t j work′
 
 -- ── between two roots ──
@@ -83,6 +89,13 @@ Stepped r work t j work′ Finished = RootDone r work t j work′
 pub record Clean (held : ℕ → List ℕ) (n : ℕ) (work : List ℕ) : Type 0 where
   pub marks : (x : ℕ) → 1 ≤ x → x ≤ n → (getD work x 0 ≡ 0) ⊎ (getD work x 0 ≡ done)
   pub ended : (x : ℕ) → 1 ≤ x → x ≤ n → getD work x 0 ≡ done → walks held n x ≡ false
+
+-- a type is to be taken as a root
+pub record AtRoot (b index : List ℕ) (n root : ℕ) (work : List ℕ) : Type 0 where
+  pub ready : Followable b index n work
+  pub clean : Clean (heldBy (tableOf b)) n work
+  pub low : 1 ≤ root
+  pub high : root ≤ n
 
 -- a root has an endless walk, or has none and is followed to its end
 abbrev pub Followed : (ℕ → List ℕ) → ℕ → ℕ → List ℕ → Bool → Type 0

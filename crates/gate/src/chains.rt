@@ -4,11 +4,10 @@ use crate::held::next_held;
 use crate::types::record_of;
 use paper::TypeNo;
 ghost use mathlib.Core.Path.{_≡_};
-ghost use Prim.Native.Nat.{_<_, _≤_};
-ghost use lib.ListN.{getD, length};
-ghost use Rattle.gate.specs.Search.{Clean, Followable, Followed, OnWay, Stepped, ringAsPaper};
+ghost use lib.ListN.{getD};
+ghost use Rattle.gate.specs.Search.{AtRoot, Followable, Followed, OnWay, Stepped, Unsearched, ringAsPaper};
 ghost use Rattle.paper.specs.Chain.{heldBy};
-ghost use Rattle.paper.specs.Gate.{overTypes, phase5, zeros};
+ghost use Rattle.paper.specs.Gate.{overTypes, phase5};
 ghost use Rattle.paper.specs.Table.{recordAt};
 ghost use Rattle.paper.specs.Walk.{tableOf};
 
@@ -21,7 +20,7 @@ pub(crate) enum Ring {
 // How the search goes on: at a word of a type; or a reference leads back into the way; or the root is finished.
 enum Step {
     On(TypeNo, u32),
-    Back,
+    Met,
     Finished,
 }
 
@@ -53,7 +52,7 @@ fn step_from(b: &[u8], index: &[u32], n: u32, t: TypeNo, j: u32, work: &mut [u32
                 return Step::On(t, k);
             }
             if mark != 0 {
-                return Step::Back;
+                return Step::Met;
             }
             work[to] = 1 + t.0 * SHIFT + k;
             Step::On(u, 0)
@@ -63,7 +62,7 @@ fn step_from(b: &[u8], index: &[u32], n: u32, t: TypeNo, j: u32, work: &mut [u32
 
 // Whether a root that was not seen leads to a ring; if not, all that it leads to is done.
 fn follow(b: &[u8], index: &[u32], n: u32, root: TypeNo, work: &mut [u32]) -> bool
-    requires { ⌜ Followable (now b) (now index) n (now work) × Clean (heldBy (tableOf (now b))) n (now work) × (1 ≤ root .0) × (root .0 ≤ n) × (getD (now work) (root .0) 0 ≡ 0) ⌝ }
+    requires { ⌜ AtRoot (now b) (now index) n (root .0) (now work) × (getD (now work) (root .0) 0 ≡ 0) ⌝ }
     ensures { λ r. ⌜ Followed (heldBy (tableOf (now (b .entry)))) n (root .0) (now (work .exit)) r ⌝ }
 {
     let mut t = root.0;
@@ -75,7 +74,7 @@ fn follow(b: &[u8], index: &[u32], n: u32, root: TypeNo, work: &mut [u32]) -> bo
                 t = u.0;
                 j = k;
             }
-            Step::Back => return true,
+            Step::Met => return true,
             Step::Finished => return false,
         }
     }
@@ -83,7 +82,7 @@ fn follow(b: &[u8], index: &[u32], n: u32, root: TypeNo, work: &mut [u32]) -> bo
 
 // The same of any root.
 fn visit(b: &[u8], index: &[u32], n: u32, root: TypeNo, work: &mut [u32]) -> bool
-    requires { ⌜ Followable (now b) (now index) n (now work) × Clean (heldBy (tableOf (now b))) n (now work) × (1 ≤ root .0) × (root .0 ≤ n) ⌝ }
+    requires { ⌜ AtRoot (now b) (now index) n (root .0) (now work) ⌝ }
     ensures { λ r. ⌜ Followed (heldBy (tableOf (now (b .entry)))) n (root .0) (now (work .exit)) r ⌝ }
 {
     let at = root.0 as usize;
@@ -95,7 +94,7 @@ fn visit(b: &[u8], index: &[u32], n: u32, root: TypeNo, work: &mut [u32]) -> boo
 
 // What phase 5 says. Roots are taken in order, so that the first with a ring is the smallest.
 pub(crate) fn chains(b: &[u8], index: &[u32], n: u32, work: &mut [u32]) -> Ring
-    requires { ⌜ Followable (now b) (now index) n (now work) × (now work ≡ zeros (length (now work))) ⌝ }
+    requires { ⌜ Unsearched (now b) (now index) n (now work) ⌝ }
     ensures { λ r. ⌜ ringAsPaper r ≡ overTypes phase5 (tableOf (now (b .entry))) ⌝ }
 {
     let mut t: u32 = 0;

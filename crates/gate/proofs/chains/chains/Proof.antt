@@ -25,13 +25,13 @@ followed : (c : tie.After-visit Inv-loop μ-loop) {z : Bool} → let l = c .befo
 followed c e = subst (Followed _ _ _ _) e (c .visit .ensures)
 
 loop-holds : tie.Need-loop-holds Inv-loop μ-loop
-loop-holds c = let p = c .before .before .before .pre in rooting-start (p .0) (p .1)
+loop-holds c = rooting-start (c .before .before .before .pre)
 
 add-t : tie.Need-add-t Inv-loop μ-loop
 add-t c = search needs
 
 visit-requires : tie.Need-visit-requires Inv-loop μ-loop
-visit-requires c κs = let l = c .before .before .loop in (l .inv .ready, l .inv .clean, omega arith, omega arith)
+visit-requires c κs = let l = c .before .before .loop in record { ready = l .inv .ready; clean = l .inv .clean; low = omega arith; high = omega arith }
 
 same-length : tie.Need-same-length Inv-loop μ-loop
 same-length c = let v = c .before .before .before in v .visit .kept .1 .1 .1 .1 .0 ∙ v .before .before .before .loop .inv .size-kept

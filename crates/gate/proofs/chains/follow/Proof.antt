@@ -36,9 +36,7 @@ slice-write-work : tie.Need-slice-write-work Inv-loop μ-loop
 slice-write-work c = search needs
 
 loop-holds : tie.Need-loop-holds Inv-loop μ-loop
-loop-holds c =
-    let p = c .before .before .before .pre in
-    following-start (p .0) (p .1) (p .2) (p .3) (p .4)
+loop-holds c = let p = c .before .before .before .pre in following-start (p .0) (p .1)
 
 step-from-requires : tie.Need-step-from-requires Inv-loop μ-loop
 step-from-requires c κs = let l = c .before .loop in (l .inv .ready, following-type (l .inv))

@@ -1,6 +1,6 @@
 -- `gate::chains::visit` meets its contract: a root that was seen is done.
 -- Assumes nothing.
-use Rattle.gate.proofs.Roots.{clean-seen}
+use Rattle.gate.proofs.Roots.{root-seen}
 use borrow.Author.Needs.{needs}
 use Rattle.gate.proofs.chains.visit.Statement.{statement}
 use Rattle.gate.proofs.chains.visit.Tie as tie
@@ -15,7 +15,7 @@ slice-read-if1 : tie.Need-slice-read-if1
 slice-read-if1 c = search needs
 
 returns : tie.Need-returns
-returns c = let p = c .before .before .before .before .before .before .pre in clean-seen (p .1) _ (p .2) (p .3) (c .if1 .taken)
+returns c = root-seen (c .before .before .before .before .before .before .pre) (c .if1 .taken)
 
 follow-requires : tie.Need-follow-requires
 follow-requires c κs = search needs

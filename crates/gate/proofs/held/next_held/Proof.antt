@@ -1,7 +1,7 @@
 -- `gate::held::next_held` meets its contract: nothing is held by the words that were passed.
 -- Assumes nothing.
 use Prim.Native.Nat.{_-_}
-use mathlib.Core.Path.{ap, _∙_}
+use mathlib.Core.Path.{ap}
 use native.Mathlib.Omega.{arith}
 use denote.Ref.{now}
 use Rattle.paper.specs.Reading.{recordIn}
