@@ -11,8 +11,8 @@ use Rattle.paper.specs.Table.{recordAt}
 use Rattle.paper.specs.Walk.{tableOf}
 use Rattle.gate.specs.Holding.{heldFrom}
 use Rattle.gate.specs.Search.{asRoot, done, markOf, Followable, AtRoot, OnWay, Moved, along, into, back, RingMet, RootDone, Clean}
-use Rattle.gate.proofs.Follows.{held-from-first, few-types, held-types, next-held, next-type, next-small}
-use Rattle.gate.proofs.Searching.{Going, going-start, going-type, going-seen, going-along, going-into, going-ring, going-finished, going-back}
+use Rattle.gate.proofs.HeldTypes.{held-from-first, few-types, held-types, next-held, next-type, next-small}
+use Rattle.gate.proofs.Searches.{Going, going-start, going-type, going-seen, going-along, going-into, going-ring, going-finished, going-back}
 use Rattle.gate.proofs.Weights.{weights, weights-entered, weights-left}
 
 -- what is left from a word of a type on

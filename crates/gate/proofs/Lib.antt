@@ -1,9 +1,9 @@
 pub mod Stands
 pub mod References
 pub mod Holds
+pub mod Ways
+pub mod HeldTypes
 pub mod Searches
-pub mod Follows
-pub mod Searching
 pub mod Weights
 pub mod Following
 pub mod Roots

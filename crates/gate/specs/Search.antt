@@ -29,9 +29,13 @@ done = 4294967295
 abbrev pub asRoot : ℕ
 asRoot = 1
 
--- on the way: entered from p, whose words are to be looked at from k on. No record has 262,144 words, so p and k can be told again
+-- more words than any record has
+abbrev pub manyWords : ℕ
+manyWords = 262144
+
+-- on the way: entered from p, whose words are to be looked at from k on
 abbrev pub markOf : ℕ → ℕ → ℕ
-markOf p k = 1 + p * 262144 + k
+markOf p k = 1 + p * manyWords + k
 
 -- ── what the search is asked of ──
 
@@ -61,7 +65,7 @@ pub data Moved (r : Record) (work : List ℕ) (t j : ℕ) (work′ : List ℕ) (
   -- it was not seen yet
   into : {k : ℕ} → NextHeld r j v k → getD work v 0 ≡ 0 → i ≡ 0 → work′ ≡ set work v (markOf t k) → Moved r work t j work′ v i
   -- nothing more is held: back to where t was entered from
-  back : heldFrom r j ≡ [] → (getD work t 0 ≡ asRoot → ⊥) → v ≡ (getD work t 0 - 1) / 262144 → i ≡ (getD work t 0 - 1) % 262144
+  back : heldFrom r j ≡ [] → (getD work t 0 ≡ asRoot → ⊥) → v ≡ (getD work t 0 - 1) / manyWords → i ≡ (getD work t 0 - 1) % manyWords
       → work′ ≡ set work t done → Moved r work t j work′ v i
 
 -- the next type that is held is on the way itself

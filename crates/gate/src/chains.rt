@@ -27,8 +27,8 @@ enum Step {
 // The mark of a type of which nothing is left. 0 is the mark of one not seen, 1 that of a root on its way.
 const DONE: u32 = 4294967295;
 
-// Any other mark is 1 + SHIFT * the type that led here + the word behind the reference: no record has as many words.
-const SHIFT: u32 = 262144;
+// Any other mark is 1 + WORDS * the type that led here + the number of the word behind the reference. No record has as many words.
+const WORDS: u32 = 262144;
 
 // One step, from word j of type t on.
 fn step_from(b: &[u8], index: &[u32], n: u32, t: TypeNo, j: u32, work: &mut [u32]) -> Step
@@ -43,7 +43,7 @@ fn step_from(b: &[u8], index: &[u32], n: u32, t: TypeNo, j: u32, work: &mut [u32
             if mark == 1 {
                 return Step::Finished;
             }
-            Step::On(TypeNo((mark - 1) / SHIFT), (mark - 1) % SHIFT)
+            Step::On(TypeNo((mark - 1) / WORDS), (mark - 1) % WORDS)
         }
         Held::Found(u, k) => {
             let to = u.0 as usize;
@@ -54,7 +54,7 @@ fn step_from(b: &[u8], index: &[u32], n: u32, t: TypeNo, j: u32, work: &mut [u32
             if mark != 0 {
                 return Step::Met;
             }
-            work[to] = 1 + t.0 * SHIFT + k;
+            work[to] = 1 + t.0 * WORDS + k;
             Step::On(u, 0)
         }
     }

@@ -8,7 +8,7 @@ use Rattle.paper.specs.Table.{recordAt}
 use Rattle.paper.specs.Walk.{tableOf}
 use Rattle.gate.specs.Holding.{heldFrom, NextHeld}
 use Rattle.gate.specs.Search.{along, into, back}
-use Rattle.gate.proofs.Follows.{told, next-type, next-small, few-types}
+use Rattle.gate.proofs.HeldTypes.{told, next-type, next-small, few-types}
 use borrow.Author.Needs.{needs}
 use Rattle.gate.proofs.chains.step_from.Statement.{statement}
 use Rattle.gate.proofs.chains.step_from.Tie as tie
