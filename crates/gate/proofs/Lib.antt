@@ -8,3 +8,14 @@ pub mod Weights
 pub mod Following
 pub mod Roots
 pub mod Looks
+pub mod Checks
+pub mod Demands
+pub mod RecordWords
+pub mod Measured
+pub mod Aliases
+pub mod SpanTests
+pub mod MembersLeft
+pub mod NamedLeft
+pub mod PartTests
+pub mod EntriesLeft
+pub mod LayoutKinds

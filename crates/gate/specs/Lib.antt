@@ -3,3 +3,7 @@ pub mod Refers
 pub mod Holding
 pub mod Search
 pub mod Said
+pub mod Check
+pub mod Judged
+pub mod Measure
+pub mod Spanned

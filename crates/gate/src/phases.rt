@@ -1,4 +1,5 @@
 // Phases 3 and 4 over the types in order, reports 10 to 13: the smallest number of the smallest type.
+use crate::layout::layout_ok;
 use crate::refs::refs_ok;
 use crate::types::record_of;
 use crate::types::strings_of;
@@ -7,9 +8,10 @@ use paper::TypeNo;
 use rules::Due;
 ghost use mathlib.Core.Path.{_≡_};
 ghost use Rattle.gate.specs.Said.{saidAsPaper};
+ghost use Rattle.gate.specs.Judged.{Judged};
 ghost use Rattle.gate.specs.Standing.{Standing};
 ghost use Rattle.paper.specs.Choice.{firstDue};
-ghost use Rattle.paper.specs.Gate.{naming, overTypes, phase3, phase4};
+ghost use Rattle.paper.specs.Gate.{naming, overTypes, phase3, phase4, phase6};
 ghost use Rattle.paper.specs.Walk.{tableOf};
 
 // What a phase says: nothing, or a report.
@@ -42,6 +44,17 @@ fn refs_at(b: &[u8], index: &[u32], n: u32, t: TypeNo) -> Said
     Said::Says(Report::Reference(t))
 }
 
+// What phase 6 says of one type.
+fn layout_at(b: &[u8], index: &[u32], n: u32, t: TypeNo) -> Said
+    requires { ⌜ Judged (now b) (now index) n ⌝ }
+    ensures { λ r. ⌜ saidAsPaper r ≡ naming (t .0) (firstDue (phase6 (tableOf (now (b .entry))) (t .0))) ⌝ }
+{
+    if layout_ok(b, index, n, t) {
+        return Said::Nothing;
+    }
+    Said::Says(Report::Layout(t))
+}
+
 // Phase 3.
 pub(crate) fn third(b: &[u8], index: &[u32], n: u32) -> Said
     requires { ⌜ Standing (now b) (now index) n ⌝ }
@@ -68,6 +81,23 @@ pub(crate) fn fourth(b: &[u8], index: &[u32], n: u32) -> Said
     while t < n {
         t += 1;
         let said = refs_at(b, index, n, TypeNo(t));
+        match said {
+            Said::Nothing => {}
+            Said::Says(_) => return said,
+        }
+    }
+    Said::Nothing
+}
+
+// Phase 6.
+pub(crate) fn sixth(b: &[u8], index: &[u32], n: u32) -> Said
+    requires { ⌜ Judged (now b) (now index) n ⌝ }
+    ensures { λ r. ⌜ saidAsPaper r ≡ overTypes phase6 (tableOf (now (b .entry))) ⌝ }
+{
+    let mut t: u32 = 0;
+    while t < n {
+        t += 1;
+        let said = layout_at(b, index, n, TypeNo(t));
         match said {
             Said::Nothing => {}
             Said::Says(_) => return said,

@@ -51,7 +51,7 @@ module _ (a b : List ℕ) (places work : ℕ) (out : List ℕ) where
 -- ── the index that a check leaves ──
 
 module _ (T : Table) (places : ℕ) (enough : count T < places) where
-  length-indexOf : length (indexOf T places) ≡ places
+  pub length-indexOf : length (indexOf T places) ≡ places
   unfolding indexOf
   length-indexOf =
       let l = length-append (0 ∷ placesOf T) (zeros (places - (count T + 1))) in
@@ -59,7 +59,7 @@ module _ (T : Table) (places : ℕ) (enough : count T < places) where
       let z = length-replicate {A = ℕ} (places - (count T + 1)) 0 in
       omega arith
 
-  getD-indexOf : (t : ℕ) → t < count T → getD (indexOf T places) (suc t) 0 ≡ getD (placesOf T) t 0
+  pub getD-indexOf : (t : ℕ) → t < count T → getD (indexOf T places) (suc t) 0 ≡ getD (placesOf T) t 0
   unfolding indexOf
   getD-indexOf t h = let p = length-placesOf T in List·getD-append (placesOf T) (zeros (places - (count T + 1))) 0 t (omega arith)
 

@@ -1,5 +1,5 @@
 // The places of the records, which an accepted blob leaves in the index.
-use crate::clear::clear;
+use crate::slices::clear;
 use paper::Place;
 use rows::tail_words;
 ghost use mathlib.Core.Path.{_≡_};

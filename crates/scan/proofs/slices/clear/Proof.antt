@@ -9,8 +9,8 @@ use denote.Ref.{now}
 use lib.Seq.{drop-length}
 use lib.ListN.{length, set, drop, length-set}
 use Rattle.paper.specs.Gate.{zeros}
-use Rattle.scan.proofs.clear.clear.Statement.{statement}
-use Rattle.scan.proofs.clear.clear.Tie as tie
+use Rattle.scan.proofs.slices.clear.Statement.{statement}
+use Rattle.scan.proofs.slices.clear.Tie as tie
 
 abbrev Inv-loop : tie.InvT-loop
 Inv-loop s₀ i₀ s i = (i ≤ length s₀) × (length s ≡ length s₀) × (s ≡ zeros i ++ drop i s₀)

@@ -3,7 +3,7 @@ ghost use mathlib.Core.Path.{_≡_};
 ghost use lib.ListN.{length};
 ghost use Rattle.paper.specs.Gate.{zeros};
 
-pub(crate) fn clear(s: &mut [u32])
+pub fn clear(s: &mut [u32])
     ensures { λ r. ⌜ now (s .exit) ≡ zeros (length (now (s .entry))) ⌝ }
 {
     let mut i = 0;

@@ -1,0 +1,46 @@
+-- `gate::parts::tag_ok` meets its contract: all ones, or a part of what it points at.
+-- Assumes nothing.
+use mathlib.Core.Path.{refl}
+use denote.Ref.{now}
+use Rattle.paper.specs.Walk.{tableOf}
+use Rattle.paper.specs.Reading.{recordIn}
+use Rattle.paper.specs.Word.{lowFirst}
+use Rattle.gate.proofs.RecordWords.{third-read, component-read}
+use Rattle.gate.proofs.PartTests.{tag-whole, tag-part}
+use borrow.Author.Needs.{needs}
+use Rattle.gate.proofs.parts.tag_ok.Statement.{statement}
+use Rattle.gate.proofs.parts.tag_ok.Tie as tie
+
+read-requires : tie.Need-read-requires
+read-requires c κs = search needs
+
+returns : tie.Need-returns
+returns c =
+    let r = c .before in
+    let start = r .before .before .before .before in
+    let bytes = now (start .args .bytes) in
+    tag-whole (tableOf (now (start .args .b))) (recordIn lowFirst bytes) (component-read bytes (start .pre .1) (r .read .ensures)) (c .if1 .taken)
+
+read-requires-2 : tie.Need-read-requires-2
+read-requires-2 c κs = search needs
+
+record-of-requires : tie.Need-record-of-requires
+record-of-requires c κs = c .before .before .before .before .before .before .pre .0
+
+parts-of-requires : tie.Need-parts-of-requires
+parts-of-requires c κs = c .before .before .before .before .before .before .before .pre .0
+
+returns-2 : tie.Need-returns-2
+returns-2 c =
+    let q = c .before in
+    let e = q .before .before in
+    let r = e .before in
+    let start = r .before .before .before .before in
+    let bytes = now (start .args .bytes) in
+    tag-part (tableOf (now (start .args .b))) (recordIn lowFirst bytes) (component-read bytes (start .pre .1) (r .read .ensures)) (e .if1 .left)
+    (third-read bytes refl (q .before .read2 .ensures)) (recordIn lowFirst (now (q .record-of .result))) (q .record-of .ensures) (c .parts-of .ensures)
+
+pub tag-ok-spec : {M : Type 1} → statement M
+tag-ok-spec =
+    tie.close
+    (tie.spec read-requires returns read-requires-2 record-of-requires parts-of-requires returns-2)

@@ -1,0 +1,92 @@
+// Report 15, arrays, functions and tags.
+use crate::extents::has_size;
+use crate::spans::is_regular;
+use crate::types::record_of;
+use paper::Place;
+use paper::TypeNo;
+use rows::kind_of;
+use rows::tail_words;
+use rows::vlen_of;
+ghost use mathlib.Core.Path.{_≡_};
+ghost use Rattle.gate.specs.Judged.{Judged};
+ghost use Rattle.gate.specs.Standing.{Standing};
+ghost use Rattle.paper.specs.KindNo.{ARRAY, DECL-TAG};
+ghost use Rattle.paper.specs.Layout.{allNamed, arrayOk, functionOk, partsOf, tagOk};
+ghost use Rattle.paper.specs.Reading.{recordIn};
+ghost use Rattle.paper.specs.Table.{kindOf};
+ghost use Rattle.paper.specs.Tails.{parametersOf};
+ghost use Rattle.paper.specs.Walk.{tableOf};
+ghost use Rattle.paper.specs.Word.{lowFirst};
+
+// "An array element must have a size"; "An array index INT is regular".
+pub(crate) fn array_ok(b: &[u8], index: &[u32], n: u32, bytes: &[u8]) -> bool
+    requires { ⌜ (Judged (now b) (now index) n) × (kindOf (recordIn lowFirst (now bytes)) ≡ ARRAY) ⌝ }
+    ensures { λ r. ⌜ r ≡ arrayOk (tableOf (now (b .entry))) (recordIn lowFirst (now (bytes .entry))) ⌝ }
+{
+    if !has_size(b, index, n, TypeNo(words::read(bytes, Place(12)))) {
+        return false;
+    }
+    let by = record_of(b, index, n, TypeNo(words::read(bytes, Place(16))));
+    is_regular(by)
+}
+
+// Every parameter but a last 0/0 has a name. The words of the tail are counted, so that nothing is asked of its kind.
+fn all_named(bytes: &[u8]) -> bool
+    ensures { λ r. ⌜ r ≡ allNamed (parametersOf (recordIn lowFirst (now (bytes .entry)))) ⌝ }
+{
+    let mut p: u32 = 12;
+    let mut left = tail_words(words::read(bytes, Place(4)));
+    while 2 <= left {
+        if words::read(bytes, Place(p)) == 0 {
+            if 4 <= left {
+                return false;
+            }
+            return words::read(bytes, Place(p + 4)) == 0;
+        }
+        p += 8;
+        left -= 2;
+    }
+    true
+}
+
+// "A FUNC's prototype names every parameter but a last 0/0".
+pub(crate) fn function_ok(b: &[u8], index: &[u32], n: u32, bytes: &[u8]) -> bool
+    requires { ⌜ Standing (now b) (now index) n ⌝ }
+    ensures { λ r. ⌜ r ≡ functionOk (tableOf (now (b .entry))) (recordIn lowFirst (now (bytes .entry))) ⌝ }
+{
+    let proto = record_of(b, index, n, TypeNo(words::read(bytes, Place(8))));
+    all_named(proto)
+}
+
+// How many parts a tag can point at.
+fn parts_of(b: &[u8], index: &[u32], n: u32, target: &[u8]) -> u32
+    requires { ⌜ Standing (now b) (now index) n ⌝ }
+    ensures { λ r. ⌜ r ≡ partsOf (tableOf (now (b .entry))) (recordIn lowFirst (now (target .entry))) ⌝ }
+{
+    let info = words::read(target, Place(4));
+    let kind = kind_of(info);
+    if kind == 4 {
+        return vlen_of(info);
+    }
+    if kind == 5 {
+        return vlen_of(info);
+    }
+    if kind != 12 {
+        return 0;
+    }
+    let proto = record_of(b, index, n, TypeNo(words::read(target, Place(8))));
+    vlen_of(words::read(proto, Place(4)))
+}
+
+// "DECL_TAG component: all ones, or below the member count, or below a FUNC's parameter count".
+pub(crate) fn tag_ok(b: &[u8], index: &[u32], n: u32, bytes: &[u8]) -> bool
+    requires { ⌜ (Standing (now b) (now index) n) × (kindOf (recordIn lowFirst (now bytes)) ≡ DECL-TAG) ⌝ }
+    ensures { λ r. ⌜ r ≡ tagOk (tableOf (now (b .entry))) (recordIn lowFirst (now (bytes .entry))) ⌝ }
+{
+    let component = words::read(bytes, Place(12));
+    if component == 4294967295 {
+        return true;
+    }
+    let target = record_of(b, index, n, TypeNo(words::read(bytes, Place(8))));
+    component < parts_of(b, index, n, target)
+}
