@@ -18,7 +18,7 @@ use Rattle.gate.specs.declared.chains.Ring.{Ring}
 use Rattle.gate.specs.declared.chains.Ring.the-variants.{Nowhere, From}
 use Rattle.gate.specs.declared.phases.Said.{Said}
 use Rattle.gate.specs.declared.phases.Said.the-variants.{Nothing, Says}
-use Rattle.paper.proofs.Gates.{overTypes-silent}
+use Rattle.paper.proofs.gates.Gates.{overTypes-silent}
 use Rattle.paper.proofs.Outcomes.{gate-refused, gate-accepted, length-indexOf, getD-indexOf}
 use Rattle.paper.specs.Answer.{Answer, report, reportAsPaper, checkedAsPaper}
 use Rattle.paper.specs.Chain.{endless}

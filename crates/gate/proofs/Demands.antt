@@ -8,12 +8,12 @@ use native.Mathlib.Omega.{arith}
 use lib.ListN.{length, getD, take, drop}
 use Rattle.gate.proofs.Checks.{gate-work}
 use Rattle.gate.specs.Check.{CheckOf}
-use Rattle.paper.proofs.Acceptance.{accepted-meets, meets-accepted}
-use Rattle.paper.proofs.Answered.{checked-accepted, checked-refused}
-use Rattle.paper.proofs.Answers.{checked-one}
+use Rattle.paper.proofs.gates.Acceptance.{accepted-meets, meets-accepted}
+use Rattle.paper.proofs.gates.Answered.{checked-accepted, checked-refused}
+use Rattle.paper.proofs.basics.Answers.{checked-one}
 use Rattle.paper.proofs.Demands.{accepted-ends}
 use Rattle.paper.proofs.Outcomes.{gate-refused, gate-accepted, index-place, whole-size}
-use Rattle.paper.proofs.Reports.{refusal-spoken, report-14}
+use Rattle.paper.proofs.gates.Reports.{refusal-spoken, report-14}
 use Rattle.paper.specs.Answer.{Answer, reportAsPaper, checkedAsPaper, sizedAsPaper}
 use Rattle.paper.specs.Chain.{heldBy, Chain}
 use Rattle.paper.specs.Fit.{Bytes}

@@ -16,8 +16,8 @@ use Rattle.paper.specs.References.{refsOk, refBad}
 use Rattle.paper.specs.Table.{Record, Table, count, recordAt, rolesOf, wordsOf}
 use Rattle.paper.specs.Walk.{tableOf}
 use Rattle.paper.specs.Word.{lowFirst, wordAt}
-use Rattle.paper.proofs.Gates.{overTypes-silent}
-use Rattle.paper.proofs.Insides.{held-inside}
+use Rattle.paper.proofs.gates.Gates.{overTypes-silent}
+use Rattle.paper.proofs.walks.Insides.{held-inside}
 use Rattle.rows.proofs.RoleCodes.{tailLength-few}
 use Rattle.gate.specs.declared.held.Held.{Held}
 use Rattle.gate.specs.Holding.{heldFrom, HeldIs, NextHeld}

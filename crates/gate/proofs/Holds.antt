@@ -17,7 +17,7 @@ use Rattle.paper.specs.Kind.{NameRule, offset0, anyName, offset0OrIdentifier, i
 use Rattle.paper.specs.Reading.{wordsFrom, recordIn}
 use Rattle.paper.specs.Table.{Record, kindIn, vlenIn, tailLength, tailRoles, rolesOf, wordsOf}
 use Rattle.paper.specs.Word.{lowFirst, wordAt}
-use Rattle.paper.proofs.Reading.{length-times}
+use Rattle.paper.proofs.bytes.Reading.{length-times}
 use Rattle.rows.specs.Codes.{nameCode, refCode, roleCode, roleAt}
 use Rattle.gate.specs.Holding.{tailRolesBy, rolesBy, heldFrom, heldAhead, NextHeld, WordOf}
 

@@ -11,11 +11,11 @@ use lib.Dec.{leb, ltb}
 use lib.ListN.{length, getD}
 use Rattle.gate.specs.Judged.{Judged}
 use Rattle.gate.specs.Measure.{Measures}
-use Rattle.paper.proofs.Acceptance.{readable-walk}
-use Rattle.paper.proofs.Blobs.{bytesOf-tableOf, tableOf-fits}
-use Rattle.paper.proofs.Headers.{facts-headerReport}
-use Rattle.paper.proofs.Insides.{recordAt-outside}
-use Rattle.paper.proofs.SizeAsked.{sizeOf-exact}
+use Rattle.paper.proofs.gates.Acceptance.{readable-walk}
+use Rattle.paper.proofs.bytes.Blobs.{bytesOf-tableOf, tableOf-fits}
+use Rattle.paper.proofs.bytes.Headers.{facts-headerReport}
+use Rattle.paper.proofs.walks.Insides.{recordAt-outside}
+use Rattle.paper.proofs.gates.SizeAsked.{sizeOf-exact}
 use Rattle.paper.specs.Answer.{Answer, report, value, sizedAsPaper}
 use Rattle.paper.specs.Choice.{isSome}
 use Rattle.paper.specs.Header.{orderOf}

@@ -11,12 +11,12 @@ use lib.Dec.{eqb, ltb}
 use lib.ListN.{length, getD, drop}
 use lib.Seq.{drop-length}
 use Rattle.gate.specs.Standing.{Standing, placeIn}
-use Rattle.paper.proofs.Acceptance.{readable-walk}
-use Rattle.paper.proofs.Blobs.{strings-tableOf}
-use Rattle.paper.proofs.Headers.{facts-headerReport}
-use Rattle.paper.proofs.Insides.{recordAt-outside}
-use Rattle.paper.proofs.Places.{blob-place-high}
-use Rattle.paper.proofs.Reading.{recordIn-place}
+use Rattle.paper.proofs.gates.Acceptance.{readable-walk}
+use Rattle.paper.proofs.bytes.Blobs.{strings-tableOf}
+use Rattle.paper.proofs.bytes.Headers.{facts-headerReport}
+use Rattle.paper.proofs.walks.Insides.{recordAt-outside}
+use Rattle.paper.proofs.bytes.Places.{blob-place-high}
+use Rattle.paper.proofs.bytes.Reading.{recordIn-place}
 use Rattle.paper.specs.Header.{orderOf, typeLen, stringsIn}
 use Rattle.paper.specs.Kind.{rows, rowOf}
 use Rattle.paper.specs.Reading.{recordIn}

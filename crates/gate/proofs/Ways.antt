@@ -11,7 +11,7 @@ use lib.Dec.{eqb}
 use lib.ListN.{length, getD, set}
 use lib.Seq.{getD-set-same, getD-set-other}
 use Rattle.paper.specs.Chain.{walks, Chain}
-use Rattle.paper.proofs.Endless.{any-holds, chain-walks, walks-chain}
+use Rattle.paper.proofs.walks.Endless.{any-holds, chain-walks, walks-chain}
 use Rattle.gate.specs.Search.{done, asRoot, manyWords, markOf}
 
 -- ── a place set, and the others ──

@@ -6,13 +6,13 @@ use mathlib.Core.List.{List}
 use mathlib.Core.Option.{none}
 use native.Mathlib.Omega.{arith}
 use lib.ListN.{length, getD}
-use Rattle.paper.proofs.Acceptance.{accepted-fits, accepted-bytes, accepted-good, good-accepted}
-use Rattle.paper.proofs.Insides.{sound-refs, sound-ends, no-chain}
-use Rattle.paper.proofs.JoinRefusals.{joinRefusal-joinable}
-use Rattle.paper.proofs.JoinFits.{good-join, fits-join}
-use Rattle.paper.proofs.Joining.{size-rename, count-join, first-record, second-record, first-renaming, second-renaming}
-use Rattle.paper.proofs.SizeAsked.{sizeOf-exact}
-use Rattle.paper.proofs.Tables.{length-bytesOf, bytes-bytesOf, tableOf-bytesOf}
+use Rattle.paper.proofs.gates.Acceptance.{accepted-fits, accepted-bytes, accepted-good, good-accepted}
+use Rattle.paper.proofs.walks.Insides.{sound-refs, sound-ends, no-chain}
+use Rattle.paper.proofs.joins.JoinRefusals.{joinRefusal-joinable}
+use Rattle.paper.proofs.joins.JoinFits.{good-join, fits-join}
+use Rattle.paper.proofs.joins.Joining.{size-rename, count-join, first-record, second-record, first-renaming, second-renaming}
+use Rattle.paper.proofs.gates.SizeAsked.{sizeOf-exact}
+use Rattle.paper.proofs.bytes.Tables.{length-bytesOf, bytes-bytesOf, tableOf-bytesOf}
 use Rattle.paper.specs.Chain.{heldBy, Chain}
 use Rattle.paper.specs.Fit.{Bytes, Fits}
 use Rattle.paper.specs.Gate.{refusal}

@@ -7,10 +7,10 @@ use mathlib.Core.Option.{none, some}
 use native.Mathlib.Omega.{arith}
 use lib.ListN.{length, getD, take, drop, length-append, length-take, length-replicate, List·getD-append}
 use lib.Seq.{getD-take, take-all, take-at}
-use Rattle.paper.proofs.Acceptance.{accepted-meets, accepted-bytes}
-use Rattle.paper.proofs.Bytes.{length-bytesOfWords}
+use Rattle.paper.proofs.gates.Acceptance.{accepted-meets, accepted-bytes}
+use Rattle.paper.proofs.bytes.Bytes.{length-bytesOfWords}
 use Rattle.paper.proofs.Demands.{accepted-size}
-use Rattle.paper.proofs.Places.{length-placesOf, place-record}
+use Rattle.paper.proofs.bytes.Places.{length-placesOf, place-record}
 use Rattle.paper.specs.Answer.{Answer, accepted, value}
 use Rattle.paper.specs.Fit.{Bytes}
 use Rattle.paper.specs.Gate.{refusal, zeros, indexOf, Outcome, outcome, gate}

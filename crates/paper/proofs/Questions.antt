@@ -9,11 +9,11 @@ use native.Mathlib.Omega.{arith}
 use borrow.Author.Tests.{lt-ltb}
 use lib.Dec.{ltb}
 use lib.ListN.{length}
-use Rattle.paper.proofs.Acceptance.{accepted-header, accepted-closed}
-use Rattle.paper.proofs.Blobs.{stringsIn-length, strings-tableOf}
+use Rattle.paper.proofs.gates.Acceptance.{accepted-header, accepted-closed}
+use Rattle.paper.proofs.bytes.Blobs.{stringsIn-length, strings-tableOf}
 use Rattle.paper.proofs.Demands.{first-accepted, second-accepted, join-bytes, join-table, join-count, join-accepted, join-name-first, join-name-second, join-size-first, join-size-second}
-use Rattle.paper.proofs.Headers.{headerReport-facts}
-use Rattle.paper.proofs.Joining.{first-renaming, second-renaming}
+use Rattle.paper.proofs.bytes.Headers.{headerReport-facts}
+use Rattle.paper.proofs.joins.Joining.{first-renaming, second-renaming}
 use Rattle.paper.proofs.Outcomes.{whole-size}
 use Rattle.paper.specs.Choice.{isSome}
 use Rattle.paper.specs.Fit.{Bytes}

@@ -7,7 +7,7 @@ use native.Mathlib.Numerals.{add-one}
 use native.Mathlib.Omega.{arith}
 use lib.ListN.{length, getD, set, take, drop, length-set}
 use lib.Seq.{take-suc, take-suc-set, take-all}
-use Rattle.paper.proofs.Bytes.{part-rest, length-words}
+use Rattle.paper.proofs.bytes.Bytes.{part-rest, length-words}
 use Rattle.paper.specs.Word.{lowFirst, firstWord, words, wordAt}
 
 -- the i-th word begins four bytes for each word before it

@@ -12,7 +12,7 @@ use Rattle.paper.specs.Kind.{Role, names, number, rowOf}
 use Rattle.paper.specs.Reading.{recordIn, roled, tailRoled}
 use Rattle.paper.specs.Table.{kindIn, vlenIn, everyWord}
 use Rattle.paper.specs.Word.{Order, wordAt}
-use Rattle.paper.proofs.Reading.{roled-append, everyWord-recordIn}
+use Rattle.paper.proofs.bytes.Reading.{roled-append, everyWord-recordIn}
 use Rattle.rows.specs.Codes.{nameCode, roleCode, roleOf, roleAt}
 use Rattle.rows.proofs.RoleCodes.{roleOf-nameCode, roleOf-roleCode}
 

@@ -12,7 +12,7 @@ use lib.Dec.{eqb, leb}
 use Rattle.paper.specs.Choice.{member}
 use Rattle.paper.specs.Heads.{allowed}
 use Rattle.paper.specs.Kind.{Row, Values, free, rows, rowOf}
-use Rattle.paper.proofs.Choices.{or-left, or-right, false-or}
+use Rattle.paper.proofs.basics.Choices.{or-left, or-right, false-or}
 use Rattle.rows.specs.Codes.{valuesOf, valuesCode}
 use Rattle.rows.proofs.Columns.{rowOf-agree}
 

@@ -10,7 +10,7 @@ use lib.ListN.{length, List·getD-eq-default}
 use mathlib.Core.List.{List}
 use Rattle.paper.specs.Kind.{NameRule, offset0, anyName, offset0OrIdentifier, identifier, nonEmpty, sectionName, RefRule, voidOrPlain, plain, anInt, aProto, aVar, taggable, Role, names, refers, holds, number, SizeRule, eight, sizeWord, countTimes, referent, noSize, Row, rows, rowOf}
 use Rattle.paper.specs.Table.{kindIn, vlenIn, tailLength}
-use Rattle.paper.proofs.Rows.{rowOf-every}
+use Rattle.paper.proofs.basics.Rows.{rowOf-every}
 use Rattle.rows.specs.Codes.{nameCode, refCode, roleCode, roleOf, roleAt, sizeCode, sizeRuleOf}
 
 -- ── codes and what they stand for ──

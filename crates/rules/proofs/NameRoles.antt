@@ -10,7 +10,7 @@ use lib.ListN.{length}
 use Rattle.paper.specs.Kind.{Role, names, refers, holds, number, voidOrPlain, plain, anInt, aProto, aVar, taggable}
 use Rattle.paper.specs.Name.{nameIn}
 use Rattle.paper.specs.Names.{nameFits, nameOk, nameWordOk}
-use Rattle.paper.proofs.Choices.{every-getD}
+use Rattle.paper.proofs.basics.Choices.{every-getD}
 use Rattle.rows.specs.Codes.{roleOf}
 use Rattle.rules.specs.Parts.{nameRuleOf}
 

@@ -11,7 +11,7 @@ use Rattle.paper.specs.Gate.{phase2, walkReport}
 use Rattle.paper.specs.Header.{headerReport, typeLen}
 use Rattle.paper.specs.Table.{count}
 use Rattle.paper.specs.Walk.{Walked, records, stopped, recordsIn, walk, tableOf}
-use Rattle.paper.proofs.Headers.{headerReport-facts}
+use Rattle.paper.proofs.bytes.Headers.{headerReport-facts}
 use Rattle.scan.specs.Phase2.{TypeSection, counted, refused, findingOf}
 
 -- what phase 1 has shown where it is silent

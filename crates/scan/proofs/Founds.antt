@@ -8,9 +8,9 @@ use mathlib.Core.Option.{Option, none, some}
 use native.Mathlib.Omega.{arith}
 use borrow.Author.Tests.{lt-ltb, le-ltb}
 use lib.Dec.{ltb}
-use Rattle.paper.proofs.Acceptance.{silent-readable, readable-walk}
-use Rattle.paper.proofs.Choices.{or-left, or-right, false-or}
-use Rattle.paper.proofs.Gates.{orElse-none, naming-none}
+use Rattle.paper.proofs.gates.Acceptance.{silent-readable, readable-walk}
+use Rattle.paper.proofs.basics.Choices.{or-left, or-right, false-or}
+use Rattle.paper.proofs.gates.Gates.{orElse-none, naming-none}
 use Rattle.paper.specs.Answer.{Answer, report, reportAsPaper}
 use Rattle.paper.specs.Choice.{_when_, firstDue, orElse}
 use Rattle.paper.specs.Gate.{naming, phase1, phase2, shortSlices}

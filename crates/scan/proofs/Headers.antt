@@ -11,7 +11,7 @@ use borrow.Author.Tests.{eq-eqb, ne-eqb}
 use lib.Dec.{eqb}
 use lib.ListN.{length, getD, take, length-take}
 use lib.Seq.{getD-drop}
-use Rattle.paper.proofs.Choices.{or-left, or-right, same-true}
+use Rattle.paper.proofs.basics.Choices.{or-left, or-right, same-true}
 use Rattle.paper.specs.Answer.{report}
 use Rattle.paper.specs.Choice.{differ, same}
 use Rattle.paper.specs.Gate.{phase1}

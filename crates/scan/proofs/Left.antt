@@ -9,8 +9,8 @@ use lib.Seq.{length-take-le}
 use Rattle.paper.specs.Header.{orderOf, headerLength, typeLen}
 use Rattle.paper.specs.Walk.{typeWords}
 use Rattle.paper.specs.Word.{lowFirst, words, wordAt}
-use Rattle.paper.proofs.Words.{drop-four, wordAt-inside}
-use Rattle.paper.proofs.Bytes.{length-words}
+use Rattle.paper.proofs.bytes.Words.{drop-four, wordAt-inside}
+use Rattle.paper.proofs.bytes.Bytes.{length-words}
 
 abbrev pub left : List ℕ → ℕ → ℕ → List ℕ
 left b at end = words lowFirst (take (end - at) (drop at b))

@@ -14,8 +14,8 @@ use Rattle.paper.specs.Limits.{typeLimit, byteLimit}
 use Rattle.paper.specs.Table.{Record, nothing, tailLength, wordsOf}
 use Rattle.paper.specs.Walk.{typeWords, walk, tableOf, flat, placesFrom, placesOf}
 use Rattle.paper.specs.Word.{lowFirst, wordAt}
-use Rattle.paper.proofs.Blobs.{tableOf-found}
-use Rattle.paper.proofs.Places.{length-placesOf}
+use Rattle.paper.proofs.bytes.Blobs.{tableOf-found}
+use Rattle.paper.proofs.bytes.Places.{length-placesOf}
 use Rattle.paper.specs.Good.{WholeWalk}
 use Rattle.scan.specs.Phase2.{WalkDone}
 use Rattle.scan.proofs.Findings.{finding-records, counted-count}

@@ -12,7 +12,7 @@ use Rattle.paper.specs.Limits.{typeLimit}
 use Rattle.paper.specs.Table.{Record, tailLength}
 use Rattle.paper.specs.Walk.{Walked, records, stopped, ahead, walkFrom, walk}
 use Rattle.paper.specs.Word.{lowFirst, wordAt}
-use Rattle.paper.proofs.Sections.{recordFrom}
+use Rattle.paper.proofs.bytes.Sections.{recordFrom}
 use Rattle.scan.specs.declared.walk.Step.{Step}
 use Rattle.scan.specs.declared.walk.Step.the-variants.{Next, Cut, Unknown}
 use Rattle.scan.specs.Phase2.{TypeSection, Finding, counted, refused, findingOf, stepFrom}

@@ -11,8 +11,8 @@ use borrow.Author.Tests.{eq-eqb, ne-eqb, ltb-true, not-false}
 use lib.Dec.{eqb, ltb}
 use lib.ListN.{length, getD, take, drop, length-drop, List·getD-eq-default}
 use lib.Seq.{drop-drop, length-take-le}
-use Rattle.paper.proofs.Choices.{or-false}
-use Rattle.paper.proofs.Headers.{headerReport-facts}
+use Rattle.paper.proofs.basics.Choices.{or-false}
+use Rattle.paper.proofs.bytes.Headers.{headerReport-facts}
 use Rattle.scan.specs.Part.{Ending}
 use Rattle.scan.specs.Header.{HeaderOf, SectionsOf}
 use Rattle.scan.specs.declared.header.Header.{Header}

@@ -11,7 +11,7 @@ use lib.ListN.{length, drop}
 use Rattle.paper.specs.Table.{kindIn, tailLength}
 use Rattle.paper.specs.Walk.{Walked, records, stopped, ahead, known, walkRecord, walkFrom}
 use Rattle.paper.specs.Word.{lowFirst, wordAt}
-use Rattle.paper.proofs.Sections.{recordFrom}
+use Rattle.paper.proofs.bytes.Sections.{recordFrom}
 use Rattle.scan.specs.declared.walk.Step.{Step}
 use Rattle.scan.specs.declared.walk.Step.the-variants.{Next, Cut, Unknown}
 use Rattle.scan.specs.Phase2.{stepFrom}

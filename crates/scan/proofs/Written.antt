@@ -10,7 +10,7 @@ use lib.Seq.{take-suc, take-all, length-take-le, set-at, append-snoc}
 use Rattle.paper.specs.Gate.{zeros, indexOf}
 use Rattle.paper.specs.Table.{Table, count}
 use Rattle.paper.specs.Walk.{placesOf}
-use Rattle.paper.proofs.Places.{length-placesOf}
+use Rattle.paper.proofs.bytes.Places.{length-placesOf}
 
 abbrev pub written : List ℕ → ℕ → ℕ → List ℕ
 written ps size k = 0 ∷ take k ps ++ zeros (size - (k + 1))

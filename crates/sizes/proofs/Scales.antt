@@ -10,7 +10,7 @@ use borrow.Author.Tests.{leb-true, leb-false, lt-leb}
 use lib.Dec.{leb}
 use lib.ListN.{length}
 use Rattle.sizes.specs.SizeStep.{cut}
-use Rattle.paper.proofs.Sizes.{sizeBy-void}
+use Rattle.paper.proofs.walks.Sizes.{sizeBy-void}
 use Rattle.paper.specs.Answer.{Answer, report}
 use Rattle.paper.specs.Limits.{sizeLimit}
 use Rattle.paper.specs.Size.{Step, is, manyOf, sizeless, lost, Found, exactly, noneAt, lostAt, tooFar, scale, goOn, sizeBy, stepAt, sizeAsked, sizeAnswer, sizeOf}

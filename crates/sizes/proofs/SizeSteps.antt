@@ -8,10 +8,10 @@ use native.Mathlib.Omega.{arith}
 use borrow.Author.Tests.{lt-ltb, le-ltb, le-leb, lt-leb, leb-true, leb-false, not-true, not-false, eq-eqb, ne-eqb}
 use lib.Dec.{leb, eqb}
 use lib.ListN.{length, getD, take, drop, length-drop}
-use Rattle.paper.proofs.Reading.{wordAt-drop}
+use Rattle.paper.proofs.bytes.Reading.{wordAt-drop}
 use Rattle.rows.proofs.RoleCodes.{sizeRuleOf-sizeCode}
 use Rattle.rows.specs.Codes.{sizeCode, sizeRuleOf}
-use Rattle.paper.proofs.Bytes.{part-rest}
+use Rattle.paper.proofs.bytes.Bytes.{part-rest}
 use Rattle.sizes.specs.SizeStep.{readable, stepOf}
 use Rattle.paper.specs.Kind.{noSize, rowOf}
 use Rattle.paper.specs.Size.{Step, lost, stepBy, stepAtPlace, stepAt}

@@ -2,7 +2,7 @@
 -- Assumes nothing.
 use Prim.Native.Nat.{ℕ, _%_}
 use mathlib.Core.Path.{ap, sym, _∙_}
-use Rattle.paper.proofs.Rename.{raise-zero, raise-other}
+use Rattle.paper.proofs.renaming.Rename.{raise-zero, raise-other}
 use borrow.Author.Needs.{needs}
 use Rattle.words.proofs.raised.Statement.{statement}
 use Rattle.words.proofs.raised.Tie as tie

@@ -5,7 +5,7 @@ use native.Mathlib.Omega.{arith}
 use denote.Ref.{now}
 use lib.ListN.{length-set}
 use Rattle.paper.specs.Word.{lowFirst}
-use Rattle.paper.proofs.Words.{putWord-outside, putWord-low}
+use Rattle.paper.proofs.bytes.Words.{putWord-outside, putWord-low}
 use borrow.Author.Needs.{needs}
 use Rattle.words.proofs.write.Statement.{statement}
 use Rattle.words.proofs.write.Tie as tie

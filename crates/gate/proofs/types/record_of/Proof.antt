@@ -5,7 +5,7 @@ use mathlib.Core.Path.{ap, _∙_}
 use native.Mathlib.Omega.{arith}
 use denote.Ref.{now}
 use lib.ListN.{length, drop}
-use Rattle.paper.proofs.Bytes.{part-rest}
+use Rattle.paper.proofs.bytes.Bytes.{part-rest}
 use Rattle.paper.specs.Reading.{recordIn}
 use Rattle.paper.specs.Word.{lowFirst}
 use Rattle.gate.proofs.Stands.{stands-inside, stands-record}

@@ -6,7 +6,7 @@ use native.Mathlib.Omega.{arith}
 use denote.Ref.{now}
 use lib.ListN.{length, drop}
 use Rattle.gate.proofs.Stands.{stands-strings, stands-section}
-use Rattle.paper.proofs.Bytes.{part-rest}
+use Rattle.paper.proofs.bytes.Bytes.{part-rest}
 use borrow.Author.Needs.{needs}
 use Rattle.gate.proofs.types.strings_of.Statement.{statement}
 use Rattle.gate.proofs.types.strings_of.Tie as tie

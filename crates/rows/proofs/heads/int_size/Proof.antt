@@ -4,7 +4,7 @@ use mathlib.Core.List.{[], _∷_}
 use mathlib.Core.Path.{sym}
 use borrow.Author.Tests.{eq-eqb, ne-eqb}
 use lib.Dec.{eqb}
-use Rattle.paper.proofs.Choices.{or-left, or-right, false-or}
+use Rattle.paper.proofs.basics.Choices.{or-left, or-right, false-or}
 use Rattle.rows.proofs.Members.{member-key, member-no-key}
 use Rattle.rows.proofs.heads.int_size.Statement.{statement}
 use Rattle.rows.proofs.heads.int_size.Tie as tie

@@ -6,7 +6,7 @@ use native.Mathlib.Omega.{arith}
 use denote.Ref.{now}
 use mathlib.Core.List.{List}
 use lib.ListN.{length, drop, length-drop}
-use Rattle.paper.proofs.Bytes.{part-rest}
+use Rattle.paper.proofs.bytes.Bytes.{part-rest}
 use Rattle.paper.specs.Name.{nameStart}
 use Rattle.scan.specs.Part.{Ending}
 use Rattle.scan.proofs.Headers.{tells}

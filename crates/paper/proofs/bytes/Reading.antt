@@ -1,0 +1,111 @@
+-- Laws of `recordIn`: at a record's place in the blob the bytes begin with that record, and a test of a record's words, one by one.
+-- Assumes nothing.
+use Prim.Native.Nat.{ℕ, zero, suc, _+_, _*_, _<_}
+use mathlib.Core.Path.{_≡_, refl, sym, ap, ap₂, _∙_}
+use mathlib.Core.Bool.{Bool, true, false, _&&_}
+use mathlib.Core.List.{List, [], _∷_, _++_}
+use mathlib.Core.Option.{none}
+use native.Mathlib.Omega.{arith}
+use lib.ListN.{length, getD, drop, length-append}
+use lib.Seq.{drop-drop}
+use Rattle.paper.specs.Choice.{times}
+use Rattle.paper.specs.Fit.{Bytes}
+use Rattle.paper.specs.Header.{orderOf, headerReport}
+use Rattle.paper.specs.Kind.{Role, names, number, rowOf}
+use Rattle.paper.specs.Reading.{wordsFrom, recordIn, roled, tailRoled}
+use Rattle.paper.specs.Table.{Record, count, nothing, kindIn, vlenIn, tailLength, tailRoles, everyRoled, everyWord}
+use Rattle.paper.specs.Walk.{records, walk, tableOf, placesOf}
+use Rattle.paper.specs.Word.{Order, wordAt}
+use Rattle.paper.proofs.bytes.Blobs.{tableOf-fits}
+use Rattle.paper.proofs.joins.Joining.{whole-at}
+use Rattle.paper.proofs.bytes.Places.{blob-place-word}
+
+-- ── words and tests of them, in a byte order ──
+
+-- a role for each word of a tail
+pub length-times : (v : ℕ) (ρs : List Role) → length (times v ρs) ≡ v * length ρs
+length-times zero ρs = omega arith
+length-times (suc v) ρs = length-append ρs (times v ρs) ∙ ap (λ (n : ℕ). length ρs + n) (length-times v ρs) ∙ omega arith
+
+module _ (order : Order) where
+  -- a word so far into what is left of some bytes
+  pub wordAt-drop : (b : List ℕ) (p k : ℕ) → wordAt order (drop p b) k ≡ wordAt order b (p + k)
+  unfolding wordAt
+  wordAt-drop b p k = rw drop-drop refl
+
+  -- the words from a place on are those of a list that stand there one after the other
+  wordsFrom-are : (s : List ℕ) (p : ℕ) (ws : List ℕ) → ((j : ℕ) → j < length ws → wordAt order s (p + 4 * j) ≡ getD ws j 0)
+      → wordsFrom order s p (length ws) ≡ ws
+  wordsFrom-are s p [] h = refl
+  wordsFrom-are s p (w ∷ ws) h =
+      let first : wordAt order s p ≡ w = let here : p + 4 * 0 ≡ p = omega arith in sym (ap (wordAt order s) here) ∙ h 0 (omega arith) in
+      ap₂ {C = List ℕ} _∷_ first (wordsFrom-are s (p + 4) ws next)
+    where
+      next : (j : ℕ) → j < length ws → wordAt order s (p + 4 + 4 * j) ≡ getD ws j 0
+      next j l = let there : p + 4 + 4 * j ≡ p + 4 * suc j = omega arith in ap (wordAt order s) there ∙ h (suc j) (omega arith)
+
+  -- one run of roles behind the other
+  pub roled-append : (f : Role → ℕ → Bool) (s : List ℕ) (p : ℕ) (ρs σs : List Role)
+      → roled order f s p (ρs ++ σs) ≡ roled order f s p ρs && roled order f s (p + 4 * length ρs) σs
+  unfolding roled
+  roled-append f s p [] σs = let here : p + 4 * 0 ≡ p = omega arith in ap (λ (q : ℕ). roled order f s q σs) (sym here)
+  roled-append f s p (ρ ∷ ρs) σs =
+      let there : p + 4 + 4 * length ρs ≡ p + 4 * suc (length ρs) = omega arith in
+      ap (λ (t : Bool). f ρ (wordAt order s p) && t)
+      (roled-append f s (p + 4) ρs σs ∙ ap (λ (q : ℕ). roled order f s (p + 4) ρs && roled order f s q σs) there)
+      ∙ and-assoc (f ρ (wordAt order s p)) _ _
+    where
+      and-assoc : (a b c : Bool) → (a && (b && c)) ≡ ((a && b) && c)
+      and-assoc true b c = refl
+      and-assoc false b c = refl
+
+  -- a test of every word of a record: the three of the head, then the tail
+  pub everyWord-recordIn : (f : Role → ℕ → Bool) (s : List ℕ) → let info = wordAt order s 4 in let row = rowOf (kindIn info) in
+      roled order f s 0 (names (row .name) ∷ number ∷ row .thirdRole ∷ []) && tailRoled order f s info ≡ everyWord f (recordIn order s)
+  unfolding recordIn roled tailLength tailRoles
+  everyWord-recordIn f s =
+      let row = rowOf (kindIn (wordAt order s 4)) in
+      let v = vlenIn (wordAt order s 4) in
+      let few : length (row .once ++ times v (row .each)) ≡ length (row .once) + v * length (row .each) =
+      length-append (row .once) (times v (row .each)) ∙ ap (λ (n : ℕ). length (row .once) + n) (length-times v (row .each)) in
+      regroup (f (names (row .name)) (wordAt order s 0)) (f number (wordAt order s 4)) (f (row .thirdRole) (wordAt order s 8)) (tailRoled order f s (wordAt order s 4))
+      ∙ ap
+      (λ (t : Bool). f (names (row .name)) (wordAt order s 0) && (f number (wordAt order s 4) && (f (row .thirdRole) (wordAt order s 8) && t)))
+      (sym (roled-append f s 12 (row .once) (times v (row .each)))
+      ∙ ap (λ (n : ℕ). everyRoled f (row .once ++ times v (row .each)) (wordsFrom order s 12 n)) few)
+    where
+      regroup : (a b c d : Bool) → (a && (b && (c && true))) && d ≡ a && (b && (c && d))
+      regroup true true true d = refl
+      regroup true true false d = refl
+      regroup true false c d = refl
+      regroup false b c d = refl
+
+-- ── the record at a place ──
+
+module _ (b : List ℕ) (bytes : Bytes b) (silent : headerReport b ≡ none) (rs : List Record) (e : walk b ≡ records rs) (t : ℕ) (h : t < count (tableOf b)) where
+  -- the record of a type, as it is numbered from 0
+  abbrev here : Record
+  here = getD (tableOf b .records) t nothing
+
+  abbrev place : ℕ
+  place = getD (placesOf (tableOf b)) t 0
+
+  word-here : (j : ℕ) → j < suc (suc (suc (length (here .tail)))) → wordAt (orderOf b) (drop place b) (4 * j) ≡ getD (here .nameOff ∷ here .info ∷ here .third ∷ here .tail) j 0
+  word-here j l = wordAt-drop (orderOf b) b place (4 * j) ∙ blob-place-word b bytes silent rs e t h j l
+
+  -- the bytes from a record's place on begin with that record
+  pub recordIn-place : recordIn (orderOf b) (drop place b) ≡ here
+  unfolding recordIn
+  recordIn-place =
+      let info = word-here 1 (omega arith) in
+      let few = whole-at (tableOf b .records) (tableOf-fits b bytes silent rs e .whole) t h .whole-tail in
+      let tail =
+      ap (λ (w : ℕ). wordsFrom (orderOf b) (drop place b) 12 (tailLength w)) info
+      ∙ ap (wordsFrom (orderOf b) (drop place b) 12) (sym few)
+      ∙ wordsFrom-are (orderOf b) (drop place b) 12 (here .tail) later in
+      λ i. record { nameOff = word-here 0 (omega arith) i; info = info i; third = word-here 2 (omega arith) i; tail = tail i }
+    where
+      later : (j : ℕ) → j < length (here .tail) → wordAt (orderOf b) (drop place b) (12 + 4 * j) ≡ getD (here .tail) j 0
+      later j l =
+          let there : 12 + 4 * j ≡ 4 * suc (suc (suc j)) = omega arith in
+          ap (wordAt (orderOf b) (drop place b)) there ∙ word-here (suc (suc (suc j))) (omega arith)

@@ -1,0 +1,88 @@
+-- "Joined unless": a join is made exactly where both tables are accepted and the limits and the room allow it; else 16 to 20, in that order.
+-- Assumes nothing.
+use Prim.Native.Nat.{ℕ, _+_, _≤_, _<_}
+use mathlib.Core.Path.{_≡_, refl, ap, ap₂, _∙_}
+use mathlib.Core.Bool.{Bool, false}
+use mathlib.Core.List.{List, [], _∷_}
+use mathlib.Core.Option.{Option, none, some}
+use borrow.Author.Tests.{ltb-false, le-ltb, lt-ltb}
+use lib.Dec.{ltb}
+use lib.ListN.{length}
+use Rattle.paper.proofs.basics.Choices.{firstDue-none, none-firstDue}
+use Rattle.paper.proofs.gates.Gates.{orElse-none, none-orElse, naming-none, refusedInside-none}
+use Rattle.paper.specs.Answer.{Answer, report, inside}
+use Rattle.paper.specs.Choice.{_when_, firstDue, orElse}
+use Rattle.paper.specs.Gate.{naming, refusal}
+use Rattle.paper.specs.Good.{Joinable}
+use Rattle.paper.specs.Join.{refusedInside, joinedBytes, limitRules, limitReport, joinRefusal}
+use Rattle.paper.specs.Limits.{typeLimit, byteLimit}
+use Rattle.paper.specs.Table.{count}
+use Rattle.paper.specs.Walk.{tableOf}
+
+module _ (a b : List ℕ) (places work room : ℕ) where
+  -- ── no refusal, exactly where ──
+
+  pub joinRefusal-joinable : joinRefusal a b places work room ≡ none → Joinable a b places work room
+  unfolding joinRefusal limitReport
+  joinRefusal-joinable e =
+      let one = orElse-none (refusedInside 16 (refusal a places work)) _ e in
+      let two = orElse-none (refusedInside 17 (refusal b places work)) _ (one .1) in
+      let due = firstDue-none (limitRules a b room) (naming-none 0 _ (two .1)) in
+      record {
+        first = refusedInside-none 16 (refusal a places work) (one .0);
+        second = refusedInside-none 17 (refusal b places work) (two .0);
+        few = ltb-false _ _ (due .0);
+        short = ltb-false _ _ (due .1 .0);
+        fits = ltb-false _ _ (due .1 .1 .0);
+      }
+
+  pub joinable-joinRefusal : Joinable a b places work room → joinRefusal a b places work room ≡ none
+  unfolding joinRefusal limitReport
+  joinable-joinRefusal j =
+      none-orElse (ap (refusedInside 16) (j .first))
+      (none-orElse (ap (refusedInside 17) (j .second))
+      (ap (naming 0) (none-firstDue (limitRules a b room) (le-ltb _ _ (j .few), (le-ltb _ _ (j .short), (le-ltb _ _ (j .fits), tt))))))
+
+  -- ── the grounds, in their order ──
+
+  -- 16: the first table is refused, whatever the second is
+  pub join-16 : {x : Answer} → refusal a places work ≡ some x → joinRefusal a b places work room ≡ some (inside 16 x)
+  unfolding joinRefusal
+  join-16 e = ap (λ (o : Option Answer). orElse (refusedInside 16 o) (orElse (refusedInside 17 (refusal b places work)) (limitReport a b room))) e
+
+  module _ (first : refusal a places work ≡ none) where
+    -- 17: the second is
+    pub join-17 : {x : Answer} → refusal b places work ≡ some x → joinRefusal a b places work room ≡ some (inside 17 x)
+    unfolding joinRefusal
+    join-17 e = ap₂ (λ (o p : Option Answer). orElse (refusedInside 16 o) (orElse (refusedInside 17 p) (limitReport a b room))) first e
+
+    module _ (second : refusal b places work ≡ none) where
+      limits : joinRefusal a b places work room ≡ limitReport a b room
+      unfolding joinRefusal
+      limits = ap₂ (λ (o p : Option Answer). orElse (refusedInside 16 o) (orElse (refusedInside 17 p) (limitReport a b room))) first second
+
+      abbrev spoken : Bool → Bool → Bool → Option Answer
+      spoken x y z = naming 0 (firstDue (18 when x ∷ 19 when y ∷ 20 when z ∷ []))
+
+      -- 18: too many types together
+      pub join-18 : typeLimit < count (tableOf a) + count (tableOf b) → joinRefusal a b places work room ≡ some (report 18 0)
+      unfolding limitReport
+      join-18 h =
+          limits ∙ ap (λ (x : Bool). spoken x (ltb byteLimit (length (joinedBytes a b))) (ltb room (length (joinedBytes a b)))) (lt-ltb _ _ h)
+
+      module _ (few : count (tableOf a) + count (tableOf b) ≤ typeLimit) where
+        few-test : ltb typeLimit (count (tableOf a) + count (tableOf b)) ≡ false
+        few-test = le-ltb _ _ few
+
+        -- 19: too long
+        pub join-19 : byteLimit < length (joinedBytes a b) → joinRefusal a b places work room ≡ some (report 19 0)
+        unfolding limitReport
+        join-19 h = limits ∙ ap₂ (λ (x y : Bool). spoken x y (ltb room (length (joinedBytes a b)))) few-test (lt-ltb _ _ h)
+
+        -- 20: too little room
+        pub join-20 : length (joinedBytes a b) ≤ byteLimit → room < length (joinedBytes a b) → joinRefusal a b places work room ≡ some (report 20 0)
+        unfolding limitReport
+        join-20 short h =
+            limits
+            ∙ ap₂ (λ (x y : Bool). spoken x y (ltb room (length (joinedBytes a b)))) few-test (le-ltb _ _ short)
+            ∙ ap (λ (z : Bool). spoken false false z) (lt-ltb _ _ h)
