@@ -3,27 +3,36 @@
 use Prim.Native.Nat.{ℕ}
 use mathlib.Core.Path.{_≡_, refl}
 use mathlib.Core.List.{List}
-use mathlib.Core.Logic.{_⊎_, inl, inr}
 use borrow.Author.Tests.{ne-eqb}
+use Rattle.paper.specs.Answer.{Answer}
+use Rattle.paper.specs.Gate.{gate}
 use Rattle.paper.specs.Name.{nameAt}
 use Rattle.paper.specs.Size.{sizeOf}
 use Rattle.paper.specs.Word.{lowFirst, words}
-use Rattle.replay.specs.Case.{named, seenWith}
+use Rattle.replay.specs.Case.{checkSeen, named, seenWith}
 use Rattle.replay.specs.Run.{lentPlaces, lentBytes, runOf}
 use Rattle.replay.specs.declared.cases.Head.{Head}
 use Rattle.replay.specs.declared.cases.Seen.{Seen}
 use Rattle.replay.specs.declared.ops.Ran.the-variants.{Saw, Waits, Unknown}
 
-module _ (h : Head) (a b : List ℕ) (index work output : ℕ) where
-  pub run-waits : (h .op ≡ 1) ⊎ (h .op ≡ 4) → Waits ≡ runOf h a b index work output
-  unfolding runOf
-  run-waits (inl e) = rw e refl
-  run-waits (inr e) = rw e refl
+-- what is seen with the gate's answer and the gate's slices is what is seen of a check
+pub check-seen : (a output : List ℕ) (places workPlaces : ℕ) {seen : Seen} {r : Answer} {i w : List ℕ} → seen ≡ seenWith r i w output → r ≡ gate a places workPlaces .answer → i ≡ gate a places workPlaces .index → w ≡ gate a places workPlaces .work → seen ≡ checkSeen a places workPlaces output
+check-seen a output places workPlaces e er ei ew = rw (e, er, ei, ew) refl
 
-  pub run-unknown : ((h .op ≡ 1) ⊎ (h .op ≡ 4) → ⊥) → (h .op ≡ 2 → ⊥) → (h .op ≡ 3 → ⊥) → Unknown ≡ runOf h a b index work output
+module _ (h : Head) (a b : List ℕ) (index work output : ℕ) where
+  pub run-waits : h .op ≡ 4 → Waits ≡ runOf h a b index work output
   unfolding runOf
-  run-unknown waits two three =
-      rw (ne-eqb _ _ two, ne-eqb _ _ three, ne-eqb _ _ (λ e. waits (inl e)), ne-eqb _ _ (λ e. waits (inr e))) refl
+  run-waits e = rw e refl
+
+  pub run-unknown : (h .op ≡ 1 → ⊥) → (h .op ≡ 2 → ⊥) → (h .op ≡ 3 → ⊥) → (h .op ≡ 4 → ⊥) → Unknown ≡ runOf h a b index work output
+  unfolding runOf
+  run-unknown one two three four =
+      rw (ne-eqb _ _ one, ne-eqb _ _ two, ne-eqb _ _ three, ne-eqb _ _ four) refl
+
+  -- as many places of both slices are lent as were filled
+  pub run-check : {seen : Seen} {places workPlaces : ℕ} {o : List ℕ} → h .op ≡ 1 → seen ≡ checkSeen a places workPlaces o → places ≡ index → workPlaces ≡ work → o ≡ lentBytes output → Saw seen ≡ runOf h a b index work output
+  unfolding runOf
+  run-check op e ei ew eo = rw (op, e, ei, ew, eo) refl
 
   -- the slices are filled, and the index is the words of b
   pub run-size : {seen : Seen} {given i w o : List ℕ} → h .op ≡ 2 → seen ≡ seenWith (sizeOf a given (h .x)) i w o → given ≡ words lowFirst b → i ≡ lentPlaces index → w ≡ lentPlaces work → o ≡ lentBytes output → Saw seen ≡ runOf h a b index work output

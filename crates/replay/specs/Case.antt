@@ -5,6 +5,7 @@ use mathlib.Core.List.{List}
 use lib.Dec.{eqb}
 use lib.ListN.{length}
 use Rattle.paper.specs.Answer as paper
+use Rattle.paper.specs.Gate.{gate}
 use Rattle.paper.specs.Name.{nameless, nameAt}
 use Rattle.paper.specs.Word.{lowFirst, wordAt, bytesOfWords}
 use Rattle.replay.specs.Sum.{sumOf}
@@ -80,3 +81,8 @@ seenWith r index work output =
       work = sumOf (bytesOfWords lowFirst work);
       output = sumOf output;
     }
+
+-- op 1: what is seen of a check with so many places lent, its answer and both u32 slices as the gate leaves them
+abbrev pub checkSeen : List ℕ → ℕ → ℕ → List ℕ → Seen
+checkSeen a places workPlaces output =
+    seenWith (gate a places workPlaces .answer) (gate a places workPlaces .index) (gate a places workPlaces .work) output

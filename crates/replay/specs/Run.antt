@@ -1,13 +1,13 @@
 -- What running a case gives, and what becomes of it: the table of ops.
 use Prim.Native.Nat.{ℕ}
-use mathlib.Core.Bool.{cond, _||_}
+use mathlib.Core.Bool.{cond}
 use mathlib.Core.List.{List}
 use lib.Dec.{eqb}
 use lib.ListN.{replicate}
 use Rattle.paper.specs.Name.{nameAt}
 use Rattle.paper.specs.Size.{sizeOf}
 use Rattle.paper.specs.Word.{lowFirst, words}
-use Rattle.replay.specs.Case.{named, sameSeen, seenWith}
+use Rattle.replay.specs.Case.{checkSeen, named, sameSeen, seenWith}
 use Rattle.replay.specs.declared.cases.Head.{Head}
 use Rattle.replay.specs.declared.cases.Seen.{Seen}
 use Rattle.replay.specs.declared.ops.Ran.{Ran}
@@ -30,12 +30,13 @@ sizeSeen h a b index work output = seenWith (sizeOf a (words lowFirst b) (h .x))
 abbrev pub nameSeen : Head → List ℕ → ℕ → ℕ → Seen
 nameSeen h a index work = seenWith (named a (h .x)) (lentPlaces index) (lentPlaces work) (nameAt a (h .x))
 
--- by op; check and join wait
+-- by op; the join waits
 unfoldable pub runOf : Head → List ℕ → List ℕ → ℕ → ℕ → ℕ → Ran
 runOf h a b index work output =
-    cond (eqb (h .op) 2) (Saw (sizeSeen h a b index work output))
+    cond (eqb (h .op) 1) (Saw (checkSeen a index work (lentBytes output)))
+    (cond (eqb (h .op) 2) (Saw (sizeSeen h a b index work output))
     (cond (eqb (h .op) 3) (Saw (nameSeen h a index work))
-    (cond (eqb (h .op) 1 || eqb (h .op) 4) Waits Unknown))
+    (cond (eqb (h .op) 4) Waits Unknown)))
 
 -- what was seen agrees where it is what must be; an op that there is not differs
 abbrev pub outcomeOf : Seen → Ran → outcome.Outcome

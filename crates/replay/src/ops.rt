@@ -2,16 +2,18 @@
 use crate::cases::Head;
 use crate::cases::Seen;
 use crate::sums;
+use paper::Checked;
 use paper::NameOff;
+use paper::Report;
 use paper::Sized;
 use paper::TypeNo;
 ghost use mathlib.Core.Path.{_≡_};
 ghost use Prim.Native.Nat.{_/_, _<_};
 ghost use lib.ListN.{length};
-ghost use Rattle.paper.specs.Answer.{sizedAsPaper};
+ghost use Rattle.paper.specs.Answer.{checkedAsPaper, report, reportAsPaper, sizedAsPaper};
 ghost use Rattle.paper.specs.Name.{nameAt};
 ghost use Rattle.paper.specs.Size.{sizeOf};
-ghost use Rattle.replay.specs.Case.{asPaper, named, plainly, seenWith};
+ghost use Rattle.replay.specs.Case.{asPaper, checkSeen, named, plainly, seenWith};
 ghost use Rattle.replay.specs.Run.{runOf};
 
 // What a call answers, in the paper's numbers.
@@ -56,6 +58,57 @@ fn plain(number: u32, p: u32) -> Answer
     }
 }
 
+// An answer with no report inside and no value: a number, and the count or the type that it names.
+fn told(number: u32, t: u32) -> Answer
+    ensures { λ r. ⌜ asPaper r ≡ report number t ⌝ }
+{
+    Answer {
+        number,
+        inner: 0,
+        t,
+        p: 0,
+    }
+}
+
+fn reported(r: Report) -> Answer
+    ensures { λ s. ⌜ asPaper s ≡ reportAsPaper r ⌝ }
+{
+    match r {
+        Report::Length => told(1, 0),
+        Report::Opening => told(2, 0),
+        Report::HeaderLength => told(3, 0),
+        Report::Sections => told(4, 0),
+        Report::Strings => told(5, 0),
+        Report::RecordCut(t) => told(6, t.0),
+        Report::UnknownKind(t) => told(7, t.0),
+        Report::ManyTypes => told(8, 4097),
+        Report::SlicesShort => told(9, 0),
+        Report::Head(t) => told(10, t.0),
+        Report::Named(t) => told(11, t.0),
+        Report::Tail(t) => told(12, t.0),
+        Report::Reference(t) => told(13, t.0),
+        Report::Endless(t) => told(14, t.0),
+        Report::Layout(t) => told(15, t.0),
+    }
+}
+
+fn checked(c: Checked) -> Answer
+    ensures { λ s. ⌜ asPaper s ≡ checkedAsPaper c ⌝ }
+{
+    match c {
+        Checked::Accepted(n) => told(0, n),
+        Checked::Refused(r) => reported(r),
+    }
+}
+
+// Op 1: the check of a, with the index and the work slice as it leaves them.
+fn check(a: &[u8], index: &mut [u32], work: &mut [u32], output: &[u8]) -> Seen
+    ensures { λ s. ⌜ s ≡ checkSeen (now (a .entry)) (length (now (index .entry))) (length (now (work .entry))) (now (output .entry)) ⌝ }
+{
+    let answer = checked(gate::check(a, index, work));
+    seen(answer, index, work, output)
+}
+
 fn sized(s: Sized) -> Answer
     ensures { λ r. ⌜ asPaper r ≡ sizedAsPaper s ⌝ }
 {
@@ -88,7 +141,7 @@ fn name(x: u32, a: &[u8], index: &[u32], work: &[u32]) -> Seen
     seen(plain(0, p), index, work, part)
 }
 
-// A case by its op. Check and join wait for their entry points.
+// A case by its op. The join waits for its entry point.
 pub(crate) fn run(
     h: Head,
     a: &[u8],
@@ -106,12 +159,13 @@ pub(crate) fn run(
     sums::fill_bytes(output);
     let op = h.op;
     match op {
-        1 | 4 => Ran::Waits,
+        1 => Ran::Saw(check(a, index, work, output)),
         2 => {
             sums::places(b, given);
             Ran::Saw(size(h.x, a, given, index, work, output))
         }
         3 => Ran::Saw(name(h.x, a, index, work)),
+        4 => Ran::Waits,
         _ => Ran::Unknown,
     }
 }

@@ -1,6 +1,6 @@
 -- `replay::ops::run` meets its contract: each op's answer, with the sums of the slices as they were filled.
 -- Assumes nothing.
-use Rattle.replay.proofs.Runs.{run-waits, run-unknown, run-size, run-name}
+use Rattle.replay.proofs.Runs.{run-check, run-waits, run-unknown, run-size, run-name}
 use borrow.Author.Needs.{needs}
 use Rattle.replay.proofs.ops.run.Statement.{statement}
 use Rattle.replay.proofs.ops.run.Tie as tie
@@ -13,6 +13,9 @@ fill-places-requires-2 c κs = search needs
 
 fill-bytes-requires : tie.Need-fill-bytes-requires
 fill-bytes-requires c κs = search needs
+
+check-requires : tie.Need-check-requires
+check-requires c κs = search needs
 
 places-requires : tie.Need-places-requires
 places-requires c κs = search needs
@@ -33,7 +36,11 @@ same-length-3 : tie.Need-same-length-3
 same-length-3 c = search needs
 
 returns : tie.Need-returns
-returns c = run-waits _ _ _ _ _ _ (c .match .keys1)
+returns c =
+    let called = c .before .before .before .before in
+    let m = called .before .before .before .before in
+    run-check _ _ _ _ _ _ (m .match .keys1) (called .check .ensures)
+    (m .before .before .before .before .before .before .before .before .before .before .before .fill-places .kept .0) (m .before .before .before .before .before .before .before .fill-places2 .kept .0) (m .before .before .before .fill-bytes .ensures)
 
 same-length-4 : tie.Need-same-length-4
 same-length-4 c = search needs
@@ -77,7 +84,19 @@ same-length-13 : tie.Need-same-length-13
 same-length-13 c = search needs
 
 returns-4 : tie.Need-returns-4
-returns-4 c = let r = c .match .rest in run-unknown _ _ _ _ _ _ (r .0 .0 .1) (r .0 .1) (r .1)
+returns-4 c = run-waits _ _ _ _ _ _ (c .match .keys4)
+
+same-length-14 : tie.Need-same-length-14
+same-length-14 c = search needs
+
+same-length-15 : tie.Need-same-length-15
+same-length-15 c = search needs
+
+same-length-16 : tie.Need-same-length-16
+same-length-16 c = search needs
+
+returns-5 : tie.Need-returns-5
+returns-5 c = let r = c .match .rest in run-unknown _ _ _ _ _ _ (r .0 .0 .0 .1) (r .0 .0 .1) (r .0 .1) (r .1)
 
 pub run-spec : {M : Type 1} → statement M
 run-spec =
@@ -86,6 +105,7 @@ run-spec =
     fill-places-requires
     fill-places-requires-2
     fill-bytes-requires
+    check-requires
     places-requires
     size-requires
     name-requires
@@ -105,4 +125,8 @@ run-spec =
     same-length-11
     same-length-12
     same-length-13
-    returns-4)
+    returns-4
+    same-length-14
+    same-length-15
+    same-length-16
+    returns-5)
