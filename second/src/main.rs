@@ -6,7 +6,8 @@
 //!     second check FILE
 //!
 //! With `--edges` the first three put the fixed cases of every rule's edges in
-//! front; without a count, those are all.
+//! front; without a count, those are all. With `--thin` they cross fewer of the
+//! edges with each other.
 
 use second::generate::{cases, Scale, Wanted};
 use second::report::meaning;
@@ -20,7 +21,8 @@ second vectors --seed S --cases N [--ops 1,2,3,4] [--small] [--only R]
 second antt    --seed S --cases N [--ops 1,2,3,4] [--only R]
 second census  --seed S --cases N [--ops 1,2,3,4] [--small]
 second check FILE
-(--edges: the fixed cases of every rule's edges in front, and nothing else without --cases)";
+(--edges: the fixed cases of every rule's edges in front, and nothing else without --cases;
+--thin: fewer of them crossed with each other)";
 
 fn main() -> ExitCode {
     let arguments: Vec<String> = std::env::args().skip(1).collect();
@@ -61,6 +63,7 @@ fn wanted(arguments: &[String]) -> Result<Wanted, String> {
         scale: Scale::Full,
         only: None,
         edges: false,
+        thin: false,
     };
     let mut count = None;
     let mut rest = arguments.iter();
@@ -72,6 +75,10 @@ fn wanted(arguments: &[String]) -> Result<Wanted, String> {
             }
             "--edges" => {
                 wanted.edges = true;
+                continue;
+            }
+            "--thin" => {
+                wanted.thin = true;
                 continue;
             }
             _ => {}

@@ -11,7 +11,7 @@ pub const NAME: u32 = 3;
 pub const JOIN: u32 = 4;
 
 /// What is lent or passed in one call.
-#[derive(Clone, PartialEq, Eq, Debug, Default)]
+#[derive(Clone, PartialEq, Eq, Hash, Debug, Default)]
 pub struct Case {
     pub op: u32,
     pub index_places: u32,

@@ -20,6 +20,7 @@ fn wanted(seed: u64, cases: usize) -> Wanted {
         scale: Scale::Full,
         only: None,
         edges: false,
+        thin: false,
     }
 }
 
@@ -147,6 +148,26 @@ fn edges_start_from_accepted_tables() {
     assert!(all.iter().all(|case| case.a.len() < 2_000));
     let joins = all.iter().filter(|case| case.op == JOIN);
     assert!(joins.filter(|case| run(case).number == 0).count() > 361);
+}
+
+#[test]
+fn thinned_edges_are_edges_and_have_every_report_but_8() {
+    let mut edges = Wanted {
+        edges: true,
+        ops: vec![CHECK],
+        ..wanted(0, 0)
+    };
+    let all = cases(&edges);
+    edges.thin = true;
+    let few = cases(&edges);
+    assert!(few.len() < all.len());
+    assert!(few.iter().all(|case| all.contains(case)));
+    for number in (0..=15).filter(|number| *number != 8) {
+        assert!(
+            few.iter().any(|case| run(case).number == number),
+            "{number}"
+        );
+    }
 }
 
 #[test]

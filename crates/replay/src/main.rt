@@ -1,5 +1,5 @@
 // Runs the cases of a vector file on standard input: a line for each that differs, and a last line that counts.
-// The committed input is made by `second vectors --edges --seed 1 --cases 4000 --ops 2,3 --small`.
+// The committed input is made by `second vectors --edges --thin --seed 1 --cases 500 --ops 1,2,3 --small`.
 mod cases; // what a case lends and passes, and what must be seen
 mod lines; // what is written
 mod ops; // a function for each op

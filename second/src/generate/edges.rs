@@ -6,9 +6,11 @@ use crate::make::{blob_of, info, int_word, put_word, Make};
 use crate::reference::references;
 use crate::table::{Kind, ALL_KINDS};
 use crate::vectors::{Case, CHECK};
+use std::collections::HashSet;
 
-/// All of them, in a fixed order.
-pub fn cases() -> Vec<Case> {
+/// All of them, in a fixed order, each once. Thinned, every rule keeps its
+/// edges, and fewer of them are crossed with each other.
+pub fn cases(thin: bool) -> Vec<Case> {
     let mut found = Vec::new();
     headers(&mut found);
     for kind in ALL_KINDS {
@@ -17,13 +19,15 @@ pub fn cases() -> Vec<Case> {
         edges_names::names(&mut found, kind);
         turned_references(&mut found, kind);
     }
-    edges_names::name_bytes(&mut found);
+    edges_names::name_bytes(&mut found, thin);
     edges_names::name_lengths(&mut found);
     int_tails(&mut found);
     linkages_and_parameters(&mut found);
     edges_walks::cases(&mut found);
-    edges_layout::cases(&mut found);
+    edges_layout::cases(&mut found, thin);
     edges_questions::cases(&mut found);
+    let mut met = HashSet::new();
+    found.retain(|case| met.insert(case.clone()));
     found
 }
 

@@ -5,11 +5,15 @@ use crate::make::{field, Make};
 use crate::table::Kind;
 use crate::vectors::Case;
 
-pub fn cases(found: &mut Vec<Case>) {
+/// Thinned, each base is tried bare and behind one of the five layers, and
+/// bare with fewer sizes around it.
+pub fn cases(found: &mut Vec<Case>, thin: bool) {
     for base in 0..BASES {
         for layers in 0..=5 {
-            members_with_flag_0(found, base, layers);
-            members_with_flag_1(found, base, layers);
+            if !thin || layers == 0 || layers == 1 + base % 5 {
+                members_with_flag_0(found, base, layers, thin);
+                members_with_flag_1(found, base, layers, thin);
+            }
         }
         elements_and_vars(found, base);
     }
@@ -17,7 +21,7 @@ pub fn cases(found: &mut Vec<Case>) {
     indexes(found);
     components(found);
     sections(found);
-    section_variables(found);
+    section_variables(found, thin);
 }
 
 const BASES: u32 = 17;
@@ -78,9 +82,19 @@ fn some(all: &[u32], layers: u32) -> &[u32] {
     }
 }
 
-fn members_with_flag_0(found: &mut Vec<Case>, which: u32, layers: u32) {
+/// The first of them, thinned.
+fn first(all: &[u32], count: usize, thin: bool) -> &[u32] {
+    if thin {
+        &all[..count]
+    } else {
+        all
+    }
+}
+
+fn members_with_flag_0(found: &mut Vec<Case>, which: u32, layers: u32, thin: bool) {
+    let sizes = first(&[1, 0, 2, 3, 8, 9], 4, thin);
     for offset in some(&[0, 1, 2, 4, 7, 8], layers) {
-        for bytes in some(&[1, 0, 2, 3, 8, 9], layers) {
+        for bytes in some(sizes, layers) {
             for kind in [Kind::Struct, Kind::Union] {
                 let mut m = Make::new();
                 let of = base(&mut m, which);
@@ -92,10 +106,11 @@ fn members_with_flag_0(found: &mut Vec<Case>, which: u32, layers: u32) {
     }
 }
 
-fn members_with_flag_1(found: &mut Vec<Case>, which: u32, layers: u32) {
+fn members_with_flag_1(found: &mut Vec<Case>, which: u32, layers: u32, thin: bool) {
+    let sizes = first(&[1, 2, 0, 8, 9], 3, thin);
     for width in [0, 1, 7, 8, 9, 16, 17] {
         for offset in some(&[0, 1, 8], layers) {
-            for bytes in some(&[1, 2, 0, 8, 9], layers) {
+            for bytes in some(sizes, layers) {
                 let mut m = Make::new();
                 let of = base(&mut m, which);
                 let of = layered(&mut m, of, layers);
@@ -207,8 +222,8 @@ fn sections(found: &mut Vec<Case>) {
 }
 
 /// Variables of every nature, before and behind their section; 0-byte ones
-/// too, whose entries may be empty.
-fn section_variables(found: &mut Vec<Case>) {
+/// too, whose entries may be empty. Thinned, behind in sections of one size.
+fn section_variables(found: &mut Vec<Case>, thin: bool) {
     for which in 0..BASES {
         for entry in [0, 1, 2, 8, u32::MAX] {
             for bytes in [0, 1, 2, u32::MAX] {
@@ -218,6 +233,9 @@ fn section_variables(found: &mut Vec<Case>) {
                 m.section(1, bytes, &[[var, 0, entry], [var, entry, 0]]);
                 m.section(1, bytes, &[[var, 0, entry]]);
                 add(found, &m);
+                if thin && bytes != 1 {
+                    continue;
+                }
                 m.records.swap(var as usize - 1, var as usize);
                 for number in [var, var + 2] {
                     m.at(number)

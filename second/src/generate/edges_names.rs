@@ -20,10 +20,15 @@ pub fn names(found: &mut Vec<Case>, kind: Kind) {
     }
 }
 
-/// Every byte as the only, the first and a later byte of a name.
-pub fn name_bytes(found: &mut Vec<Case>) {
+/// Every byte as the only, the first and a later byte of a name. Thinned,
+/// every 17th where the rule does not look at bytes.
+pub fn name_bytes(found: &mut Vec<Case>, thin: bool) {
     for kind in [Kind::Fwd, Kind::Datasec, Kind::TypeTag, Kind::Int] {
-        for byte in 1..=255 {
+        let step = match kind {
+            Kind::TypeTag | Kind::Int if thin => 17,
+            _ => 1,
+        };
+        for byte in (1..=255).step_by(step) {
             for text in [vec![byte], vec![byte, b'a'], vec![b'a', byte]] {
                 let mut m = Make::new();
                 let name = m.string(text);

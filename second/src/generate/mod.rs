@@ -46,6 +46,8 @@ pub struct Wanted {
     pub only: Option<u32>,
     /// The fixed cases of every rule's edges, in front of a seed's.
     pub edges: bool,
+    /// Fewer of the edges crossed with each other, for a short file.
+    pub thin: bool,
 }
 
 /// Tries for each case before a choice nothing can fulfil is given up.
@@ -55,7 +57,7 @@ pub fn cases(wanted: &Wanted) -> Vec<Case> {
     let mut found = Vec::new();
     if wanted.edges {
         // at every scale: an edge left out is a rule that is not tried
-        found.extend(edges::cases());
+        found.extend(edges::cases(wanted.thin));
         found.retain(|case| asked_for(case, wanted));
     }
     let all = found.len() + wanted.cases;
