@@ -7,7 +7,7 @@
 //!
 //! With `--edges` the first three put the fixed cases of every rule's edges in
 //! front; without a count, those are all. With `--thin` they cross fewer of the
-//! edges with each other.
+//! edges with each other. `--large` puts the fixed large tables before them.
 
 use second::generate::{cases, Scale, Wanted};
 use second::report::meaning;
@@ -22,7 +22,7 @@ second antt    --seed S --cases N [--ops 1,2,3,4] [--only R]
 second census  --seed S --cases N [--ops 1,2,3,4] [--small]
 second check FILE
 (--edges: the fixed cases of every rule's edges in front, and nothing else without --cases;
---thin: fewer of them crossed with each other)";
+--thin: fewer of them crossed with each other; --large: the fixed large tables before them)";
 
 fn main() -> ExitCode {
     let arguments: Vec<String> = std::env::args().skip(1).collect();
@@ -64,6 +64,7 @@ fn wanted(arguments: &[String]) -> Result<Wanted, String> {
         only: None,
         edges: false,
         thin: false,
+        large: false,
     };
     let mut count = None;
     let mut rest = arguments.iter();
@@ -81,6 +82,10 @@ fn wanted(arguments: &[String]) -> Result<Wanted, String> {
                 wanted.thin = true;
                 continue;
             }
+            "--large" => {
+                wanted.large = true;
+                continue;
+            }
             _ => {}
         }
         let value = rest.next().ok_or(USAGE)?;
@@ -94,7 +99,7 @@ fn wanted(arguments: &[String]) -> Result<Wanted, String> {
             _ => return Err(USAGE.to_string()),
         }
     }
-    wanted.cases = count.unwrap_or(if wanted.edges { 0 } else { 100 });
+    wanted.cases = count.unwrap_or(if wanted.edges || wanted.large { 0 } else { 100 });
     if wanted.ops.is_empty() || !wanted.ops.iter().all(|op| (CHECK..=JOIN).contains(op)) {
         return Err("ops are 1, 2, 3 and 4".to_string());
     }

@@ -21,6 +21,7 @@ fn wanted(seed: u64, cases: usize) -> Wanted {
         only: None,
         edges: false,
         thin: false,
+        large: false,
     }
 }
 

@@ -15,6 +15,7 @@ pub mod grow;
 pub mod grow_members;
 pub mod join_cases;
 pub mod large;
+pub mod large_fixed;
 pub mod name_cases;
 pub mod pieces;
 pub mod random;
@@ -48,6 +49,8 @@ pub struct Wanted {
     pub edges: bool,
     /// Fewer of the edges crossed with each other, for a short file.
     pub thin: bool,
+    /// The fixed tables at the limits, in front of everything.
+    pub large: bool,
 }
 
 /// Tries for each case before a choice nothing can fulfil is given up.
@@ -55,11 +58,14 @@ const MOST_TRIES: usize = 20_000;
 
 pub fn cases(wanted: &Wanted) -> Vec<Case> {
     let mut found = Vec::new();
+    if wanted.large {
+        found.extend(large_fixed::cases());
+    }
     if wanted.edges {
         // at every scale: an edge left out is a rule that is not tried
         found.extend(edges::cases(wanted.thin));
-        found.retain(|case| asked_for(case, wanted));
     }
+    found.retain(|case| asked_for(case, wanted));
     let all = found.len() + wanted.cases;
     let mut r = Random::new(wanted.seed);
     let mut tries = 0;

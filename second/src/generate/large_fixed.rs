@@ -1,0 +1,196 @@
+//! Tables at the limits of types and bytes, and long ones of every shape,
+//! without chance; and the paper's benches that no proof computes.
+
+use crate::check::check;
+use crate::generate::large::{padded, pointers};
+use crate::make::{info, Make};
+use crate::table::Kind;
+use crate::vectors::{bytes_of, Case, CHECK, NAME, SIZE};
+
+/// The most places that a table can need.
+const PLACES: u32 = 4_097;
+
+/// All of them: each table is checked, the sizes of its first and last types
+/// are asked where it is accepted, and its names at both ends.
+pub fn cases() -> Vec<Case> {
+    let tables = [
+        pointers(4_096).blob(),
+        pointers(4_097).blob(),
+        of_bytes(65_536),
+        of_bytes(65_537),
+        full(),
+        chain_up(4_000).blob(),
+        chain_down(4_000).blob(),
+        nest(1_400).blob(),
+        ring_behind(4_000).blob(),
+        ring_in_nest(1_400).blob(),
+        entries(5_000, 20_000).blob(),
+        entries(5_000, 19_999).blob(),
+        parameters(8_000, 8_000, 7_999).blob(),
+        parameters(8_000, 7_999, 7_999).blob(),
+        parameters(8_000, 1, 7_999).blob(),
+        parameters(8_000, 8_000, 8_000).blob(),
+        held_by_constant().blob(),
+        arrays_of_arrays().blob(),
+        products().blob(),
+    ];
+    tables.iter().flat_map(|blob| asked(blob)).collect()
+}
+
+/// The questions that a table is asked.
+fn asked(blob: &[u8]) -> Vec<Case> {
+    let mut found = vec![Case {
+        op: CHECK,
+        index_places: PLACES,
+        work_places: PLACES,
+        a: blob.to_vec(),
+        ..Case::default()
+    }];
+    let mut index = vec![0; PLACES as usize];
+    let mut work = index.clone();
+    if let Ok(count) = check(blob, &mut index, &mut work) {
+        let b = bytes_of(&index[..=count as usize]);
+        let mut types: Vec<u32> = (1..=count.min(5)).chain([count]).collect();
+        types.dedup();
+        found.extend(types.into_iter().map(|x| Case {
+            op: SIZE,
+            x,
+            a: blob.to_vec(),
+            b: b.clone(),
+            ..Case::default()
+        }));
+    }
+    let strings = crate::table::word(blob, 20);
+    found.extend([1, strings - 1, strings].map(|x| Case {
+        op: NAME,
+        x,
+        a: blob.to_vec(),
+        ..Case::default()
+    }));
+    found
+}
+
+/// One INT, and strings up to so many bytes.
+pub fn of_bytes(bytes: usize) -> Vec<u8> {
+    let mut m = Make::new();
+    m.int(4);
+    padded(&m, bytes)
+}
+
+/// 65,536 bytes, nearly all of them types: 4,094 INTs.
+pub fn full() -> Vec<u8> {
+    let mut m = Make::new();
+    for _ in 0..4_094 {
+        m.int(4);
+    }
+    padded(&m, 65_536)
+}
+
+/// So many typedefs, each of the next; the last is of an INT.
+pub fn chain_up(count: u32) -> Make {
+    let mut m = Make::new();
+    let name = m.string("t");
+    for number in 1..=count {
+        m.typedef(name, number + 1);
+    }
+    m.int(4);
+    m
+}
+
+/// An INT, and so many typedefs, each of the one before.
+pub fn chain_down(count: u32) -> Make {
+    let mut m = Make::new();
+    let name = m.string("t");
+    m.int(4);
+    for number in 1..=count {
+        m.typedef(name, number);
+    }
+    m
+}
+
+/// So many structs, each with the next as both of its members, so that there
+/// are two ways into each; the last holds INTs.
+pub fn nest(count: u32) -> Make {
+    let mut m = Make::new();
+    let name = m.string("m");
+    for number in 1..=count {
+        let next = number + 1;
+        m.structure(4, false, &[[name, next, 0], [name, next, 0]]);
+    }
+    m.int(4);
+    m
+}
+
+/// A pointer, then so many CONSTs, each of the next, then one of itself.
+pub fn ring_behind(count: u32) -> Make {
+    let mut m = Make::new();
+    m.ptr(2);
+    for number in 2..count + 2 {
+        m.constant(number + 1);
+    }
+    m.constant(count + 2);
+    m
+}
+
+/// The nest with its second struct again in the place of the INT.
+pub fn ring_in_nest(count: u32) -> Make {
+    let mut m = nest(count);
+    let last = m.count();
+    *m.at(last) = m.records[1].clone();
+    m
+}
+
+/// A section of so many bytes, of which each entry takes four.
+pub fn entries(count: u32, bytes: u32) -> Make {
+    let mut m = Make::new();
+    let name = m.string("v");
+    let of = m.int(4);
+    let var = m.var(name, of);
+    let entries: Vec<[u32; 3]> = (0..count).map(|k| [var, 4 * k, 4]).collect();
+    m.section(name, bytes, &entries);
+    m
+}
+
+/// A function of so many parameters, all named but those from `named` on, and
+/// a tag on one of them.
+pub fn parameters(count: u32, named: u32, component: u32) -> Make {
+    let mut m = Make::new();
+    let name = m.string("p");
+    let of = m.int(4);
+    let parameters: Vec<[u32; 2]> = (0..count)
+        .map(|k| if k < named { [name, of] } else { [0, of] })
+        .collect();
+    let prototype = m.proto(0, &parameters);
+    let function = m.func(name, prototype);
+    m.tag(name, function, component);
+    m
+}
+
+/// The paper's bench: CONST 1 to struct 2 that holds itself.
+pub fn held_by_constant() -> Make {
+    let mut m = Make::new();
+    let name = m.string("s");
+    m.constant(2);
+    m.raw(0, info(Kind::Struct, false, 1), 8, &[name, 2, 0]);
+    m
+}
+
+/// The page's `int a[5][6]`.
+pub fn arrays_of_arrays() -> Make {
+    let mut m = Make::new();
+    m.int(4);
+    m.array(1, 1, 6);
+    m.array(2, 1, 5);
+    m
+}
+
+/// 65,535 of 65,537 one-byte elements, and 65,536 of 65,536.
+pub fn products() -> Make {
+    let mut m = Make::new();
+    m.int(1);
+    m.array(1, 1, 65_537);
+    m.array(2, 1, 65_535);
+    m.array(1, 1, 65_536);
+    m.array(4, 1, 65_536);
+    m
+}

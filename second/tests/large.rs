@@ -1,0 +1,102 @@
+//! What the paper says of the fixed large tables.
+
+mod common;
+
+use common::*;
+use second::generate::large::pointers;
+use second::generate::large_fixed::*;
+use second::vectors::{run, CHECK, SIZE};
+use second::SizeAnswer;
+
+#[test]
+fn type_limit() {
+    assert_eq!(judged(&pointers(4_096)), Ok(4_096));
+    assert_eq!(judged(&pointers(4_097)), refused(8, 4_097));
+}
+
+#[test]
+fn byte_limit() {
+    assert_eq!(of_bytes(65_536).len(), 65_536);
+    assert_eq!(gate(&of_bytes(65_536)), Ok(1));
+    assert_eq!(gate(&of_bytes(65_537)), refused(1, 0));
+    assert_eq!(full().len(), 65_536);
+    assert_eq!(gate(&full()), Ok(4_094));
+}
+
+#[test]
+fn chains_of_typedefs() {
+    assert_eq!(judged(&chain_up(4_000)), Ok(4_001));
+    assert_eq!(size_in(&chain_up(4_000), 1), SizeAnswer::Exact(4));
+    assert_eq!(judged(&chain_down(4_000)), Ok(4_001));
+    assert_eq!(size_in(&chain_down(4_000), 4_001), SizeAnswer::Exact(4));
+}
+
+/// Members at bit 0 twice don't fall, and each span ends by the struct's size.
+#[test]
+fn nest_of_structs() {
+    assert_eq!(judged(&nest(1_400)), Ok(1_401));
+    assert_eq!(size_in(&nest(1_400), 1), SizeAnswer::Exact(4));
+}
+
+/// A pointer is no by-value reference, so type 1 does not lead to the ring;
+/// type 2 is the smallest that does.
+#[test]
+fn ring_behind_a_chain() {
+    assert_eq!(judged(&ring_behind(4_000)), refused(14, 2));
+    assert_eq!(ring_behind(4_000).count(), 4_002);
+}
+
+#[test]
+fn ring_in_a_nest() {
+    assert_eq!(judged(&ring_in_nest(1_400)), refused(14, 1));
+}
+
+/// The last entry ends at byte 20,000.
+#[test]
+fn section_of_many_entries() {
+    assert_eq!(judged(&entries(5_000, 20_000)), Ok(3));
+    assert_eq!(judged(&entries(5_000, 19_999)), refused(15, 3));
+    assert_eq!(judged(&entries(5_000, 0)), Ok(3));
+}
+
+/// A FUNC's prototype names every parameter, and a component is below their
+/// count. The function is type 3, its tag type 4.
+#[test]
+fn prototype_of_many_parameters() {
+    assert_eq!(judged(&parameters(8_000, 8_000, 7_999)), Ok(4));
+    assert_eq!(judged(&parameters(8_000, 7_999, 7_999)), refused(15, 3));
+    assert_eq!(judged(&parameters(8_000, 1, 7_999)), refused(15, 3));
+    assert_eq!(judged(&parameters(8_000, 8_000, 8_000)), refused(15, 4));
+}
+
+#[test]
+fn benches_that_no_proof_computes() {
+    assert_eq!(judged(&held_by_constant()), refused(14, 1));
+    assert_eq!(judged(&arrays_of_arrays()), Ok(3));
+    assert_eq!(size_in(&arrays_of_arrays(), 2), SizeAnswer::Exact(24));
+    assert_eq!(size_in(&arrays_of_arrays(), 3), SizeAnswer::Exact(120));
+    assert_eq!(judged(&products()), Ok(5));
+    assert_eq!(size_in(&products(), 3), SizeAnswer::Exact(4_294_967_295));
+    assert_eq!(size_in(&products(), 5), SizeAnswer::Overflow);
+}
+
+/// What a case may lend: 5,000 places and 70,000 bytes.
+#[test]
+fn cases_keep_the_limits_of_a_file() {
+    let all = cases();
+    assert!(all
+        .iter()
+        .all(|case| case.a.len() <= 70_000 && case.b.len() <= 70_000));
+    let answers = |op, number| {
+        all.iter()
+            .filter(|case| case.op == op && run(case).number == number)
+            .count()
+    };
+    assert_eq!(answers(CHECK, 0), 10);
+    assert_eq!(answers(CHECK, 1), 1);
+    assert_eq!(answers(CHECK, 8), 1);
+    assert_eq!(answers(CHECK, 14), 3);
+    assert_eq!(answers(CHECK, 15), 4);
+    // no size: a prototype, its function and its tag
+    assert_eq!(answers(SIZE, 1), 3);
+}
