@@ -6,7 +6,7 @@ mod held; // a record's by-value references
 mod layout; // phase 6: report 15 of one type
 mod members; // phase 6: structs and unions
 mod parts; // phase 6: arrays, functions and tags
-mod phases; // phases 3 and 4 over the types: reports 10 to 13
+mod phases; // phases 3, 4 and 6 over the types: reports 10 to 13 and 15
 mod refs; // the references of one record
 mod sections; // phase 6: sections
 mod spans; // phase 6: a member's span

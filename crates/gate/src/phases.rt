@@ -1,4 +1,4 @@
-// Phases 3 and 4 over the types in order, reports 10 to 13: the smallest number of the smallest type.
+// Phases 3, 4 and 6 over the types in order, reports 10 to 13 and 15: the smallest number of the smallest type.
 use crate::layout::layout_ok;
 use crate::refs::refs_ok;
 use crate::types::record_of;
