@@ -1,8 +1,8 @@
 -- Laws of `Standing`: where a type's record begins, and that the bytes from there on are that record.
 -- Assumes nothing.
 use Prim.Native.Nat.{ℕ, zero, suc, _+_, _≤_, _<_}
-use mathlib.Core.Path.{_≡_, refl, sym, ap, ap₂, _∙_}
-use mathlib.Core.Bool.{Bool, true, false, cond, _||_}
+use mathlib.Core.Path.{_≡_, refl, sym, ap, _∙_}
+use mathlib.Core.Bool.{Bool, true, false}
 use mathlib.Core.List.{List, []}
 use mathlib.Core.Option.{none}
 use native.Mathlib.Omega.{arith}
@@ -29,15 +29,15 @@ use Rattle.paper.specs.Word.{lowFirst, wordAt}
 module _ (index : List ℕ) (n end : ℕ) where
   pub placeIn-void : {t : ℕ} → t ≡ 0 → end ≡ placeIn index n t end
   unfolding placeIn
-  placeIn-void {t} e = sym (ap (λ (z : Bool). cond (z || ltb n t) end (getD index t 0)) (eq-eqb t 0 e))
+  placeIn-void {t} e = rw (eq-eqb t 0 e) refl
 
   pub placeIn-above : {t : ℕ} → (t ≡ 0 → ⊥) → n < t → end ≡ placeIn index n t end
   unfolding placeIn
-  placeIn-above {t} ne h = sym (ap₂ (λ (z a : Bool). cond (z || a) end (getD index t 0)) (ne-eqb t 0 ne) (lt-ltb n t h))
+  placeIn-above {t} ne h = rw (ne-eqb t 0 ne, lt-ltb n t h) refl
 
   pub placeIn-type : {t : ℕ} → (t ≡ 0 → ⊥) → t ≤ n → getD index t 0 ≡ placeIn index n t end
   unfolding placeIn
-  placeIn-type {t} ne h = sym (ap₂ (λ (z a : Bool). cond (z || a) end (getD index t 0)) (ne-eqb t 0 ne) (le-ltb n t h))
+  placeIn-type {t} ne h = rw (ne-eqb t 0 ne, le-ltb n t h) refl
 
 -- ── the record there ──
 
