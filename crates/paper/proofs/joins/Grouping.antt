@@ -72,14 +72,16 @@ module _ (A B C : Table) (a : Closed (A .strings)) (b : Closed (B .strings)) whe
 
 -- ── the length of a join ──
 
-flat-rename : (type name : ℕ → ℕ) (rs : List Record) → length (flat (map (rename type name) rs)) ≡ length (flat rs)
+-- a renamed record has as many words
+pub flat-rename : (type name : ℕ → ℕ) (rs : List Record) → length (flat (map (rename type name) rs)) ≡ length (flat rs)
 flat-rename type name [] = refl
 flat-rename type name (r ∷ rs) =
     length-append (wordsOf (rename type name r)) (flat (map (rename type name) rs))
     ∙ ap₂ _+_ (length-rename type name r) (flat-rename type name rs)
     ∙ sym (length-append (wordsOf r) (flat rs))
 
-words-join : (A B : Table) → length (flat (joinTables A B .records)) ≡ length (flat (A .records)) + length (flat (B .records))
+-- the words of both
+pub words-join : (A B : Table) → length (flat (joinTables A B .records)) ≡ length (flat (A .records)) + length (flat (B .records))
 unfolding joinTables
 words-join A B =
     let up = raised A in

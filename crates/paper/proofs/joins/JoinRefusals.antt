@@ -57,9 +57,10 @@ module _ (a b : List ℕ) (places work room : ℕ) where
     join-17 e = ap₂ (λ (o p : Option Answer). orElse (refusedInside 16 o) (orElse (refusedInside 17 p) (limitReport a b room))) first e
 
     module _ (second : refusal b places work ≡ none) where
-      limits : joinRefusal a b places work room ≡ limitReport a b room
+      -- the limits are asked when both are accepted
+      pub joinRefusal-limits : joinRefusal a b places work room ≡ limitReport a b room
       unfolding joinRefusal
-      limits = ap₂ (λ (o p : Option Answer). orElse (refusedInside 16 o) (orElse (refusedInside 17 p) (limitReport a b room))) first second
+      joinRefusal-limits = ap₂ (λ (o p : Option Answer). orElse (refusedInside 16 o) (orElse (refusedInside 17 p) (limitReport a b room))) first second
 
       abbrev spoken : Bool → Bool → Bool → Option Answer
       spoken x y z = naming 0 (firstDue (18 when x ∷ 19 when y ∷ 20 when z ∷ []))
@@ -68,7 +69,7 @@ module _ (a b : List ℕ) (places work room : ℕ) where
       pub join-18 : typeLimit < count (tableOf a) + count (tableOf b) → joinRefusal a b places work room ≡ some (report 18 0)
       unfolding limitReport
       join-18 h =
-          limits ∙ ap (λ (x : Bool). spoken x (ltb byteLimit (length (joinedBytes a b))) (ltb room (length (joinedBytes a b)))) (lt-ltb _ _ h)
+          joinRefusal-limits ∙ ap (λ (x : Bool). spoken x (ltb byteLimit (length (joinedBytes a b))) (ltb room (length (joinedBytes a b)))) (lt-ltb _ _ h)
 
       module _ (few : count (tableOf a) + count (tableOf b) ≤ typeLimit) where
         few-test : ltb typeLimit (count (tableOf a) + count (tableOf b)) ≡ false
@@ -77,12 +78,12 @@ module _ (a b : List ℕ) (places work room : ℕ) where
         -- 19: too long
         pub join-19 : byteLimit < length (joinedBytes a b) → joinRefusal a b places work room ≡ some (report 19 0)
         unfolding limitReport
-        join-19 h = limits ∙ ap₂ (λ (x y : Bool). spoken x y (ltb room (length (joinedBytes a b)))) few-test (lt-ltb _ _ h)
+        join-19 h = joinRefusal-limits ∙ ap₂ (λ (x y : Bool). spoken x y (ltb room (length (joinedBytes a b)))) few-test (lt-ltb _ _ h)
 
         -- 20: too little room
         pub join-20 : length (joinedBytes a b) ≤ byteLimit → room < length (joinedBytes a b) → joinRefusal a b places work room ≡ some (report 20 0)
         unfolding limitReport
         join-20 short h =
-            limits
+            joinRefusal-limits
             ∙ ap₂ (λ (x y : Bool). spoken x y (ltb room (length (joinedBytes a b)))) few-test (le-ltb _ _ short)
             ∙ ap (λ (z : Bool). spoken false false z) (lt-ltb _ _ h)

@@ -1,0 +1,84 @@
+-- The loop over the entries of a tail: what is left to be put, put behind what is, is all of it.
+-- Assumes nothing.
+use Prim.Native.Nat.{ℕ, zero, suc, _+_, _-_, _*_, _≤_, _<_}
+use mathlib.Core.Path.{_≡_, refl, sym, ap, ap₂, _∙_}
+use mathlib.Core.List.{List, [], _∷_, _++_}
+use native.Mathlib.Nat.{suc-mul}
+use native.Mathlib.Omega.{arith}
+use lib.ListN.{length}
+use Rattle.join.specs.Put.{put}
+use Rattle.join.specs.Raising.{raisedFrom, GroupOf, GroupAsk, GroupPut, EntriesAsk, EntriesPut}
+use Rattle.join.specs.declared.groups.Group.{Group}
+use Rattle.join.specs.declared.groups.Shift.{Shift}
+use Rattle.join.proofs.Puts.{put-none, put-put}
+use Rattle.join.proofs.RaisedWords.{length-raisedFrom, raisedFrom-append}
+use Rattle.paper.specs.Choice.{times}
+use Rattle.paper.specs.Kind.{Role}
+
+-- so many entries are left, of v from a place on
+pub record Entering (by : Shift) (g : Group) (s : List ℕ) (v from at : ℕ) (before : List ℕ) (p q left : ℕ) (after : List ℕ) : Type 0 where
+  pub few : left ≤ v
+  pub near : p ≤ from + 12 * (v - left)
+  pub fits : q + left * (4 * g .words) ≤ length before
+  pub same-length : length after ≡ length before
+  pub rest : (ρs : List Role) → GroupOf g ρs → put after q (raisedFrom by s p (times left ρs)) ≡ put before at (raisedFrom by s from (times v ρs))
+
+module _ {by : Shift} {g : Group} {s : List ℕ} {v from at : ℕ} {before : List ℕ} (a : EntriesAsk g v from at (length before)) where
+  pub entering-start : Entering by g s v from at before from at v before
+  entering-start = record { few = omega arith; near = omega arith; fits = a .fits; same-length = refl; rest = λ ρs h. refl }
+
+  module _ {p q left : ℕ} {after : List ℕ} (e : Entering by g s v from at before p q left after) where
+    pub entering-done : left ≤ 0 → EntriesPut by g v s from at before after
+    unfolding raisedFrom
+    entering-done h = record { puts = λ ρs o. put-none after q ∙ ap (λ (n : ℕ). put after q (raisedFrom by s p (times n ρs))) none ∙ e .rest ρs o }
+      where
+        none : 0 ≡ left
+        none = omega arith
+
+    module _ (some : 0 < left) where
+      -- an entry's bytes behind those of the entries after it
+      step : left * (4 * g .words) ≡ 4 * g .words + (left - 1) * (4 * g .words)
+      step = go left some
+        where
+          go : (n : ℕ) → 0 < n → n * (4 * g .words) ≡ 4 * g .words + (n - 1) * (4 * g .words)
+          go zero l = absurd (omega arith)
+          go (suc n) l = let back : suc n - 1 ≡ n = omega arith in suc-mul n (4 * g .words) ∙ rw back (omega arith)
+
+      pub entering-ask : GroupAsk g p q (length after)
+      entering-ask =
+          let f = e .fits in
+          let n = e .near in
+          let l = e .same-length in
+          let k = e .few in
+          let st = step in
+          record { few = a .few; near = omega (arith, a .near, a .counted); fits = omega arith; small = omega (arith, a .small) }
+
+      pub entering-next : {after₂ : List ℕ} → length after₂ ≡ length after → GroupPut by g s p q after after₂
+          → Entering by g s v from at before (p + 4 * g .words) (q + 4 * g .words) (left - 1) after₂
+      entering-next {after₂} same one =
+          let f = e .fits in
+          let n = e .near in
+          let k = e .few in
+          let st = step in
+          record {
+            few = omega arith;
+            near = omega (arith, a .few);
+            fits = omega arith;
+            same-length = same ∙ e .same-length;
+            rest = λ ρs o. more ρs o ∙ e .rest ρs o;
+          }
+        where
+          more : (ρs : List Role) → GroupOf g ρs → put after₂ (q + 4 * g .words) (raisedFrom by s (p + 4 * g .words) (times (left - 1) ρs)) ≡ put after q (raisedFrom by s p (times left ρs))
+          more ρs o =
+              let run : List ℕ = raisedFrom by s p ρs in
+              let c = o .counted in
+              let long = length-raisedFrom by s p ρs in
+              let f = e .fits in
+              let l = e .same-length in
+              let st = step in
+              let there : p + 4 * g .words ≡ p + 4 * length ρs = omega arith in
+              let one-more : suc (left - 1) ≡ left = omega arith in
+              ap₂ (λ (o : List ℕ) (n : ℕ). put o (q + 4 * g .words) (raisedFrom by s n (times (left - 1) ρs))) (one .puts ρs o) there
+              ∙ put-put after q run (omega arith) (omega arith) (raisedFrom by s (p + 4 * length ρs) (times (left - 1) ρs))
+              ∙ ap (put after q) (sym (raisedFrom-append by s p ρs (times (left - 1) ρs)))
+              ∙ ap (λ (n : ℕ). put after q (raisedFrom by s p (times n ρs))) one-more

@@ -1,0 +1,255 @@
+-- The joined blob as its five parts, each a part of the two blobs, and the lengths of the sections.
+-- Assumes nothing.
+use Prim.Native.Nat.{ℕ, _+_, _-_, _*_, _≤_}
+use mathlib.Core.Path.{_≡_, refl, sym, ap, ap₂, _∙_}
+use mathlib.Core.List.{List, [], _∷_, _++_, map, append-assoc, append-nil}
+use native.Mathlib.Omega.{arith}
+use lib.ListN.{length, take, drop, length-append, length-drop}
+use lib.Seq.{drop-drop, drop-length, length-take-le}
+use Rattle.join.specs.Joins.{BothAccepted, WriteAsk}
+use Rattle.join.specs.Put.{put}
+use Rattle.join.specs.Raising.{raisedRecord, recordsBytes, RecordsAsk}
+use Rattle.join.specs.declared.groups.Shift.{Shift}
+use Rattle.join.proofs.Puts.{length-put, put-put}
+use Rattle.join.proofs.RaisedRecords.{length-recordsBytes}
+use Rattle.paper.proofs.bytes.Blobs.{header-first, stringsIn-length, typeWords-length, typeWords-bytes, strings-tableOf}
+use Rattle.paper.proofs.bytes.Bytes.{part-rest, length-bytesOfWords, bytesOfWords-append}
+use Rattle.paper.proofs.bytes.Places.{flat-append}
+use Rattle.paper.proofs.bytes.Tables.{headerOf, bytesOf-parts, length-bytesOf}
+use Rattle.paper.proofs.gates.Acceptance.{accepted-meets, accepted-closed}
+use Rattle.paper.proofs.joins.Grouping.{words-join}
+use Rattle.paper.proofs.joins.Joining.{length-strings}
+use Rattle.paper.specs.Fit.{Bytes}
+use Rattle.paper.specs.Good.{Readable}
+use Rattle.paper.specs.Header.{orderOf, typeLen, strLen, stringsIn}
+use Rattle.paper.specs.Join.{raised, joinTables, joinedBytes}
+use Rattle.paper.specs.Limits.{byteLimit}
+use Rattle.paper.specs.Rename.{rename, raise}
+use Rattle.paper.specs.Table.{Record, count}
+use Rattle.paper.specs.Walk.{tableOf, flat, typeLenOf, typeWords}
+use Rattle.paper.specs.Word.{lowFirst, wordAt, bytesOfWords}
+
+-- ── the lengths ──
+
+-- what a header says of its blob, in the words that code reads
+pub record Widths (b : List ℕ) : Type 0 where
+  pub sum : 24 + wordAt lowFirst b 12 + wordAt lowFirst b 20 ≡ length b
+  pub some-strings : 1 ≤ wordAt lowFirst b 20
+  pub short : length b ≤ byteLimit
+
+-- the lengths of the sections of two blobs, and of the joined one
+pub record Lengths (first strings second seconds a b room : ℕ) : Type 0 where
+  pub first-sum : 24 + first + strings ≡ a
+  pub second-sum : 24 + second + seconds ≡ b
+  pub first-some : 1 ≤ strings
+  pub second-some : 1 ≤ seconds
+  pub sum : room ≡ 24 + (first + second) + (strings + (seconds - 1))
+  pub short : room ≤ byteLimit
+
+-- how long the parts are that are copied
+pub length-part : (s : List ℕ) (n : ℕ) → 24 + n ≤ length s → length (take (24 + n - 24) (drop 24 s)) ≡ n
+length-part s n h = let d = length-drop 24 s in length-take-le (24 + n - 24) (drop 24 s) (omega arith) ∙ omega arith
+
+pub length-rest : (s : List ℕ) (p : ℕ) → length (take (length s - p) (drop p s)) ≡ length s - p
+length-rest s p = ap length (part-rest s p) ∙ length-drop p s
+
+module _ {b : List ℕ} {places work : ℕ} (r : Readable b places work) where
+  pub readable-widths : Widths b
+  unfolding orderOf typeLen strLen
+  readable-widths = let f = r .header in record { sum = f .sum; some-strings = f .some-strings; short = f .short }
+
+  -- the bytes of the records are those of the type section
+  types-length : typeLenOf (tableOf b .records) ≡ typeLen b
+  types-length = ap (λ (ws : List ℕ). 4 * length ws) (r .section .flat-found) ∙ typeWords-length b (r .header)
+
+  strings-length : length (tableOf b .strings) ≡ strLen b
+  strings-length = ap length (strings-tableOf b) ∙ stringsIn-length b (r .header)
+
+-- one run behind another, and all of an output
+pub put-next : (out : List ℕ) (s : List ℕ) {out₁ out₂ : List ℕ} {q : ℕ} (t : List ℕ) → length s ≤ length out → q ≡ length s
+    → out₁ ≡ put out 0 s → out₂ ≡ put out₁ q t → out₂ ≡ put out 0 (s ++ t)
+put-next out s {out₁} {out₂} {q} t room far e f =
+    f ∙ ap (λ (o : List ℕ). put o q t) e ∙ put-put out 0 s (omega arith) (omega arith) t
+
+pub put-whole : (out s : List ℕ) → length s ≡ length out → put out 0 s ≡ s
+unfolding put
+put-whole out s e =
+    let far : 0 + length s ≡ length out = omega arith in
+    ap (λ (n : ℕ). s ++ drop n out) far ∙ ap (λ (t : List ℕ). s ++ t) (drop-length out) ∙ append-nil s
+
+-- ── the parts ──
+
+module _ {a b : List ℕ} {n m room : ℕ} (w : WriteAsk a b n m room) where
+  readable-first : Readable a (w .both .places) (w .both .work)
+  readable-first = accepted-meets a _ _ (w .both .first) .readable
+
+  readable-second : Readable b (w .both .places) (w .both .work)
+  readable-second = accepted-meets b _ _ (w .both .second) .readable
+
+  pub widths-first : Widths a
+  widths-first = readable-widths readable-first
+
+  pub widths-second : Widths b
+  widths-second = readable-widths readable-second
+
+  -- the words of the header that give the lengths
+  joined-types : typeLenOf (joinTables (tableOf a) (tableOf b) .records) ≡ wordAt lowFirst a 12 + wordAt lowFirst b 12
+  unfolding orderOf typeLen
+  joined-types =
+      let j = words-join (tableOf a) (tableOf b) in
+      let f = types-length readable-first in
+      let s = types-length readable-second in
+      omega arith
+
+  joined-strings : length (joinTables (tableOf a) (tableOf b) .strings) ≡ wordAt lowFirst a 20 + (wordAt lowFirst b 20 - 1)
+  unfolding orderOf strLen
+  joined-strings =
+      let f = strings-length readable-first in
+      let s = strings-length readable-second in
+      length-strings (tableOf a) (tableOf b) (accepted-closed a _ _ (w .both .first)) (accepted-closed b _ _ (w .both .second)) ∙ omega arith
+
+  pub joined-room : room ≡ 24 + (wordAt lowFirst a 12 + wordAt lowFirst b 12) + (wordAt lowFirst a 20 + (wordAt lowFirst b 20 - 1))
+  unfolding joinedBytes
+  joined-room =
+      let t = joined-types in
+      let s = joined-strings in
+      w .fits ∙ length-bytesOf (orderOf a) (joinTables (tableOf a) (tableOf b)) ∙ omega arith
+
+  -- the four lengths as they are read, in an output of room bytes
+  pub write-lengths : {first strings second seconds : ℕ} → first ≡ wordAt lowFirst a 12 → strings ≡ wordAt lowFirst a 20 → second ≡ wordAt lowFirst b 12 → seconds ≡ wordAt lowFirst b 20
+      → Lengths first strings second seconds (length a) (length b) room
+  write-lengths e f g h =
+      let wa = widths-first in
+      let wb = widths-second in
+      let r = joined-room in
+      let s = w .fits in
+      let t = w .short in
+      record { first-sum = omega arith; second-sum = omega arith; first-some = omega arith; second-some = omega arith; sum = omega arith; short = omega arith }
+
+  pub records-ask : {first room₁ : ℕ} → first ≡ wordAt lowFirst a 12 → room₁ ≡ room → RecordsAsk b m first room₁
+  unfolding orderOf typeLen
+  records-ask e same =
+      let r = joined-room in
+      let s = types-length readable-second in
+      let short = w .short in
+      let f = w .fits in
+      record {
+        places = w .both .places;
+        work = w .both .work;
+        bytes = w .both .second-bytes;
+        readable = readable-second;
+        counted = w .both .second-count;
+        fits = omega arith;
+        small = omega arith;
+      }
+
+  -- the header that is written is that of the joined blob
+  header-part : (types strings : ℕ) → headerOf lowFirst types strings ≡ take 12 a ++ bytesOfWords lowFirst (types ∷ types ∷ strings ∷ [])
+  unfolding orderOf
+  header-part types strings =
+      ap (λ (s : List ℕ). s ++ bytesOfWords lowFirst (types ∷ types ∷ strings ∷ [])) (sym (ap (take 12) (header-first a (w .both .first-bytes) (readable-first .header))))
+
+  records-part : bytesOfWords lowFirst (flat (tableOf a .records)) ≡ take (wordAt lowFirst a 12) (drop 24 a)
+  unfolding orderOf typeLen
+  records-part = ap (bytesOfWords lowFirst) (readable-first .section .flat-found) ∙ typeWords-bytes a (w .both .first-bytes) (readable-first .header)
+
+  raised-part : (by : Shift) → by .types .0 ≡ n → by .names .0 ≡ wordAt lowFirst a 20 - 1
+      → bytesOfWords lowFirst (flat (map (raised (tableOf a)) (tableOf b .records))) ≡ recordsBytes by (tableOf b .records)
+  unfolding recordsBytes orderOf strLen
+  raised-part by e f =
+      let s = strings-length readable-first in
+      ap₂ (λ (x y : ℕ). bytesOfWords lowFirst (flat (map (rename (raise x) (raise y)) (tableOf b .records))))
+      (sym (e ∙ w .both .first-count))
+      (ap (λ (l : ℕ). l - 1) s ∙ sym f)
+
+  first-strings : tableOf a .strings ≡ drop (24 + wordAt lowFirst a 12) a
+  unfolding orderOf typeLen stringsIn
+  first-strings = strings-tableOf a
+
+  second-strings : drop 1 (tableOf b .strings) ≡ drop (25 + wordAt lowFirst b 12) b
+  unfolding orderOf typeLen stringsIn
+  second-strings =
+      let far : 24 + wordAt lowFirst b 12 + 1 ≡ 25 + wordAt lowFirst b 12 = omega arith in
+      ap (drop 1) (strings-tableOf b) ∙ drop-drop 1 (24 + wordAt lowFirst b 12) b ∙ ap (λ (p : ℕ). drop p b) far
+
+  module _ (by : Shift) (shift-types : by .types .0 ≡ n) (shift-names : by .names .0 ≡ wordAt lowFirst a 20 - 1)
+      {types strings : ℕ} (both-types : types ≡ wordAt lowFirst a 12 + wordAt lowFirst b 12) (both-strings : strings ≡ wordAt lowFirst a 20 + (wordAt lowFirst b 20 - 1)) where
+    -- the header, the first's records, the second's raised, the first's strings, the second's without their first byte
+    abbrev header : List ℕ
+    header = take 12 a ++ bytesOfWords lowFirst (types ∷ types ∷ strings ∷ [])
+
+    abbrev firsts : List ℕ
+    firsts = take (wordAt lowFirst a 12) (drop 24 a)
+
+    abbrev seconds : List ℕ
+    seconds = recordsBytes by (tableOf b .records)
+
+    joined-parts : joinedBytes a b ≡ header ++ ((firsts ++ seconds) ++ (drop (24 + wordAt lowFirst a 12) a ++ drop (25 + wordAt lowFirst b 12) b))
+    unfolding joinedBytes joinTables orderOf
+    joined-parts =
+        let A = tableOf a in
+        let B = tableOf b in
+        bytesOf-parts lowFirst (joinTables A B)
+        ∙ ap₂ (λ (t s : ℕ). headerOf lowFirst t s ++ (bytesOfWords lowFirst (flat (joinTables A B .records)) ++ joinTables A B .strings)) (joined-types ∙ sym both-types) (joined-strings ∙ sym both-strings)
+        ∙ ap₂ (λ (h r : List ℕ). h ++ (r ++ joinTables A B .strings)) (header-part types strings)
+        (ap (bytesOfWords lowFirst) (flat-append (A .records) (map (raised A) (B .records)))
+        ∙ bytesOfWords-append lowFirst (flat (A .records)) (flat (map (raised A) (B .records)))
+        ∙ ap₂ (λ (r s : List ℕ). r ++ s) records-part (raised-part by shift-types shift-names))
+        ∙ ap₂ (λ (s t : List ℕ). header ++ ((firsts ++ seconds) ++ (s ++ t))) first-strings second-strings
+
+    -- each put behind the one before, they are the joined blob
+    pub write-joined : (out : List ℕ) {out₁ out₂ out₃ out₄ out₅ : List ℕ} {at₂ at₃ at₄ at₅ : ℕ} → length out ≡ room
+        → out₁ ≡ put out 0 header
+        → out₂ ≡ put out₁ at₂ firsts → at₂ ≡ 24
+        → out₃ ≡ put out₂ at₃ seconds → at₃ ≡ wordAt lowFirst a 12 + 24
+        → out₄ ≡ put out₃ at₄ (drop (24 + wordAt lowFirst a 12) a) → at₄ ≡ 24 + types
+        → out₅ ≡ put out₄ at₅ (drop (25 + wordAt lowFirst b 12) b) → at₅ ≡ 24 + types + wordAt lowFirst a 20
+        → out₅ ≡ joinedBytes a b
+    unfolding orderOf typeLen
+    write-joined out same p₁ p₂ e₂ p₃ e₃ p₄ e₄ p₅ e₅ =
+        let wa = widths-first .sum in
+        let wb = widths-second .sum in
+        let sa = widths-first .some-strings in
+        let sb = widths-second .some-strings in
+        let whole = joined-room in
+        let s₁ : List ℕ = drop (24 + wordAt lowFirst a 12) a in
+        let s₂ : List ℕ = drop (25 + wordAt lowFirst b 12) b in
+        let twelve = length-take-le 12 a (omega arith) in
+        let l₁ = length-append (take 12 a) (bytesOfWords lowFirst (types ∷ types ∷ strings ∷ [])) in
+        let f = length-take-le (wordAt lowFirst a 12) (drop 24 a) (simp length-drop (omega arith)) in
+        let l₂ = length-append header firsts in
+        let s = length-recordsBytes by (tableOf b .records) ∙ types-length readable-second in
+        let l₃ = length-append (header ++ firsts) seconds in
+        let d₁ = length-drop (24 + wordAt lowFirst a 12) a in
+        let l₄ = length-append (header ++ firsts ++ seconds) s₁ in
+        let d₂ = length-drop (25 + wordAt lowFirst b 12) b in
+        let l₅ = length-append (header ++ firsts ++ seconds ++ s₁) s₂ in
+        let q₂ = put-next out header firsts (omega arith) (omega arith) p₁ p₂ in
+        let q₃ = put-next out (header ++ firsts) seconds (omega arith) (omega arith) q₂ p₃ in
+        let q₄ = put-next out (header ++ firsts ++ seconds) s₁ (omega arith) (omega arith) q₃ p₄ in
+        let q₅ = put-next out (header ++ firsts ++ seconds ++ s₁) s₂ (omega arith) (omega arith) q₄ p₅ in
+        q₅
+        ∙ put-whole out (header ++ firsts ++ seconds ++ s₁ ++ s₂) (omega arith)
+        ∙ regroup header firsts seconds s₁ s₂
+        ∙ sym joined-parts
+      where
+        regroup : (u v x y z : List ℕ) → u ++ v ++ x ++ y ++ z ≡ u ++ ((v ++ x) ++ (y ++ z))
+        regroup u v x y z = simp append-assoc
+
+    -- the same, as code cuts the parts out
+    pub write-parts : (out : List ℕ) {out₁ out₂ out₃ out₄ out₅ : List ℕ} {first second strings₁ : ℕ}
+        → first ≡ wordAt lowFirst a 12 → second ≡ wordAt lowFirst b 12 → strings₁ ≡ wordAt lowFirst a 20
+        → length out ≡ room
+        → out₁ ≡ put out 0 header
+        → out₂ ≡ put out₁ 24 (take (24 + first - 24) (drop 24 a))
+        → out₃ ≡ put out₂ (first + 24) seconds
+        → out₄ ≡ put out₃ (24 + types) (take (length a - (24 + first)) (drop (24 + first) a))
+        → out₅ ≡ put out₄ (24 + types + strings₁) (take (length b - (25 + second)) (drop (25 + second) b))
+        → out₅ ≡ joinedBytes a b
+    write-parts out {out₁} {out₂} {out₃} {out₄} {out₅} {first} {second} {strings₁} e f g same p₁ p₂ p₃ p₄ p₅ =
+        let cut : 24 + first - 24 ≡ wordAt lowFirst a 12 = omega arith in
+        write-joined out same p₁
+        (p₂ ∙ ap (λ (k : ℕ). put out₁ 24 (take k (drop 24 a))) cut) refl
+        p₃ (omega arith)
+        (p₄ ∙ ap (put out₃ (24 + types)) (part-rest a (24 + first) ∙ ap (λ (k : ℕ). drop (24 + k) a) e)) refl
+        (p₅ ∙ ap (put out₄ (24 + types + strings₁)) (part-rest b (25 + second) ∙ ap (λ (k : ℕ). drop (25 + k) b) f)) (omega arith)

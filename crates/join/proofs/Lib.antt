@@ -1,0 +1,6 @@
+pub mod Puts
+pub mod RaisedWords
+pub mod Entries
+pub mod RaisedRecords
+pub mod JoinedParts
+pub mod JoinAnswers

@@ -1,0 +1,53 @@
+-- `join::blob::write_header` meets its contract: twelve bytes of the first, then three words.
+-- Assumes nothing.
+use Prim.Native.Nat.{ℕ}
+use mathlib.Core.Path.{_≡_, refl, sym, ap, _∙_}
+use native.Mathlib.Omega.{arith}
+use denote.Ref.{now}
+use lib.ListN.{length, take}
+use lib.Seq.{length-take-le}
+use Rattle.join.proofs.Puts.{put-three}
+use borrow.Author.Needs.{needs}
+use Rattle.join.proofs.blob.write_header.Statement.{statement}
+use Rattle.join.proofs.blob.write_header.Tie as tie
+
+slice-aggregate-copy : tie.Need-slice-aggregate-copy
+slice-aggregate-copy c = let a = c .before .before .before in sym (length-take-le 12 (now (a .args .a)) (omega (arith, a .pre .0)))
+
+copy-requires : tie.Need-copy-requires
+copy-requires c κs = let a = c .before .before .before .before in omega (arith, length-take-le 12 (now (a .args .a)) (omega (arith, a .pre .0)), a .pre .1)
+
+write-requires : tie.Need-write-requires
+write-requires c κs = search needs
+
+write-requires-2 : tie.Need-write-requires-2
+write-requires-2 c κs = search needs
+
+write-requires-3 : tie.Need-write-requires-3
+write-requires-3 c κs = search needs
+
+same-length : tie.Need-same-length
+same-length c = search needs
+
+returns : tie.Need-returns
+returns c =
+    let w3 = c .before .before in
+    let w2 = w3 .before .before .before .before in
+    let w1 = w2 .before .before .before .before in
+    let k = w1 .before .before .before .before in
+    let a = k .before .before .before .before .before in
+    let twelve = length-take-le 12 (now (a .args .a)) (omega (arith, a .pre .0)) in
+    put-three (now (a .args .out)) (take 12 (now (a .args .a))) 0 _ _ _ (omega (arith, a .pre .1)) (k .copy .ensures) (w1 .write .ensures) (omega arith) (w2 .write2 .ensures) (omega arith) (w3 .write3 .ensures) (omega arith)
+
+pub write-header-spec : {M : Type 1} → statement M
+write-header-spec =
+    tie.close
+    (tie.spec
+    slice-aggregate-copy
+    copy-requires
+    write-requires
+    write-requires-2
+    write-requires-3
+    same-length
+    returns
+    )

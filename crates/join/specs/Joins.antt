@@ -1,0 +1,46 @@
+-- What the join asks of its parts, answers and leaves, in the paper's terms.
+use Prim.Native.Nat.{ℕ, _≤_}
+use mathlib.Core.Path.{_≡_}
+use mathlib.Core.List.{List}
+use mathlib.Core.Option.{none}
+use lib.ListN.{length}
+use Rattle.paper.specs.Answer.{joinedAsPaper}
+use Rattle.paper.specs.Fit.{Bytes}
+use Rattle.paper.specs.Gate.{refusal}
+use Rattle.paper.specs.Join.{joinedBytes, limitReport, JoinOutcome, joinOutcome, join}
+use Rattle.paper.specs.Limits.{byteLimit}
+use Rattle.paper.specs.Table.{count}
+use Rattle.paper.specs.Walk.{tableOf}
+use Rattle.paper.specs.declared.Joined.{Joined}
+
+-- two blobs of n and m types, both accepted with some places lent
+pub record BothAccepted (a b : List ℕ) (n m : ℕ) : Type 0 where
+  pub places : ℕ
+  pub work : ℕ
+  pub first : refusal a places work ≡ none
+  pub second : refusal b places work ≡ none
+  pub first-bytes : Bytes a
+  pub second-bytes : Bytes b
+  pub first-count : n ≡ count (tableOf a)
+  pub second-count : m ≡ count (tableOf b)
+
+-- and an output of just the joined length, which is within the limit
+pub record WriteAsk (a b : List ℕ) (n m room : ℕ) : Type 0 where
+  pub both : BothAccepted a b n m
+  pub fits : room ≡ length (joinedBytes a b)
+  pub short : length (joinedBytes a b) ≤ byteLimit
+
+-- what the limits leave of a join of accepted tables into an output of these bytes
+unfoldable pub limited : List ℕ → List ℕ → List ℕ → JoinOutcome
+limited a b out = joinOutcome (joinedBytes a b) 0 0 out (limitReport a b (length out))
+
+pub record LimitedOf (r : Joined) (a b out output : List ℕ) : Type 0 where
+  pub answers : joinedAsPaper r ≡ limited a b out .answer
+  pub outputs : output ≡ limited a b out .output
+
+-- the answer and all three slices afterwards are those of the paper's join, into an output of these bytes
+pub record JoinOf (r : Joined) (a b : List ℕ) (places workPlaces : ℕ) (out index work output : List ℕ) : Type 0 where
+  pub answers : joinedAsPaper r ≡ join a b places workPlaces out .answer
+  pub indexes : index ≡ join a b places workPlaces out .index
+  pub works : work ≡ join a b places workPlaces out .work
+  pub outputs : output ≡ join a b places workPlaces out .output

@@ -1,0 +1,54 @@
+// The joined blob is written: "the header, the first's records, the second's as demand 3 raises them, the first's strings,
+// the second's strings without their first byte".
+use crate::groups::Shift;
+use crate::records::raise_records;
+use crate::runs::copy;
+use paper::NameOff;
+use paper::Place;
+use paper::TypeNo;
+ghost use mathlib.Core.Path.{_≡_};
+ghost use mathlib.Core.List.{[], _∷_, _++_};
+ghost use Prim.Native.Nat.{_≤_};
+ghost use lib.ListN.{length, take};
+ghost use Rattle.join.specs.Joins.{WriteAsk};
+ghost use Rattle.join.specs.Put.{put};
+ghost use Rattle.paper.specs.Join.{joinedBytes};
+ghost use Rattle.paper.specs.Word.{bytesOfWords, lowFirst};
+
+// The header is the first's but for its last three words, the lengths of the sections.
+fn write_header(a: &[u8], types: u32, strings: u32, out: &mut [u8])
+    requires { ⌜ (24 ≤ length (now a)) × (24 ≤ length (now out)) ⌝ }
+    ensures { λ r. ⌜ now (out .exit) ≡ put (now (out .entry)) 0 (take 12 (now (a .entry)) ++ bytesOfWords lowFirst (types ∷ types ∷ strings ∷ [])) ⌝ }
+{
+    copy(&a[..12], out, Place(0));
+    words::write(out, Place(12), types);
+    words::write(out, Place(16), types);
+    words::write(out, Place(20), strings);
+}
+
+// Into an output of just that length, each part behind the one before.
+pub(crate) fn write(a: &[u8], b: &[u8], n: u32, m: u32, out: &mut [u8])
+    requires { ⌜ WriteAsk (now a) (now b) n m (length (now out)) ⌝ }
+    ensures { λ r. ⌜ now (out .exit) ≡ joinedBytes (now (a .entry)) (now (b .entry)) ⌝ }
+{
+    let first = words::read(a, Place(12));
+    let first_strings = words::read(a, Place(20));
+    let second = words::read(b, Place(12));
+    let second_strings = words::read(b, Place(20));
+    let types = first + second;
+    let strings = first_strings + (second_strings - 1);
+    write_header(a, types, strings, out);
+    let end = 24 + first as usize;
+    copy(&a[24..end], out, Place(24));
+    let names = first_strings - 1;
+    let by = Shift {
+        types: TypeNo(n),
+        names: NameOff(names),
+    };
+    raise_records(b, m, by, out, first);
+    let behind = 24 + types;
+    copy(&a[end..], out, Place(behind));
+    let skip = 25 + second as usize;
+    let last = behind + first_strings;
+    copy(&b[skip..], out, Place(last));
+}

@@ -1,0 +1,44 @@
+// The join: both tables are checked and the limits asked before anything is written.
+use crate::blob::write;
+use gate::check;
+use paper::Checked;
+use paper::Joined;
+use scan::clear;
+ghost use lib.ListN.{length};
+ghost use Rattle.join.specs.Joins.{BothAccepted, JoinOf, LimitedOf};
+
+// Two accepted tables of n and m types: 18, 19, 20, else the joined blob.
+fn join_accepted(a: &[u8], b: &[u8], n: u32, m: u32, out: &mut [u8]) -> Joined
+    requires { ⌜ BothAccepted (now a) (now b) n m ⌝ }
+    ensures { λ r. ⌜ LimitedOf r (now (a .entry)) (now (b .entry)) (now (out .entry)) (now (out .exit)) ⌝ }
+{
+    if 4096 < n + m {
+        return Joined::TooMany;
+    }
+    let len = a.len() + b.len() - 25;
+    if 65536 < len {
+        return Joined::TooLong;
+    }
+    if out.len() < len {
+        return Joined::OutputShort;
+    }
+    write(a, b, n, m, &mut out[..len]);
+    Joined::Whole(len as u32)
+}
+
+// The joined length of two accepted tables within the limits, with the joined blob in the output; else the first ground of refusal,
+// with the output as it was. Both u32 slices end all 0.
+pub fn join(a: &[u8], b: &[u8], index: &mut [u32], work: &mut [u32], out: &mut [u8]) -> Joined
+    ensures { λ r. ⌜ JoinOf r (now (a .entry)) (now (b .entry)) (length (now (index .entry))) (length (now (work .entry))) (now (out .entry)) (now (index .exit)) (now (work .exit)) (now (out .exit)) ⌝ }
+{
+    match check(a, index, work) {
+        Checked::Refused(r) => Joined::FirstRefused(r),
+        Checked::Accepted(n) => match check(b, index, work) {
+            Checked::Refused(r) => Joined::SecondRefused(r),
+            Checked::Accepted(m) => {
+                clear(index);
+                join_accepted(a, b, n, m, out)
+            }
+        },
+    }
+}
