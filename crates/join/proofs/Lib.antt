@@ -4,3 +4,4 @@ pub mod Entries
 pub mod RaisedRecords
 pub mod JoinedParts
 pub mod JoinAnswers
+pub mod Demands

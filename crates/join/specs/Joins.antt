@@ -2,8 +2,8 @@
 use Prim.Native.Nat.{ℕ, _≤_}
 use mathlib.Core.Path.{_≡_}
 use mathlib.Core.List.{List}
-use mathlib.Core.Option.{none}
-use lib.ListN.{length}
+use mathlib.Core.Option.{Option, none, some}
+use lib.ListN.{length, take}
 use Rattle.paper.specs.Answer.{joinedAsPaper}
 use Rattle.paper.specs.Fit.{Bytes}
 use Rattle.paper.specs.Gate.{refusal}
@@ -12,6 +12,7 @@ use Rattle.paper.specs.Limits.{byteLimit}
 use Rattle.paper.specs.Table.{count}
 use Rattle.paper.specs.Walk.{tableOf}
 use Rattle.paper.specs.declared.Joined.{Joined}
+use Rattle.paper.specs.declared.Joined.the-variants.{Whole, FirstRefused, SecondRefused, TooMany, TooLong, OutputShort}
 
 -- two blobs of n and m types, both accepted with some places lent
 pub record BothAccepted (a b : List ℕ) (n m : ℕ) : Type 0 where
@@ -44,3 +45,12 @@ pub record JoinOf (r : Joined) (a b : List ℕ) (places workPlaces : ℕ) (out i
   pub indexes : index ≡ join a b places workPlaces out .index
   pub works : work ≡ join a b places workPlaces out .work
   pub outputs : output ≡ join a b places workPlaces out .output
+
+-- the bytes that a join hands back in its output, nothing where it refuses
+abbrev pub handedBack : Joined → List ℕ → Option (List ℕ)
+handedBack (Whole n) output = some (take n output)
+handedBack (FirstRefused r) output = none
+handedBack (SecondRefused r) output = none
+handedBack TooMany output = none
+handedBack TooLong output = none
+handedBack OutputShort output = none

@@ -1,0 +1,173 @@
+-- Demand 3 of the code: what it means that `join` has answered, in the person's words. Each from its contract alone.
+-- Assumes nothing.
+use Prim.Native.Nat.{ℕ, _+_, _-_, _≤_, _<_}
+use mathlib.Core.Path.{_≡_, refl, sym, ap, ap₂, _∙_, subst}
+use mathlib.Core.List.{List, _++_}
+use mathlib.Core.Option.{Option, none, some}
+use mathlib.Core.Bool.{cond}
+use lib.Dec.{eqb}
+use lib.ListN.{length, take, drop}
+use lib.Seq.{take-at}
+use Rattle.gate.specs.Check.{CheckOf}
+use Rattle.gate.proofs.Demands.{paper-accepted}
+use Rattle.join.specs.Joins.{JoinOf, handedBack}
+use Rattle.paper.proofs.Demands.{join-count, join-accepted, join-first, join-second}
+use Rattle.paper.proofs.Outcomes.{join-refused, join-made}
+use Rattle.paper.proofs.Questions.{join-named-first, join-named-second, join-sized-first, join-sized-second}
+use Rattle.paper.proofs.basics.Answers.{joined-one}
+use Rattle.paper.proofs.gates.Acceptance.{accepted-meets}
+use Rattle.paper.proofs.gates.Answered.{joined-whole, joined-refused}
+use Rattle.paper.proofs.joins.Grouping.{join-assoc}
+use Rattle.paper.proofs.joins.JoinRefusals.{joinRefusal-joinable, joinable-joinRefusal}
+use Rattle.paper.proofs.joins.Neutral.{join-empty-left, join-empty-right}
+use Rattle.paper.specs.Answer.{Answer, joinedAsPaper}
+use Rattle.paper.specs.Fit.{Bytes}
+use Rattle.paper.specs.Full.{handed, joinFull, andThen, emptyBlob}
+use Rattle.paper.specs.Gate.{refusal, zeros, gate}
+use Rattle.paper.specs.Good.{Joinable}
+use Rattle.paper.specs.Header.{orderOf, strLen}
+use Rattle.paper.specs.Join.{raised, joinedBytes, joinRefusal, JoinOutcome, joinOutcome, join}
+use Rattle.paper.specs.Limits.{byteLimit, fullPlaces}
+use Rattle.paper.specs.Name.{nameAt}
+use Rattle.paper.specs.Rename.{raise}
+use Rattle.paper.specs.Size.{sizeOf}
+use Rattle.paper.specs.Table.{count, recordAt}
+use Rattle.paper.specs.Walk.{tableOf}
+use Rattle.paper.specs.declared.Checked.{Checked}
+use Rattle.paper.specs.declared.Checked.the-variants.{Accepted}
+use Rattle.paper.specs.declared.Joined.{Joined}
+use Rattle.paper.specs.declared.Joined.the-variants.{Whole, FirstRefused, SecondRefused, TooMany, TooLong, OutputShort}
+
+module _ {j : Joined} {a b : List ℕ} {places work : ℕ} {out index left output : List ℕ} (h : JoinOf j a b places work out index left output) where
+  -- both u32 slices end all 0, refused or not
+  pub join-slices : (index ≡ zeros places) × (left ≡ zeros work)
+  unfolding join
+  join-slices = (h .indexes ∙ ended (joinRefusal a b places work (length out)) .0, h .works ∙ ended (joinRefusal a b places work (length out)) .1)
+    where
+      ended : (o : Option Answer) → let x = joinOutcome (joinedBytes a b) places work out o in (x .index ≡ zeros places) × (x .work ≡ zeros work)
+      ended none = (refl, refl)
+      ended (some r) = (refl, refl)
+
+  -- ── refused ──
+
+  module _ (no : joinedAsPaper j .number ≡ 0 → ⊥) where
+    -- for the first ground that there is
+    pub refused-ground : joinRefusal a b places work (length out) ≡ some (joinedAsPaper j)
+    refused-ground = joined-refused a b places work out j no (h .answers)
+
+    -- and no output byte changes
+    pub refused-output : output ≡ out
+    refused-output = h .outputs ∙ ap (λ (o : JoinOutcome). o .output) (join-refused a b places work out refused-ground)
+
+  -- ── joined unless limits or lent slices forbid ──
+
+  pub joinable-joined : Joinable a b places work (length out) → j ≡ Whole (length (joinedBytes a b))
+  unfolding joinedAsPaper
+  joinable-joined g =
+      joined-one j (Whole (length (joinedBytes a b)))
+      (h .answers ∙ ap (λ (o : JoinOutcome). o .answer) (join-made a b places work out (joinable-joinRefusal a b places work (length out) g)))
+
+  module _ (n : ℕ) (p : j ≡ Whole n) where
+    told : (joinRefusal a b places work (length out) ≡ none) × (n ≡ length (joinedBytes a b))
+    told = joined-whole a b places work out (ap joinedAsPaper (sym p) ∙ h .answers)
+
+    pub joined-joinable : Joinable a b places work (length out)
+    joined-joinable = joinRefusal-joinable a b places work (length out) (told .0)
+
+    -- the answer is the joined length
+    pub joined-length : n ≡ length (joinedBytes a b)
+    joined-length = told .1
+
+    -- the output begins with the joined bytes, and no byte past them changes
+    pub joined-output : output ≡ joinedBytes a b ++ drop n out
+    joined-output =
+        h .outputs
+        ∙ ap (λ (o : JoinOutcome). o .output) (join-made a b places work out (told .0))
+        ∙ ap (λ (k : ℕ). joinedBytes a b ++ drop k out) (sym (told .1))
+
+    pub joined-bytes : take n output ≡ joinedBytes a b
+    joined-bytes = ap (take n) joined-output ∙ take-at (joinedBytes a b) (drop n out) n (sym (told .1))
+
+    module _ (x : Bytes a) (y : Bytes b) where
+      -- what was joined is accepted by `check`, with as many types as both have
+      pub joined-checked : {c : Checked} {places′ work′ : ℕ} {index′ left′ : List ℕ} → CheckOf c (take n output) places′ work′ index′ left′
+          → count (tableOf a) + count (tableOf b) < places′ → count (tableOf a) + count (tableOf b) < work′ → c ≡ Accepted (count (tableOf a) + count (tableOf b))
+      joined-checked {c} {places′} {work′} {index′} {left′} k enough enough′ =
+          paper-accepted (subst (λ (s : List ℕ). CheckOf c s places′ work′ index′ left′) joined-bytes k)
+          (accepted-meets (joinedBytes a b) places′ work′ (join-accepted a b x y places work (length out) (told .0) places′ work′ enough enough′))
+          ∙ ap Accepted (join-count a b x y places work (length out) (told .0))
+
+      -- the first's records stand unchanged, the second's are raised
+      pub joined-first : (t : ℕ) → t ≤ count (tableOf a) → recordAt (tableOf (take n output)) t ≡ recordAt (tableOf a) t
+      joined-first t l = ap (λ (s : List ℕ). recordAt (tableOf s) t) joined-bytes ∙ join-first a b x y places work (length out) (told .0) t l
+
+      pub joined-second : (t : ℕ) → recordAt (tableOf (take n output)) (raise (count (tableOf a)) t) ≡ raised (tableOf a) (recordAt (tableOf b) t)
+      joined-second t = ap (λ (s : List ℕ). recordAt (tableOf s) (raise (count (tableOf a)) t)) joined-bytes ∙ join-second a b x y places work (length out) (told .0) t
+
+      -- every name is what it was
+      pub joined-names-first : (k : ℕ) → k < strLen a → nameAt (take n output) k ≡ nameAt a k
+      joined-names-first k l = ap (λ (s : List ℕ). nameAt s k) joined-bytes ∙ join-named-first a b x y places work (length out) (told .0) k l
+
+      pub joined-names-second : (k : ℕ) → k < strLen b → nameAt (take n output) (raise (strLen a - 1) k) ≡ nameAt b k
+      joined-names-second k l = ap (λ (s : List ℕ). nameAt s (raise (strLen a - 1) k)) joined-bytes ∙ join-named-second a b x y places work (length out) (told .0) k l
+
+      -- and every size, asked with the index that a check leaves
+      module _ (places′ work′ : ℕ) (enough : count (tableOf a) + count (tableOf b) < places′) (enough′ : count (tableOf a) + count (tableOf b) < work′) where
+        pub joined-sizes-first : (t : ℕ) → t ≤ count (tableOf a) → sizeOf (take n output) (gate (take n output) places′ work′ .index) t ≡ sizeOf a (gate a places work .index) t
+        joined-sizes-first t l =
+            ap (λ (s : List ℕ). sizeOf s (gate s places′ work′ .index) t) joined-bytes ∙ join-sized-first a b x y places work (length out) (told .0) places′ work′ enough enough′ t l
+
+        pub joined-sizes-second : (t : ℕ) → t ≤ count (tableOf b)
+            → sizeOf (take n output) (gate (take n output) places′ work′ .index) (raise (count (tableOf a)) t) ≡ sizeOf b (gate b places work .index) t
+        joined-sizes-second t l =
+            ap (λ (s : List ℕ). sizeOf s (gate s places′ work′ .index) (raise (count (tableOf a)) t)) joined-bytes
+            ∙ join-sized-second a b x y places work (length out) (told .0) places′ work′ enough enough′ t l
+
+-- any two results that the contract allows are the same, slice by slice
+pub join-one : {j j′ : Joined} {a b : List ℕ} {places work : ℕ} {out index index′ left left′ output output′ : List ℕ}
+    → JoinOf j a b places work out index left output → JoinOf j′ a b places work out index′ left′ output′
+    → (j ≡ j′) × (index ≡ index′) × (left ≡ left′) × (output ≡ output′)
+join-one {j} {j′} h k =
+    (joined-one j j′ (h .answers ∙ sym (k .answers)), h .indexes ∙ sym (k .indexes), h .works ∙ sym (k .works), h .outputs ∙ sym (k .outputs))
+
+-- ── grouping and neutrality, with slices of full size ──
+
+-- what a join in code hands back is what the paper's join of full size does
+module _ {a b out index left output : List ℕ} where
+  handed-full : (j : Joined) → JoinOf j a b fullPlaces fullPlaces out index left output → handedBack j output ≡ joinFull out a b
+  unfolding joinFull joinedAsPaper
+  handed-full j h =
+      by-answer j
+      ∙ ap₂ (λ (x : Answer) (s : List ℕ). cond (eqb (x .number) 0) (some (take (x .p) s)) none) (h .answers) (h .outputs)
+    where
+      by-answer : (k : Joined) → handedBack k output ≡ cond (eqb (joinedAsPaper k .number) 0) (some (take (joinedAsPaper k .p) output)) none
+      by-answer (Whole n) = refl
+      by-answer (FirstRefused r) = refl
+      by-answer (SecondRefused r) = refl
+      by-answer TooMany = refl
+      by-answer TooLong = refl
+      by-answer OutputShort = refl
+
+-- a run of `join` with slices of full size, into an output that holds these bytes before it
+pub record FullJoin (out a b : List ℕ) (j : Joined) (output : List ℕ) : Type 0 where
+  pub full : length out ≡ byteLimit
+  pub index : List ℕ
+  pub left : List ℕ
+  pub joins : JoinOf j a b fullPlaces fullPlaces out index left output
+
+-- three blobs joined in either grouping, by whatever runs, give the same bytes, or both groupings refuse
+pub join-grouping : (a b c : List ℕ) → Bytes a → Bytes b → Bytes c → {j₁ j₃ : Joined} {o₁ o₂ o₃ o₄ out₁ out₃ : List ℕ} {j₂ j₄ : List ℕ → Joined} {out₂ out₄ : List ℕ → List ℕ}
+    → FullJoin o₁ a b j₁ out₁ → ((ab : List ℕ) → FullJoin o₂ ab c (j₂ ab) (out₂ ab)) → FullJoin o₃ b c j₃ out₃ → ((bc : List ℕ) → FullJoin o₄ a bc (j₄ bc) (out₄ bc))
+    → andThen (handedBack j₁ out₁) (λ (ab : List ℕ). handedBack (j₂ ab) (out₂ ab)) ≡ andThen (handedBack j₃ out₃) (λ (bc : List ℕ). handedBack (j₄ bc) (out₄ bc))
+join-grouping a b c x y z {j₁} {j₃} {o₁} {o₂} {o₃} {o₄} {out₁} {out₃} {j₂} {j₄} {out₂} {out₄} f₁ f₂ f₃ f₄ =
+    (λ i. andThen (handed-full j₁ (f₁ .joins) i) (λ (ab : List ℕ). handed-full (j₂ ab) (f₂ ab .joins) i))
+    ∙ join-assoc o₁ o₂ o₃ o₄ (f₁ .full) (f₂ a .full) (f₃ .full) (f₄ a .full) a b c x y z
+    ∙ sym (λ i. andThen (handed-full j₃ (f₃ .joins) i) (λ (bc : List ℕ). handed-full (j₄ bc) (f₄ bc .joins) i))
+
+-- joined with the empty table, on either side, an accepted table comes back byte for byte
+module _ (b : List ℕ) (bytes : Bytes b) (p : refusal b fullPlaces fullPlaces ≡ none) {out : List ℕ} {j : Joined} {output : List ℕ} where
+  pub empty-left : FullJoin out (emptyBlob (orderOf b)) b j output → handedBack j output ≡ some b
+  empty-left f = handed-full j (f .joins) ∙ join-empty-left out (f .full) b bytes p
+
+  pub empty-right : FullJoin out b (emptyBlob (orderOf b)) j output → handedBack j output ≡ some b
+  empty-right f = handed-full j (f .joins) ∙ join-empty-right out (f .full) b bytes p
