@@ -1,0 +1,57 @@
+//! The tables of example/: accepted, sized and joined as their C text says.
+
+mod common;
+
+use common::{gate, joined};
+use second::{size, SizeAnswer};
+
+fn example(name: &str) -> Vec<u8> {
+    let path = format!("{}/../example/{name}", env!("CARGO_MANIFEST_DIR"));
+    std::fs::read(path).expect("a table of example/")
+}
+
+/// The sizes of some types of an accepted table.
+fn sizes(blob: &[u8], types: &[u32]) -> Vec<SizeAnswer> {
+    let mut index = vec![0; 4_097];
+    let mut work = index.clone();
+    second::check(blob, &mut index, &mut work).expect("accepted");
+    types
+        .iter()
+        .map(|number| size(blob, &index, *number))
+        .collect()
+}
+
+#[test]
+fn accepted() {
+    assert_eq!(gate(&example("blade.btf")), Ok(2));
+    assert_eq!(gate(&example("supplier_a.btf")), Ok(37));
+    assert_eq!(gate(&example("supplier_b.btf")), Ok(33));
+}
+
+/// What C says of them: a pointer, two structs named blade, the teeth; a
+/// function and what is only declared have no size.
+#[test]
+fn sized() {
+    use SizeAnswer::{Exact, NoSize};
+    let a = sizes(&example("supplier_a.btf"), &[1, 3, 7, 14, 17, 22]);
+    assert_eq!(
+        a,
+        [Exact(8), Exact(48), Exact(2), Exact(4), Exact(24), NoSize]
+    );
+    let b = sizes(&example("supplier_b.btf"), &[1, 9, 12, 18, 24, 27]);
+    assert_eq!(
+        b,
+        [Exact(2), Exact(64), Exact(8), NoSize, Exact(16), Exact(16)]
+    );
+}
+
+#[test]
+fn joined_in_both_groupings() {
+    let [x, y, z] = ["blade.btf", "supplier_a.btf", "supplier_b.btf"].map(example);
+    let left = joined(&joined(&x, &y), &z);
+    assert_eq!(left, joined(&x, &joined(&y, &z)));
+    assert_eq!(gate(&left), Ok(2 + 37 + 33));
+    assert_eq!(left.len(), x.len() + y.len() + z.len() - 50);
+    // supplier B's blade keeps its size behind the other two tables
+    assert_eq!(sizes(&left, &[2 + 37 + 9]), [SizeAnswer::Exact(64)]);
+}
