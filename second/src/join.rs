@@ -86,7 +86,11 @@ fn joined_blob(first: &Table, second: &Table) -> Vec<u8> {
         types.extend(words_of(record));
     }
     for record in &second.records {
-        types.extend(raised(record, first));
+        types.extend(raised(
+            record,
+            first.count(),
+            first.strings.len() as u32 - 1,
+        ));
     }
     let type_len = 4 * types.len() as u32;
     let str_len = (first.strings.len() + second.strings.len() - 1) as u32;
@@ -110,16 +114,16 @@ fn words_of(record: &Record) -> Vec<u32> {
 /// Every name offset but 0 rises by the first's strings less the shared zero
 /// byte, every type number but 0 by the first's type count. A DECL_TAG's
 /// component and all other words stay.
-fn raised(record: &Record, first: &Table) -> Vec<u32> {
+pub fn raised(record: &Record, types: u32, strings: u32) -> Vec<u32> {
     let mut words = words_of(record);
     for at in name_words(record) {
         if words[at] != 0 {
-            words[at] += first.strings.len() as u32 - 1;
+            words[at] += strings;
         }
     }
     for reference in references(record) {
         if reference.to != 0 {
-            words[reference.word] += first.count();
+            words[reference.word] += types;
         }
     }
     words

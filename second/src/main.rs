@@ -1,13 +1,15 @@
 //! The command line of the second implementation of paper 01.
 //!
-//!     second vectors --seed S --cases N [--ops 1,2,3,4] [--small] [--only R]
+//!     second vectors --seed S --cases N [--ops 1,2,3,4] [--small|--long] [--only R]
 //!     second antt    --seed S --cases N [--ops 1,2,3,4] [--only R]
-//!     second census  --seed S --cases N [--ops 1,2,3,4] [--small]
+//!     second census  --seed S --cases N [--ops 1,2,3,4] [--small|--long]
 //!     second check FILE
 //!
 //! With `--edges` the first three put the fixed cases of every rule's edges in
 //! front; without a count, those are all. With `--thin` they cross fewer of the
 //! edges with each other. `--large` puts the fixed large tables before them.
+//! A seed's cases are mostly small, with some at the limits; with `--small` no
+//! limit is reached, with `--long` checks and joins are of long tables only.
 
 use second::generate::{cases, Scale, Wanted};
 use second::report::meaning;
@@ -17,12 +19,13 @@ use std::io::Write;
 use std::process::ExitCode;
 
 const USAGE: &str = "\
-second vectors --seed S --cases N [--ops 1,2,3,4] [--small] [--only R]
+second vectors --seed S --cases N [--ops 1,2,3,4] [--small|--long] [--only R]
 second antt    --seed S --cases N [--ops 1,2,3,4] [--only R]
-second census  --seed S --cases N [--ops 1,2,3,4] [--small]
+second census  --seed S --cases N [--ops 1,2,3,4] [--small|--long]
 second check FILE
 (--edges: the fixed cases of every rule's edges in front, and nothing else without --cases;
---thin: fewer of them crossed with each other; --large: the fixed large tables before them)";
+--thin: fewer of them crossed with each other; --large: the fixed large tables before them;
+--small: no limit is reached; --long: checks and joins of long tables only)";
 
 fn main() -> ExitCode {
     let arguments: Vec<String> = std::env::args().skip(1).collect();
@@ -69,24 +72,8 @@ fn wanted(arguments: &[String]) -> Result<Wanted, String> {
     let mut count = None;
     let mut rest = arguments.iter();
     while let Some(argument) = rest.next() {
-        match argument.as_str() {
-            "--small" => {
-                wanted.scale = Scale::Small;
-                continue;
-            }
-            "--edges" => {
-                wanted.edges = true;
-                continue;
-            }
-            "--thin" => {
-                wanted.thin = true;
-                continue;
-            }
-            "--large" => {
-                wanted.large = true;
-                continue;
-            }
-            _ => {}
+        if is_flag(&mut wanted, argument) {
+            continue;
         }
         let value = rest.next().ok_or(USAGE)?;
         let numbers: Result<Vec<u64>, _> = value.split(',').map(str::parse).collect();
@@ -104,6 +91,19 @@ fn wanted(arguments: &[String]) -> Result<Wanted, String> {
         return Err("ops are 1, 2, 3 and 4".to_string());
     }
     Ok(wanted)
+}
+
+/// A word that stands by itself, and what it asks for.
+fn is_flag(wanted: &mut Wanted, argument: &str) -> bool {
+    match argument {
+        "--small" => wanted.scale = Scale::Small,
+        "--long" => wanted.scale = Scale::Long,
+        "--edges" => wanted.edges = true,
+        "--thin" => wanted.thin = true,
+        "--large" => wanted.large = true,
+        _ => return false,
+    }
+    true
 }
 
 /// How many cases there are of each op and answer.

@@ -1,7 +1,7 @@
 //! The rules one by one at their edges, without chance: every bit of an info
 //! word, every byte of a name, every reference to every kind.
 
-use crate::generate::{edges_layout, edges_names, edges_questions, edges_walks};
+use crate::generate::{edges_joins, edges_layout, edges_names, edges_questions, edges_walks};
 use crate::make::{blob_of, info, int_word, put_word, Make};
 use crate::reference::references;
 use crate::table::{Kind, ALL_KINDS};
@@ -26,6 +26,7 @@ pub fn cases(thin: bool) -> Vec<Case> {
     edges_walks::cases(&mut found);
     edges_layout::cases(&mut found, thin);
     edges_questions::cases(&mut found);
+    edges_joins::cases(&mut found);
     let mut met = HashSet::new();
     found.retain(|case| met.insert(case.clone()));
     found

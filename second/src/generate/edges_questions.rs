@@ -1,10 +1,10 @@
-//! Sizes, names and joins at their edges, without chance.
+//! Sizes and names at their edges, without chance.
 
 use crate::generate::edges::one_of;
 use crate::generate::pieces::index_of;
 use crate::make::{put_word, Make};
-use crate::table::{Kind, ALL_KINDS};
-use crate::vectors::{bytes_of, Case, JOIN, NAME, SIZE};
+use crate::table::Kind;
+use crate::vectors::{bytes_of, Case, NAME, SIZE};
 
 pub fn cases(found: &mut Vec<Case>) {
     benches(found);
@@ -14,7 +14,6 @@ pub fn cases(found: &mut Vec<Case>) {
     index_lengths(found);
     products(found);
     name_offsets(found);
-    joins(found);
 }
 
 /// The paper's benches that are sizes and names: T, a pointer to itself,
@@ -158,34 +157,5 @@ fn name_offsets(found: &mut Vec<Case>) {
         let mut turned = blob.clone();
         turned[at] ^= 1;
         ask_name(found, &turned, 1);
-    }
-}
-
-/// Every kind joined behind every other, and each output length in turn.
-fn joins(found: &mut Vec<Case>) {
-    let call = |a: &[u8], b: &[u8], places: u32, output_bytes: u32| Case {
-        op: JOIN,
-        index_places: places,
-        work_places: places,
-        output_bytes,
-        x: 0,
-        a: a.to_vec(),
-        b: b.to_vec(),
-    };
-    for first in ALL_KINDS {
-        for second in ALL_KINDS {
-            let (a, b) = (one_of(first).blob(), one_of(second).blob());
-            let joined = (a.len() + b.len() - 25) as u32;
-            found.push(call(&a, &b, 6, joined + 2));
-        }
-    }
-    let (e, t) = (Make::new().blob(), one_of(Kind::Struct).blob());
-    for (a, b) in [(&e, &t), (&t, &e), (&e, &e)] {
-        let joined = (a.len() + b.len() - 25) as u32;
-        for output_bytes in [0, joined - 1, joined, joined + 1] {
-            for places in [0, 1, 5, 6, 7] {
-                found.push(call(a, b, places, output_bytes));
-            }
-        }
     }
 }

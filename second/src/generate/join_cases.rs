@@ -7,7 +7,7 @@ use crate::make::Make;
 use crate::vectors::{run, Case, JOIN};
 
 pub fn case(r: &mut Random, scale: Scale) -> Case {
-    let ground = r.pick(&[0, 0, 16, 16, 17, 17, 18, 19, 20]);
+    let ground = r.pick(&[0, 0, 0, 0, 0, 16, 16, 17, 17, 18, 19, 20]);
     if ground == 18 || ground == 19 {
         if scale != Scale::Full || !r.one_in(3) {
             return case(r, scale);

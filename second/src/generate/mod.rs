@@ -7,6 +7,7 @@ pub mod damage_layout;
 pub mod damage_references;
 pub mod damage_words;
 pub mod edges;
+pub mod edges_joins;
 pub mod edges_layout;
 pub mod edges_names;
 pub mod edges_questions;
@@ -16,6 +17,8 @@ pub mod grow_members;
 pub mod join_cases;
 pub mod large;
 pub mod large_fixed;
+pub mod large_joins;
+pub mod long;
 pub mod name_cases;
 pub mod pieces;
 pub mod random;
@@ -35,6 +38,8 @@ pub enum Scale {
     Small,
     /// Mostly small, some at the limits.
     Full,
+    /// Checks and joins of long tables only; the rest as at full scale.
+    Long,
 }
 
 /// Which cases are wanted.
@@ -60,6 +65,7 @@ pub fn cases(wanted: &Wanted) -> Vec<Case> {
     let mut found = Vec::new();
     if wanted.large {
         found.extend(large_fixed::cases());
+        found.extend(large_joins::cases());
     }
     if wanted.edges {
         // at every scale: an edge left out is a rule that is not tried
@@ -95,11 +101,13 @@ fn one(r: &mut Random, wanted: &Wanted) -> Case {
         .into_iter()
         .filter(|op| wanted.ops.contains(op))
         .collect();
-    match r.pick(&open) {
-        CHECK => check_cases::case(r, wanted.scale),
-        SIZE => size_cases::case(r, wanted.scale),
-        NAME => name_cases::case(r, wanted.scale),
-        _ => join_cases::case(r, wanted.scale),
+    match (r.pick(&open), wanted.scale) {
+        (CHECK, Scale::Long) => long::check(r),
+        (JOIN, Scale::Long) => long::join(r),
+        (CHECK, scale) => check_cases::case(r, scale),
+        (SIZE, scale) => size_cases::case(r, scale),
+        (NAME, scale) => name_cases::case(r, scale),
+        (_, scale) => join_cases::case(r, scale),
     }
 }
 

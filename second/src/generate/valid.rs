@@ -29,7 +29,7 @@ fn grown(r: &mut Random, scale: Scale) -> Make {
     let most = match scale {
         Scale::Tiny => 2,
         Scale::Small => 6,
-        Scale::Full => r.pick(&[4, 6, 8, 30]),
+        Scale::Full | Scale::Long => r.pick(&[4, 6, 8, 30]),
     };
     if r.one_in(3) {
         let text = r.pick(&["ab", "a_1", "x9y", "int"]);
@@ -43,7 +43,7 @@ fn grown(r: &mut Random, scale: Scale) -> Make {
 }
 
 /// Pointers may lead anywhere plain: forward, back, to themselves.
-fn turn_pointers(r: &mut Random, m: &mut Make) {
+pub fn turn_pointers(r: &mut Random, m: &mut Make) {
     let ends = types_where(m, |number| kind_of(m, number).is_some_and(is_plain));
     for number in 1..=m.count() {
         if kind_of(m, number) == Some(Kind::Ptr) && r.one_in(2) {

@@ -1,0 +1,152 @@
+//! Long tables of every kind and shape, and cases of them: small accepted
+//! tables behind each other, then renumbered and pointing anywhere.
+
+use crate::generate::check_cases::damage;
+use crate::generate::edges_joins::{call, length};
+use crate::generate::large::padded;
+use crate::generate::pieces::table_of;
+use crate::generate::random::Random;
+use crate::generate::{damage_bytes, valid, Scale};
+use crate::join::raised;
+use crate::make::{Make, Raw};
+use crate::vectors::{Case, CHECK};
+
+/// An accepted table of at most so many bytes, and nearly as many.
+pub fn table(r: &mut Random, bytes: usize) -> Make {
+    let mut m = Make::new();
+    let mut length = m.blob().len();
+    loop {
+        let part = valid::table(r, Scale::Small);
+        length += part.blob().len() - 25;
+        if length > bytes {
+            break;
+        }
+        put_behind(&mut m, &part);
+    }
+    valid::turn_pointers(r, &mut m);
+    if r.one_in(2) {
+        valid::shuffle(r, &mut m);
+    }
+    m
+}
+
+/// Adds the records and strings of another table, raised.
+fn put_behind(m: &mut Make, part: &Make) {
+    let Some(table) = table_of(part) else {
+        return;
+    };
+    let (types, strings) = (m.count(), m.strings.len() as u32 - 1);
+    for record in &table.records {
+        let words = raised(record, types, strings);
+        m.records.push(Raw {
+            name: words[0],
+            info: words[1],
+            third: words[2],
+            tail: words[3..].to_vec(),
+        });
+    }
+    m.strings.extend(&part.strings[1..]);
+}
+
+/// A check of a long table, accepted or with one damage.
+pub fn check(r: &mut Random) -> Case {
+    let bytes = r.between(10_000, 65_536) as usize;
+    let m = table(r, bytes);
+    let places = m.count() + 1;
+    let a = if r.one_in(2) { m.blob() } else { damaged(r, m) };
+    Case {
+        op: CHECK,
+        index_places: places,
+        work_places: places,
+        a,
+        ..Case::default()
+    }
+}
+
+/// A long table with one of the reports 2 to 7 and 10 to 15, most likely.
+fn damaged(r: &mut Random, mut m: Make) -> Vec<u8> {
+    match r.pick(&[2, 3, 4, 5, 6, 7, 10, 11, 12, 13, 14, 15]) {
+        6 => damage_bytes::cut_records(r, &mut m),
+        7 => damage_bytes::unknown_kind(r, &mut m),
+        number if number >= 10 => {
+            damage(r, &mut m, number);
+            m.blob()
+        }
+        number => {
+            let mut blob = m.blob();
+            damage_bytes::phase_1(r, &mut blob, number);
+            blob
+        }
+    }
+}
+
+/// Two long tables, most of them joined; else one of the five grounds.
+pub fn join(r: &mut Random) -> Case {
+    match r.pick(&[0, 0, 0, 0, 0, 16, 17, 18, 19, 20]) {
+        16 => {
+            let (a, b) = pair(r, 65_536);
+            let a = damaged(r, a);
+            lend(r, a, b.blob(), 0)
+        }
+        17 => {
+            let (a, b) = pair(r, 65_536);
+            let b = damaged(r, b);
+            lend(r, a.blob(), b, 0)
+        }
+        18 => around_type_limit(r),
+        19 => {
+            let together = r.pick(&[65_536, 65_537, 65_537, 65_538, 70_000]);
+            around_byte_limit(r, together, 0)
+        }
+        20 => {
+            let short = r.pick(&[1, 1, 2, 1_000]);
+            around_byte_limit(r, 65_536, short)
+        }
+        _ => {
+            let together = r.between(30_000, 65_536) as usize;
+            let (a, b) = pair(r, together);
+            lend(r, a.blob(), b.blob(), 0)
+        }
+    }
+}
+
+/// Two tables of at most so many bytes when joined.
+fn pair(r: &mut Random, together: usize) -> (Make, Make) {
+    let first = r.between(1_000, together as u32 - 1_000) as usize;
+    let a = table(r, first);
+    let b = table(r, together + 25 - a.blob().len());
+    (a, b)
+}
+
+/// 4,096 types together, or a few more: pointers fill up what is missing.
+fn around_type_limit(r: &mut Random) -> Case {
+    let together = r.pick(&[4_095, 4_096, 4_096, 4_097, 4_097, 4_098]);
+    let (mut a, mut b) = pair(r, 12_000);
+    let missing = together - a.count() - b.count();
+    let first = r.below(missing);
+    for number in 0..missing {
+        let m = if number < first { &mut a } else { &mut b };
+        m.ptr(0);
+        let ends = m.count();
+        m.at(ends).third = if r.one_in(2) { ends } else { 0 };
+    }
+    lend(r, a.blob(), b.blob(), 0)
+}
+
+/// Strings fill up to this joined length; the output is so much shorter.
+fn around_byte_limit(r: &mut Random, together: usize, short: u32) -> Case {
+    let (a, b) = pair(r, 65_536);
+    let rest = together + 25 - a.blob().len();
+    lend(r, a.blob(), padded(&b, rest.min(65_536)), short)
+}
+
+/// Full slices, and an output of the joined length, longer, or shorter.
+fn lend(r: &mut Random, a: Vec<u8>, b: Vec<u8>, short: u32) -> Case {
+    let joined = length(&a, &b);
+    let output_bytes = match short {
+        0 => joined + r.pick(&[0, 0, 1, 100]),
+        _ => joined.saturating_sub(short),
+    };
+    let places = r.pick(&[4_097, 4_097, 5_000]);
+    call(&a, &b, places, output_bytes.min(70_000))
+}
