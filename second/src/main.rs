@@ -6,8 +6,8 @@
 //!     second check FILE
 //!
 //! With `--edges` the first three put the fixed cases of every rule's edges in
-//! front; without a count, those are all. With `--thin` they cross fewer of the
-//! edges with each other. `--large` puts the fixed large tables before them.
+//! front; without a count, those are all. `--large` puts the fixed large tables
+//! before them. With `--thin` fewer of both are crossed with each other.
 //! A seed's cases are mostly small, with some at the limits; with `--small` no
 //! limit is reached, with `--long` checks and joins are of long tables only.
 
@@ -24,7 +24,7 @@ second antt    --seed S --cases N [--ops 1,2,3,4] [--only R]
 second census  --seed S --cases N [--ops 1,2,3,4] [--small|--long]
 second check FILE
 (--edges: the fixed cases of every rule's edges in front, and nothing else without --cases;
---thin: fewer of them crossed with each other; --large: the fixed large tables before them;
+--large: the fixed large tables before them; --thin: fewer of both crossed with each other;
 --small: no limit is reached; --long: checks and joins of long tables only)";
 
 fn main() -> ExitCode {

@@ -43,7 +43,7 @@ fn due(case: &Case) -> Vec<u32> {
 #[test]
 fn first_ground_speaks() {
     let mut met = Vec::new();
-    for case in small().into_iter().chain(large_joins::cases()) {
+    for case in small().into_iter().chain(large_joins::cases(false)) {
         let due = due(&case);
         let seen = run(&case);
         assert_eq!(seen.number, due.first().copied().unwrap_or(0));
@@ -81,7 +81,7 @@ fn every_report_inside_16_and_17() {
         .map(run)
         .map(|s| (s.number, s.inner))
         .collect();
-    let large: Vec<(u32, u32)> = large_joins::cases()
+    let large: Vec<(u32, u32)> = large_joins::cases(false)
         .iter()
         .map(run)
         .map(|seen| (seen.number, seen.inner))
@@ -94,11 +94,21 @@ fn every_report_inside_16_and_17() {
     }
 }
 
+/// A short file has every ground and the limits too.
+#[test]
+fn thinned_limits() {
+    let seen: Vec<_> = large_joins::cases(true).iter().map(run).collect();
+    let numbers: Vec<u32> = seen.iter().map(|seen| seen.number).collect();
+    assert_eq!(numbers, [16, 17, 0, 18, 0, 20, 19]);
+    assert_eq!([seen[0].inner, seen[1].inner], [8, 8]);
+    assert_eq!(seen[4].p, 65_536);
+}
+
 /// 4,096 types and 65,536 bytes are joined, one more of either is refused.
 #[test]
 fn limits_are_met_exactly() {
     let mut met = Vec::new();
-    for case in large_joins::cases() {
+    for case in large_joins::cases(false) {
         assert!(case.a.len() <= 70_000 && case.b.len() <= 70_000);
         assert!(case.index_places <= 5_000 && case.output_bytes <= 70_000);
         let [a, b] = [&case.a, &case.b].map(|blob| report_of(blob, 5_000, 5_000));

@@ -83,7 +83,7 @@ fn benches_that_no_proof_computes() {
 /// What a case may lend: 5,000 places and 70,000 bytes.
 #[test]
 fn cases_keep_the_limits_of_a_file() {
-    let all = cases();
+    let all = cases(false);
     assert!(all
         .iter()
         .all(|case| case.a.len() <= 70_000 && case.b.len() <= 70_000));

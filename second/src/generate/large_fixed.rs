@@ -11,8 +11,9 @@ use crate::vectors::{bytes_of, Case, CHECK, NAME, SIZE};
 const PLACES: u32 = 4_097;
 
 /// All of them: each table is checked, the sizes of its first and last types
-/// are asked where it is accepted, and its names at both ends.
-pub fn cases() -> Vec<Case> {
+/// are asked where it is accepted, and its names at both ends. Thinned, the
+/// tables at the two limits are checked.
+pub fn cases(thin: bool) -> Vec<Case> {
     let tables = [
         pointers(4_096).blob(),
         pointers(4_097).blob(),
@@ -34,18 +35,25 @@ pub fn cases() -> Vec<Case> {
         arrays_of_arrays().blob(),
         products().blob(),
     ];
+    if thin {
+        return tables[..4].iter().map(|blob| checked(blob)).collect();
+    }
     tables.iter().flat_map(|blob| asked(blob)).collect()
 }
 
-/// The questions that a table is asked.
-fn asked(blob: &[u8]) -> Vec<Case> {
-    let mut found = vec![Case {
+fn checked(blob: &[u8]) -> Case {
+    Case {
         op: CHECK,
         index_places: PLACES,
         work_places: PLACES,
         a: blob.to_vec(),
         ..Case::default()
-    }];
+    }
+}
+
+/// The questions that a table is asked.
+fn asked(blob: &[u8]) -> Vec<Case> {
+    let mut found = vec![checked(blob)];
     let mut index = vec![0; PLACES as usize];
     let mut work = index.clone();
     if let Ok(count) = check(blob, &mut index, &mut work) {

@@ -12,8 +12,12 @@ use crate::vectors::Case;
 const PLACES: u32 = 4_097;
 const BYTES: u32 = 65_536;
 
-pub fn cases() -> Vec<Case> {
-    let mut found = Vec::new();
+/// All of them. Thinned, the joins at the two limits and one past each.
+pub fn cases(thin: bool) -> Vec<Case> {
+    if thin {
+        return limits();
+    }
+    let mut found = limits();
     too_many_inside(&mut found);
     around_type_limit(&mut found);
     around_byte_limit(&mut found);
@@ -24,6 +28,22 @@ pub fn cases() -> Vec<Case> {
         found.extend(grouped(&a, &b, &c, PLACES));
     }
     found
+}
+
+/// Report 8 inside, 4,096 types together and one more, 65,536 bytes and one
+/// more, and an output that is one byte too short for them.
+fn limits() -> Vec<Case> {
+    let [none, one, most, over] = [0, 1, 4_096, 4_097].map(|count| pointers(count).blob());
+    let (first, second, longer) = (long(30_000), long(35_561), long(35_562));
+    vec![
+        call(&over, &none, PLACES, 70_000),
+        call(&none, &over, PLACES, 70_000),
+        call(&one, &pointers(4_095).blob(), PLACES, BYTES),
+        call(&most, &one, PLACES, BYTES),
+        call(&first, &second, PLACES, BYTES),
+        call(&first, &second, PLACES, BYTES - 1),
+        call(&first, &longer, PLACES, 70_000),
+    ]
 }
 
 /// Report 8 inside 16 and 17, before whatever else is due.

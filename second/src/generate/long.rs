@@ -80,9 +80,10 @@ fn damaged(r: &mut Random, mut m: Make) -> Vec<u8> {
     }
 }
 
-/// Two long tables, most of them joined; else one of the five grounds.
+/// Two long tables, most of them joined; else 9 inside or one of the grounds.
 pub fn join(r: &mut Random) -> Case {
-    match r.pick(&[0, 0, 0, 0, 0, 16, 17, 18, 19, 20]) {
+    match r.pick(&[0, 0, 0, 0, 0, 0, 9, 16, 17, 18, 19, 20]) {
+        9 => with_places(r, 0),
         16 => {
             let (a, b) = pair(r, 65_536);
             let a = damaged(r, a);
@@ -102,11 +103,18 @@ pub fn join(r: &mut Random) -> Case {
             let short = r.pick(&[1, 1, 2, 1_000]);
             around_byte_limit(r, 65_536, short)
         }
-        _ => {
-            let together = r.between(30_000, 65_536) as usize;
-            let (a, b) = pair(r, together);
-            lend(r, a.blob(), b.blob(), 0)
-        }
+        _ => with_places(r, 1),
+    }
+}
+
+/// Places for all types of the larger table and so many more: 1 is enough.
+fn with_places(r: &mut Random, more: u32) -> Case {
+    let together = r.between(30_000, 65_536) as usize;
+    let (a, b) = pair(r, together);
+    let places = a.count().max(b.count()) + more;
+    Case {
+        index_places: places,
+        ..lend(r, a.blob(), b.blob(), 0)
     }
 }
 

@@ -64,8 +64,8 @@ const MOST_TRIES: usize = 20_000;
 pub fn cases(wanted: &Wanted) -> Vec<Case> {
     let mut found = Vec::new();
     if wanted.large {
-        found.extend(large_fixed::cases());
-        found.extend(large_joins::cases());
+        found.extend(large_fixed::cases(wanted.thin));
+        found.extend(large_joins::cases(wanted.thin));
     }
     if wanted.edges {
         // at every scale: an edge left out is a rule that is not tried
