@@ -6,6 +6,7 @@ use lib.Dec.{eqb}
 use lib.ListN.{length}
 use Rattle.paper.specs.Answer as paper
 use Rattle.paper.specs.Gate.{gate}
+use Rattle.paper.specs.Join.{join}
 use Rattle.paper.specs.Name.{nameless, nameAt}
 use Rattle.paper.specs.Word.{lowFirst, wordAt, bytesOfWords}
 use Rattle.replay.specs.Sum.{sumOf}
@@ -86,3 +87,8 @@ seenWith r index work output =
 abbrev pub checkSeen : List ℕ → ℕ → ℕ → List ℕ → Seen
 checkSeen a places workPlaces output =
     seenWith (gate a places workPlaces .answer) (gate a places workPlaces .index) (gate a places workPlaces .work) output
+
+-- op 4: what is seen of a join into an output of these bytes, its answer and all three slices as the join leaves them
+abbrev pub joinSeen : List ℕ → List ℕ → ℕ → ℕ → List ℕ → Seen
+joinSeen a b places workPlaces output =
+    seenWith (join a b places workPlaces output .answer) (join a b places workPlaces output .index) (join a b places workPlaces output .work) (join a b places workPlaces output .output)

@@ -2,22 +2,20 @@
 use Prim.Native.Nat.{ℕ, _+_}
 use mathlib.Core.Path.{_≡_}
 use Rattle.replay.specs.declared.tally.Outcome.{Outcome}
-use Rattle.replay.specs.declared.tally.Outcome.the-variants.{Agreed, Differed, Waits}
+use Rattle.replay.specs.declared.tally.Outcome.the-variants.{Agreed, Differed}
 use Rattle.replay.specs.declared.tally.Tally.{Tally}
 
 abbrev pub ran : Tally → ℕ
-ran t = t .agreed + t .differed + t .waiting
+ran t = t .agreed + t .differed
 
 -- 1 where a case came to the outcome that a count is of
 abbrev pub agrees : Outcome → ℕ
 agrees Agreed = 1
 agrees Differed = 0
-agrees Waits = 0
 
 abbrev pub differs : Outcome → ℕ
 differs Agreed = 0
 differs Differed = 1
-differs Waits = 0
 
 -- each case is counted once, under its own outcome
 pub record Counted (t r : Tally) (o : Outcome) : Type 0 where

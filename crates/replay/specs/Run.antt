@@ -7,11 +7,11 @@ use lib.ListN.{replicate}
 use Rattle.paper.specs.Name.{nameAt}
 use Rattle.paper.specs.Size.{sizeOf}
 use Rattle.paper.specs.Word.{lowFirst, words}
-use Rattle.replay.specs.Case.{checkSeen, named, sameSeen, seenWith}
+use Rattle.replay.specs.Case.{checkSeen, joinSeen, named, sameSeen, seenWith}
 use Rattle.replay.specs.declared.cases.Head.{Head}
 use Rattle.replay.specs.declared.cases.Seen.{Seen}
 use Rattle.replay.specs.declared.ops.Ran.{Ran}
-use Rattle.replay.specs.declared.ops.Ran.the-variants.{Saw, Waits, Unknown}
+use Rattle.replay.specs.declared.ops.Ran.the-variants.{Saw, Unknown}
 use Rattle.replay.specs.declared.tally.Outcome as outcome
 use Rattle.replay.specs.declared.tally.Outcome.the-variants as is
 
@@ -30,16 +30,15 @@ sizeSeen h a b index work output = seenWith (sizeOf a (words lowFirst b) (h .x))
 abbrev pub nameSeen : Head → List ℕ → ℕ → ℕ → Seen
 nameSeen h a index work = seenWith (named a (h .x)) (lentPlaces index) (lentPlaces work) (nameAt a (h .x))
 
--- by op; the join waits
+-- by op
 unfoldable pub runOf : Head → List ℕ → List ℕ → ℕ → ℕ → ℕ → Ran
 runOf h a b index work output =
     cond (eqb (h .op) 1) (Saw (checkSeen a index work (lentBytes output)))
     (cond (eqb (h .op) 2) (Saw (sizeSeen h a b index work output))
     (cond (eqb (h .op) 3) (Saw (nameSeen h a index work))
-    (cond (eqb (h .op) 4) Waits Unknown)))
+    (cond (eqb (h .op) 4) (Saw (joinSeen a b index work (lentBytes output))) Unknown)))
 
 -- what was seen agrees where it is what must be; an op that there is not differs
 abbrev pub outcomeOf : Seen → Ran → outcome.Outcome
 outcomeOf must (Saw seen) = cond (sameSeen must seen) is.Agreed is.Differed
-outcomeOf must Waits = is.Waits
 outcomeOf must Unknown = is.Differed

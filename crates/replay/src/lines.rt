@@ -73,10 +73,6 @@ pub(crate) fn more() {
 }
 
 pub(crate) fn last(t: Tally) {
-    if 0 < t.waiting {
-        number(t.waiting);
-        text(b" not yet\n");
-    }
     number(t.agreed);
     text(b" agreed, ");
     number(t.differed);

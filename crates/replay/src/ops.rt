@@ -3,6 +3,7 @@ use crate::cases::Head;
 use crate::cases::Seen;
 use crate::sums;
 use paper::Checked;
+use paper::Joined;
 use paper::NameOff;
 use paper::Report;
 use paper::Sized;
@@ -10,10 +11,10 @@ use paper::TypeNo;
 ghost use mathlib.Core.Path.{_≡_};
 ghost use Prim.Native.Nat.{_/_, _<_};
 ghost use lib.ListN.{length};
-ghost use Rattle.paper.specs.Answer.{checkedAsPaper, report, reportAsPaper, sizedAsPaper};
+ghost use Rattle.paper.specs.Answer.{checkedAsPaper, inside, joinedAsPaper, report, reportAsPaper, sizedAsPaper};
 ghost use Rattle.paper.specs.Name.{nameAt};
 ghost use Rattle.paper.specs.Size.{sizeOf};
-ghost use Rattle.replay.specs.Case.{asPaper, checkSeen, named, plainly, seenWith};
+ghost use Rattle.replay.specs.Case.{asPaper, checkSeen, joinSeen, named, plainly, seenWith};
 ghost use Rattle.replay.specs.Run.{runOf};
 
 // What a call answers, in the paper's numbers.
@@ -24,10 +25,9 @@ struct Answer {
     p: u32,
 }
 
-// What running a case gives: what was seen, or that the op is not there yet, or that there is no such op.
+// What running a case gives: what was seen, or that there is no such op.
 pub(crate) enum Ran {
     Saw(Seen),
-    Waits,
     Unknown,
 }
 
@@ -141,7 +141,40 @@ fn name(x: u32, a: &[u8], index: &[u32], work: &[u32]) -> Seen
     seen(plain(0, p), index, work, part)
 }
 
-// A case by its op. The join waits for its entry point.
+// A refusal that carries another answer's number, type and place.
+fn holding(number: u32, r: Answer) -> Answer
+    ensures { λ s. ⌜ asPaper s ≡ inside number (asPaper r) ⌝ }
+{
+    Answer {
+        number,
+        inner: r.number,
+        t: r.t,
+        p: r.p,
+    }
+}
+
+fn joined(j: Joined) -> Answer
+    ensures { λ s. ⌜ asPaper s ≡ joinedAsPaper j ⌝ }
+{
+    match j {
+        Joined::Whole(p) => plain(0, p),
+        Joined::FirstRefused(r) => holding(16, reported(r)),
+        Joined::SecondRefused(r) => holding(17, reported(r)),
+        Joined::TooMany => told(18, 0),
+        Joined::TooLong => told(19, 0),
+        Joined::OutputShort => told(20, 0),
+    }
+}
+
+// Op 4: a and b joined into the output, with all three slices as the join leaves them.
+fn join(a: &[u8], b: &[u8], index: &mut [u32], work: &mut [u32], output: &mut [u8]) -> Seen
+    ensures { λ s. ⌜ s ≡ joinSeen (now (a .entry)) (now (b .entry)) (length (now (index .entry))) (length (now (work .entry))) (now (output .entry)) ⌝ }
+{
+    let answer = joined(join::join(a, b, index, work, output));
+    seen(answer, index, work, output)
+}
+
+// A case by its op.
 pub(crate) fn run(
     h: Head,
     a: &[u8],
@@ -165,7 +198,7 @@ pub(crate) fn run(
             Ran::Saw(size(h.x, a, given, index, work, output))
         }
         3 => Ran::Saw(name(h.x, a, index, work)),
-        4 => Ran::Waits,
+        4 => Ran::Saw(join(a, b, index, work, output)),
         _ => Ran::Unknown,
     }
 }

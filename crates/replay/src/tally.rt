@@ -3,11 +3,10 @@ ghost use mathlib.Core.Path.{_≡_};
 ghost use Prim.Native.Nat.{_<_};
 ghost use Rattle.replay.specs.Count.{Counted, ran};
 
-// A case that ran agreed or differed, or waits for its op.
+// A case that ran agreed or differed.
 pub(crate) enum Outcome {
     Agreed,
     Differed,
-    Waits,
 }
 
 // A case ran, or the input ends inside it, or it asks for more than the buffers hold.
@@ -21,7 +20,6 @@ pub(crate) enum Turn {
 pub(crate) struct Tally {
     pub agreed: u32,
     pub differed: u32,
-    pub waiting: u32,
     pub is_whole: bool,
 }
 
@@ -32,7 +30,6 @@ impl Tally {
         Self {
             agreed: 0,
             differed: 0,
-            waiting: 0,
             is_whole: true,
         }
     }
@@ -53,7 +50,6 @@ impl Tally {
         match o {
             Outcome::Agreed => self.agreed += 1,
             Outcome::Differed => self.differed += 1,
-            Outcome::Waits => self.waiting += 1,
         }
         self
     }

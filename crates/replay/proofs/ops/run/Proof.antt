@@ -1,6 +1,6 @@
--- `replay::ops::run` meets its contract: each op's answer, with the sums of the slices as they were filled.
+-- `replay::ops::run` meets its contract: each op's answer, with the sums of the slices as they were filled or left.
 -- Assumes nothing.
-use Rattle.replay.proofs.Runs.{run-check, run-waits, run-unknown, run-size, run-name}
+use Rattle.replay.proofs.Runs.{run-check, run-size, run-name, run-join, run-unknown}
 use borrow.Author.Needs.{needs}
 use Rattle.replay.proofs.ops.run.Statement.{statement}
 use Rattle.replay.proofs.ops.run.Tie as tie
@@ -25,6 +25,9 @@ size-requires c κs = search needs
 
 name-requires : tie.Need-name-requires
 name-requires c κs = search needs
+
+join-requires : tie.Need-join-requires
+join-requires c κs = search needs
 
 same-length : tie.Need-same-length
 same-length c = search needs
@@ -84,7 +87,11 @@ same-length-13 : tie.Need-same-length-13
 same-length-13 c = search needs
 
 returns-4 : tie.Need-returns-4
-returns-4 c = run-waits _ _ _ _ _ _ (c .match .keys4)
+returns-4 c =
+    let called = c .before .before .before .before .before .before in
+    let m = called .before .before .before .before in
+    run-join _ _ _ _ _ _ (m .match .keys4) (called .join .ensures)
+    (m .before .before .before .before .before .before .before .before .before .before .before .fill-places .kept .0) (m .before .before .before .before .before .before .before .fill-places2 .kept .0) (m .before .before .before .fill-bytes .ensures)
 
 same-length-14 : tie.Need-same-length-14
 same-length-14 c = search needs
@@ -109,6 +116,7 @@ run-spec =
     places-requires
     size-requires
     name-requires
+    join-requires
     same-length
     same-length-2
     same-length-3

@@ -17,31 +17,11 @@ enum-told-2 c = search needs
 add-self-2 : tie.Need-add-self-2
 add-self-2 c = search needs
 
-enum-told-3 : tie.Need-enum-told-3
-enum-told-3 c = search needs
-
-add-self-3 : tie.Need-add-self-3
-add-self-3 c = search needs
-
 returns : tie.Need-returns
 returns c = rw (c .before .enum-told .given .1) (record { once = omega arith; agreed = omega arith; differed = omega arith })
 
 returns-2 : tie.Need-returns-2
 returns-2 c = rw (c .before .enum-told2 .given .1) (record { once = omega arith; agreed = omega arith; differed = omega arith })
 
-returns-3 : tie.Need-returns-3
-returns-3 c = rw (c .before .enum-told3 .given .1) (record { once = omega arith; agreed = omega arith; differed = omega arith })
-
 pub counted-spec : {M : Type 1} → statement M
-counted-spec =
-    tie.close
-    (tie.spec
-    enum-told
-    add-self
-    enum-told-2
-    add-self-2
-    enum-told-3
-    add-self-3
-    returns
-    returns-2
-    returns-3)
+counted-spec = tie.close (tie.spec enum-told add-self enum-told-2 add-self-2 returns returns-2)
