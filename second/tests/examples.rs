@@ -5,9 +5,15 @@ mod common;
 use common::{gate, joined};
 use second::{size, SizeAnswer};
 
+const TABLES: [&str; 3] = ["blade.btf", "supplier_a.btf", "supplier_b.btf"];
+
+fn file(path: &str) -> Vec<u8> {
+    let path = format!("{}/../{path}", env!("CARGO_MANIFEST_DIR"));
+    std::fs::read(path).expect("a file of the repository")
+}
+
 fn example(name: &str) -> Vec<u8> {
-    let path = format!("{}/../example/{name}", env!("CARGO_MANIFEST_DIR"));
-    std::fs::read(path).expect("a table of example/")
+    file(&format!("example/{name}"))
 }
 
 /// The sizes of some types of an accepted table.
@@ -47,11 +53,47 @@ fn sized() {
 
 #[test]
 fn joined_in_both_groupings() {
-    let [x, y, z] = ["blade.btf", "supplier_a.btf", "supplier_b.btf"].map(example);
+    let [x, y, z] = TABLES.map(example);
     let left = joined(&joined(&x, &y), &z);
     assert_eq!(left, joined(&x, &joined(&y, &z)));
     assert_eq!(gate(&left), Ok(2 + 37 + 33));
     assert_eq!(left.len(), x.len() + y.len() + z.len() - 50);
     // supplier B's blade keeps its size behind the other two tables
     assert_eq!(sizes(&left, &[2 + 37 + 9]), [SizeAnswer::Exact(64)]);
+}
+
+/// The line of the program `tables` on one table.
+fn line(name: &str, blob: &[u8]) -> String {
+    let count = gate(blob).expect("accepted");
+    let types: Vec<u32> = (1..=count).collect();
+    let mut text = format!("{name}: accepted, {count} types, sizes");
+    for size in sizes(blob, &types) {
+        match size {
+            SizeAnswer::Exact(bytes) => text += &format!(" {bytes}"),
+            SizeAnswer::NoSize => text += " -",
+            other => panic!("{other:?}"),
+        }
+    }
+    text + "\n"
+}
+
+/// What `tables` must write, by these rules; and it reads the same tables.
+#[test]
+fn the_program_agrees() {
+    let mut text = String::new();
+    for name in TABLES {
+        let blob = example(name);
+        assert_eq!(file(&format!("crates/tables/data/{name}")), blob);
+        text += &line(name, &blob);
+        let same = format!("{} bytes, the same\n", blob.len());
+        text += &format!("the empty table and {name}: {same}");
+        text += &format!("{name} and the empty table: {same}");
+    }
+    let [x, y, z] = TABLES.map(example);
+    let all = joined(&joined(&x, &y), &z);
+    text += "(blade supplier_a) supplier_b and blade (supplier_a supplier_b): ";
+    text += &format!("{} bytes, the same\n", all.len());
+    text += &line("all three", &all);
+    let wrote = file("crates/tables/stdout");
+    assert_eq!(String::from_utf8(wrote).expect("text"), text);
 }
