@@ -1,0 +1,112 @@
+// Every answer in the paper's four numbers, for what hands them out: the test vectors and the C interface.
+use paper::Checked;
+use paper::Joined;
+use paper::Report;
+use paper::Sized;
+ghost use mathlib.Core.Path.{_≡_};
+ghost use Rattle.paper.specs.Answer.{checkedAsPaper, inside, joinedAsPaper, report, reportAsPaper, sizedAsPaper, value};
+ghost use Rattle.answers.specs.Numbers.{asPaper};
+
+// The number, the number of the report inside a join's refusal, the type or the count, the size or the length.
+pub struct Numbers {
+    pub number: u32,
+    pub inner: u32,
+    pub t: u32,
+    pub p: u32,
+}
+
+// A number, and the count or the type that it names.
+fn told(number: u32, t: u32) -> Numbers
+    ensures { λ n. ⌜ asPaper n ≡ report number t ⌝ }
+{
+    Numbers {
+        number,
+        inner: 0,
+        t,
+        p: 0,
+    }
+}
+
+// A size or a length.
+fn valued(p: u32) -> Numbers
+    ensures { λ n. ⌜ asPaper n ≡ value p ⌝ }
+{
+    Numbers {
+        number: 0,
+        inner: 0,
+        t: 0,
+        p,
+    }
+}
+
+// A report inside a join's refusal.
+fn within(number: u32, r: Numbers) -> Numbers
+    ensures { λ n. ⌜ asPaper n ≡ inside number (asPaper r) ⌝ }
+{
+    Numbers {
+        number,
+        inner: r.number,
+        t: r.t,
+        p: r.p,
+    }
+}
+
+// A report of the gate.
+pub fn of_report(r: Report) -> Numbers
+    ensures { λ n. ⌜ asPaper n ≡ reportAsPaper r ⌝ }
+{
+    match r {
+        Report::Length => told(1, 0),
+        Report::Opening => told(2, 0),
+        Report::HeaderLength => told(3, 0),
+        Report::Sections => told(4, 0),
+        Report::Strings => told(5, 0),
+        Report::RecordCut(t) => told(6, t.0),
+        Report::UnknownKind(t) => told(7, t.0),
+        Report::ManyTypes => told(8, 4097),
+        Report::SlicesShort => told(9, 0),
+        Report::Head(t) => told(10, t.0),
+        Report::Named(t) => told(11, t.0),
+        Report::Tail(t) => told(12, t.0),
+        Report::Reference(t) => told(13, t.0),
+        Report::Endless(t) => told(14, t.0),
+        Report::Layout(t) => told(15, t.0),
+    }
+}
+
+// What a check answers.
+pub fn of_checked(c: Checked) -> Numbers
+    ensures { λ n. ⌜ asPaper n ≡ checkedAsPaper c ⌝ }
+{
+    match c {
+        Checked::Accepted(n) => told(0, n),
+        Checked::Refused(r) => of_report(r),
+    }
+}
+
+// What the size question answers.
+pub fn of_sized(s: Sized) -> Numbers
+    ensures { λ n. ⌜ asPaper n ≡ sizedAsPaper s ⌝ }
+{
+    match s {
+        Sized::Exact(p) => valued(p),
+        Sized::NoSize => told(1, 0),
+        Sized::Overflow => told(2, 0),
+        Sized::Lost => told(21, 0),
+        Sized::TooFar => told(22, 0),
+    }
+}
+
+// What a join answers.
+pub fn of_joined(j: Joined) -> Numbers
+    ensures { λ n. ⌜ asPaper n ≡ joinedAsPaper j ⌝ }
+{
+    match j {
+        Joined::Whole(n) => valued(n),
+        Joined::FirstRefused(r) => within(16, of_report(r)),
+        Joined::SecondRefused(r) => within(17, of_report(r)),
+        Joined::TooMany => told(18, 0),
+        Joined::TooLong => told(19, 0),
+        Joined::OutputShort => told(20, 0),
+    }
+}
