@@ -31,7 +31,7 @@ FILENAME ~ /\.antt$|judge\.txt$/ {
 
 # functions and types of the code, and what a crate hands on
 FILENAME ~ /\.rt$/ {
-    if (match($0, /^ *(pub |pub\(crate\) )?(fn|struct|enum) [A-Za-z0-9_]+/)) {
+    if (match($0, /^ *(pub |pub\(crate\) )?(extern "C" )?(fn|struct|enum) [A-Za-z0-9_]+/)) {
         n = split(substr($0, RSTART, RLENGTH), word, " ")
         declared(word[n]); code[crate, word[n]]
     } else if (match($0, /^pub use .*::[a-z_]+;/)) {
