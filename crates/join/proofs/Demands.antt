@@ -22,7 +22,7 @@ use Rattle.paper.proofs.joins.JoinRefusals.{joinRefusal-joinable, joinable-join
 use Rattle.paper.proofs.joins.Neutral.{join-empty-left, join-empty-right}
 use Rattle.paper.specs.Answer.{Answer, joinedAsPaper}
 use Rattle.paper.specs.Fit.{Bytes}
-use Rattle.paper.specs.Full.{handed, joinFull, andThen, emptyBlob}
+use Rattle.paper.specs.Full.{joinFull, andThen, emptyBlob}
 use Rattle.paper.specs.Gate.{refusal, zeros, gate}
 use Rattle.paper.specs.Good.{Joinable}
 use Rattle.paper.specs.Header.{orderOf, strLen}

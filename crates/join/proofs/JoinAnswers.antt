@@ -1,32 +1,28 @@
 -- What the join answers at each way out: the two refusals, the three limits, and the joined length.
 -- Assumes nothing.
 use Prim.Native.Nat.{ℕ, _+_, _-_, _≤_, _<_}
-use mathlib.Core.Path.{_≡_, refl, sym, ap, ap₂, _∙_, subst}
-use mathlib.Core.Bool.{Bool}
-use mathlib.Core.List.{List, [], _∷_, _++_}
+use mathlib.Core.Path.{_≡_, refl, sym, ap, ap₂, _∙_}
+use mathlib.Core.List.{List, _++_}
 use mathlib.Core.Option.{Option, none, some}
 use native.Mathlib.Omega.{arith}
-use borrow.Author.Tests.{lt-ltb, le-ltb}
-use lib.Dec.{ltb}
 use lib.ListN.{length, drop}
 use Rattle.gate.specs.Check.{CheckOf}
 use Rattle.join.specs.Joins.{BothAccepted, WriteAsk, limited, LimitedOf, JoinOf}
-use Rattle.paper.proofs.Outcomes.{gate-refused, gate-accepted, join-refused, join-made}
+use Rattle.paper.proofs.Outcomes.{gate-refused, gate-accepted, join-refused}
 use Rattle.paper.proofs.bytes.Tables.{length-bytesOf}
 use Rattle.paper.proofs.gates.Acceptance.{accepted-meets, accepted-bytes, accepted-closed}
 use Rattle.paper.proofs.gates.Answered.{checked-accepted, checked-refused}
 use Rattle.paper.proofs.joins.Grouping.{length-join}
 use Rattle.paper.proofs.joins.JoinRefusals.{joinRefusal-limits, joinable-joinRefusal, join-16, join-17, join-18, join-19, join-20}
-use Rattle.paper.specs.Answer.{Answer, value, reportAsPaper, checkedAsPaper, joinedAsPaper}
-use Rattle.paper.specs.Choice.{_when_, firstDue}
+use Rattle.paper.specs.Answer.{Answer, value, joinedAsPaper}
 use Rattle.paper.specs.Fit.{Bytes}
-use Rattle.paper.specs.Gate.{Outcome, naming, refusal, zeros, gate}
+use Rattle.paper.specs.Gate.{Outcome, refusal, zeros}
 use Rattle.paper.specs.Good.{Joinable}
 use Rattle.paper.specs.Header.{orderOf}
 use Rattle.paper.specs.Join.{joinTables, joinedBytes, limitReport, joinRefusal, JoinOutcome, joinOutcome, join}
 use Rattle.paper.specs.Limits.{typeLimit, byteLimit}
 use Rattle.paper.specs.Table.{count}
-use Rattle.paper.specs.Walk.{tableOf, blobLength}
+use Rattle.paper.specs.Walk.{tableOf}
 use Rattle.paper.specs.declared.Checked.the-variants.{Accepted, Refused}
 use Rattle.paper.specs.declared.Joined.{Joined}
 use Rattle.paper.specs.declared.Joined.the-variants.{Whole, FirstRefused, SecondRefused, TooMany, TooLong, OutputShort}

@@ -1,7 +1,7 @@
 -- A record put group by group, and the loop over the records of a blob.
 -- Assumes nothing.
 use Prim.Native.Nat.{ℕ, zero, suc, _+_, _-_, _*_, _≤_, _<_}
-use mathlib.Core.Path.{_≡_, refl, sym, ap, ap₂, _∙_, subst}
+use mathlib.Core.Path.{_≡_, refl, sym, ap, ap₂, _∙_}
 use mathlib.Core.List.{List, [], _∷_, _++_, map, map-append, append-nil}
 use native.Mathlib.Nat.{mul-left-comm}
 use native.Mathlib.Omega.{arith}
@@ -16,12 +16,12 @@ use Rattle.join.proofs.RaisedWords.{length-raisedFrom, recordBytes-part
 use Rattle.paper.proofs.bytes.Bytes.{length-bytesOfWords, bytesOfWords-append}
 use Rattle.paper.proofs.bytes.Headers.{facts-headerReport}
 use Rattle.paper.proofs.bytes.Places.{flat-append, placesOf-at, place-inside, blob-place-high}
-use Rattle.paper.proofs.bytes.Reading.{length-times, recordIn-place}
+use Rattle.paper.proofs.bytes.Reading.{recordIn-place}
 use Rattle.paper.proofs.gates.Acceptance.{readable-walk}
 use Rattle.paper.proofs.joins.Grouping.{flat-rename}
 use Rattle.paper.specs.Choice.{times}
 use Rattle.paper.specs.Header.{orderOf}
-use Rattle.paper.specs.Kind.{Role, names, number, rowOf}
+use Rattle.paper.specs.Kind.{rowOf}
 use Rattle.paper.specs.Reading.{recordIn, wordsFrom}
 use Rattle.paper.specs.Table.{Record, count, nothing, kindIn, vlenIn, tailLength, wordsOf}
 use Rattle.paper.specs.Walk.{tableOf, flat, typeLenOf, placesOf}

@@ -1,8 +1,8 @@
 -- Laws of `raisedFrom`: the words of a group one by one, one run of roles behind the other, and the words of a whole record.
 -- Assumes nothing.
-use Prim.Native.Nat.{ℕ, zero, suc, _+_, _*_, _%_, _≤_, _<_}
+use Prim.Native.Nat.{ℕ, suc, _+_, _*_, _%_, _≤_, _<_}
 use mathlib.Core.Path.{_≡_, refl, sym, ap, ap₂, _∙_}
-use mathlib.Core.List.{List, [], _∷_, _++_, append-assoc}
+use mathlib.Core.List.{List, [], _∷_, _++_}
 use native.Mathlib.Omega.{arith}
 use lib.ListN.{length, getD, take, length-append}
 use lib.Seq.{length-take-le, take-suc, take-all}
@@ -17,7 +17,7 @@ use Rattle.paper.specs.Fit.{wordBound}
 use Rattle.paper.specs.Kind.{NameRule, offset0, anyName, offset0OrIdentifier, identifier, nonEmpty, sectionName, RefRule, voidOrPlain, plain, anInt, aProto, aVar, taggable, Role, names, refers, holds, number, rowOf}
 use Rattle.paper.specs.Reading.{recordIn, wordsFrom}
 use Rattle.paper.specs.Rename.{rename, raise}
-use Rattle.paper.specs.Table.{kindIn, vlenIn, tailLength, tailRoles, rolesOf}
+use Rattle.paper.specs.Table.{kindIn, vlenIn, tailLength, tailRoles}
 use Rattle.rows.specs.Codes.{nameCode, refCode, roleCode, roleAt}
 use Rattle.paper.specs.Word.{lowFirst, wordBytes, bytesOfWords, wordAt, putWord}
 

@@ -1,9 +1,7 @@
 -- `abi::named` meets its contract: its part, and whether there is none.
 -- Assumes nothing.
-use Prim.Native.Nat.{ℕ}
-use mathlib.Core.Path.{sym, ap, _∙_}
-use mathlib.Core.Bool.{Bool, cond}
-use Rattle.paper.specs.Answer.{Answer}
+use mathlib.Core.Path.{sym, _∙_}
+use mathlib.Core.Bool.{cond}
 use borrow.Author.Needs.{needs}
 use Rattle.abi.proofs.named.Statement.{statement}
 use Rattle.abi.proofs.named.Tie as tie
@@ -33,5 +31,4 @@ named-spec =
     part-requires
     nameless-requires
     returns
-    returns-2
-    )
+    returns-2)

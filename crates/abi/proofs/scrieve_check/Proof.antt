@@ -1,7 +1,6 @@
 -- `abi::scrieve_check` meets its contract: the gate's answer, told.
 -- Assumes nothing.
 use mathlib.Core.Path.{ap, _∙_}
-use mathlib.Core.List.{List}
 use denote.Ref.{now}
 use Rattle.abi.specs.Told.{toldIn}
 use Rattle.paper.specs.Answer.{Answer}
@@ -49,5 +48,4 @@ scrieve-check-spec =
     same-length
     same-length-2
     same-length-3
-    returns
-    )
+    returns)

@@ -53,5 +53,4 @@ scrieve-join-spec =
     same-length-2
     same-length-3
     same-length-4
-    returns
-    )
+    returns)

@@ -30,5 +30,4 @@ scrieve-name-spec =
     named-requires
     tell-requires
     same-length
-    returns
-    )
+    returns)

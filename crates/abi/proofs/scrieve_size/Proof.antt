@@ -34,5 +34,4 @@ scrieve-size-spec =
     of-sized-requires
     tell-requires
     same-length
-    returns
-    )
+    returns)

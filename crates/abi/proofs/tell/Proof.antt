@@ -64,5 +64,4 @@ tell-spec =
     returns-4
     slice-write-answer-4
     same-length-4
-    returns-5
-    )
+    returns-5)

@@ -95,5 +95,4 @@ of-joined-spec =
     returns-3
     returns-4
     returns-5
-    returns-6
-    )
+    returns-6)

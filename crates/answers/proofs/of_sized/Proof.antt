@@ -74,5 +74,4 @@ of-sized-spec =
     returns-2
     returns-3
     returns-4
-    returns-5
-    )
+    returns-5)

@@ -1,7 +1,7 @@
 -- `join::blob::write` meets its contract: each part is put behind the one before.
 -- Assumes nothing.
-use Prim.Native.Nat.{ℕ, _+_, _-_, _≤_}
-use mathlib.Core.Path.{_≡_, refl, ap, ap₂, _∙_}
+use Prim.Native.Nat.{ℕ, _+_, _-_}
+use mathlib.Core.Path.{refl, ap, ap₂, _∙_}
 use native.Mathlib.Omega.{arith}
 use denote.Ref.{now}
 use lib.ListN.{length}
@@ -162,5 +162,4 @@ write-spec =
     part-copy-end-3
     copy-requires-3
     same-length
-    returns
-    )
+    returns)

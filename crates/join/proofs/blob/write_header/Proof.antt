@@ -1,10 +1,9 @@
 -- `join::blob::write_header` meets its contract: twelve bytes of the first, then three words.
 -- Assumes nothing.
-use Prim.Native.Nat.{ℕ}
-use mathlib.Core.Path.{_≡_, refl, sym, ap, _∙_}
+use mathlib.Core.Path.{sym}
 use native.Mathlib.Omega.{arith}
 use denote.Ref.{now}
-use lib.ListN.{length, take}
+use lib.ListN.{take}
 use lib.Seq.{length-take-le}
 use Rattle.join.proofs.Puts.{put-three}
 use borrow.Author.Needs.{needs}
@@ -49,5 +48,4 @@ write-header-spec =
     write-requires-2
     write-requires-3
     same-length
-    returns
-    )
+    returns)

@@ -1,7 +1,5 @@
 -- `join::groups::raise_entries` meets its contract: an entry behind the other, as many as are left.
 -- Assumes nothing.
-use Prim.Native.Nat.{ℕ}
-use mathlib.Core.Path.{_≡_, refl, sym, ap, _∙_}
 use native.Mathlib.Omega.{arith}
 use Rattle.join.proofs.Entries.{Entering, entering-start, entering-done, entering-ask, entering-next}
 use borrow.Author.Needs.{needs}
@@ -62,5 +60,4 @@ raise-entries-spec =
     loop-less
     loop-again
     same-length
-    returns
-    )
+    returns)

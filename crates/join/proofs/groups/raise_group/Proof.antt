@@ -1,7 +1,5 @@
 -- `join::groups::raise_group` meets its contract: a word behind the other, as many as there are.
 -- Assumes nothing.
-use Prim.Native.Nat.{ℕ}
-use mathlib.Core.Path.{_≡_, refl, sym, ap, _∙_}
 use native.Mathlib.Omega.{arith}
 use Rattle.join.proofs.RaisedWords.{sofar-none, sofar-more, sofar-all}
 use borrow.Author.Needs.{needs}
@@ -95,5 +93,4 @@ raise-group-spec =
     add-t18-2
     raise-word-requires-3
     same-length-3
-    returns-4
-    )
+    returns-4)

@@ -28,5 +28,4 @@ raise-word-spec =
     raised-requires
     write-requires
     same-length
-    returns
-    )
+    returns)

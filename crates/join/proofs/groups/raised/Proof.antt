@@ -1,6 +1,5 @@
 -- `join::groups::raised` meets its contract: by the code of the role.
 -- Assumes nothing.
-use Prim.Native.Nat.{_<_}
 use native.Mathlib.Omega.{arith}
 use Rattle.join.proofs.RaisedWords.{raised-number, raised-name, raised-type}
 use borrow.Author.Needs.{needs}
@@ -30,5 +29,4 @@ raised-spec =
     raise-name-requires
     returns-2
     raise-type-requires
-    returns-3
-    )
+    returns-3)

@@ -32,5 +32,4 @@ entry-of-spec =
     entry-role-requires
     entry-role-requires-2
     entry-role-requires-3
-    returns
-    )
+    returns)

@@ -1,6 +1,5 @@
 -- `join::records::head_of` meets its contract: the columns of the kind's row.
 -- Assumes nothing.
-use Prim.Native.Nat.{ℕ}
 use mathlib.Core.Path.{refl}
 use native.Mathlib.Omega.{arith}
 use borrow.Author.Needs.{needs}
@@ -22,5 +21,4 @@ head-of-spec =
     (tie.spec
     name-role-requires
     third-role-requires
-    returns
-    )
+    returns)

@@ -32,5 +32,4 @@ once-of-spec =
     once-role-requires
     once-role-requires-2
     once-role-requires-3
-    returns
-    )
+    returns)

@@ -1,9 +1,8 @@
 -- `join::records::raise_record` meets its contract: its head, the words that stand once, its entries, one behind the other.
 -- Assumes nothing.
-use Prim.Native.Nat.{ℕ}
-use mathlib.Core.Path.{_≡_, refl, sym, ap, _∙_}
+use mathlib.Core.Path.{_∙_}
 use native.Mathlib.Omega.{arith}
-use Rattle.rows.proofs.RoleCodes.{tailLength-few, once-few}
+use Rattle.rows.proofs.RoleCodes.{tailLength-few}
 use Rattle.join.proofs.RaisedRecords.{head-ask, once-ask, entries-ask, record-put}
 use borrow.Author.Needs.{needs}
 use Rattle.join.proofs.records.raise_record.Statement.{statement}
@@ -125,5 +124,4 @@ raise-record-spec =
     mul-result
     add-result-3
     same-length
-    returns
-    )
+    returns)

@@ -1,7 +1,7 @@
 -- `join::records::raise_records` meets its contract: the first k records are put, each behind the one before.
 -- Assumes nothing.
 use Prim.Native.Nat.{ℕ, _+_, _-_, _≤_}
-use mathlib.Core.Path.{_≡_, refl, sym, ap, _∙_, subst}
+use mathlib.Core.Path.{refl, sym, subst}
 use mathlib.Core.List.{List}
 use native.Mathlib.Omega.{arith}
 use denote.Ref.{now}
@@ -98,5 +98,4 @@ raise-records-spec =
     loop-less
     loop-again
     same-length
-    returns
-    )
+    returns)

@@ -1,7 +1,7 @@
 -- `join::runs::copy` meets its contract: the bytes passed are those of the run, the others as they were.
 -- Assumes nothing.
 use Prim.Native.Nat.{ℕ, suc, _+_, _-_, _≤_}
-use mathlib.Core.Path.{_≡_, refl, sym, ap, _∙_}
+use mathlib.Core.Path.{_≡_, refl, ap, _∙_}
 use mathlib.Core.List.{List}
 use native.Mathlib.Omega.{arith}
 use denote.Ref.{now}
@@ -48,8 +48,7 @@ loop-again c =
       simp length-set (omega arith),
       ap (λ (o : List ℕ). set o (a .at .0 + l .loop .i) (getD (now (a .s)) (l .loop .i) 0)) (l .loop .inv .2)
           ∙ paste-suc (now (a .out)) (a .at .0) (now (a .s)) (l .loop .i) 0 (omega (arith, l .before .before .pre)) (omega arith)
-          ∙ ap (paste (now (a .out)) (a .at .0) (now (a .s))) more,
-    )
+          ∙ ap (paste (now (a .out)) (a .at .0) (now (a .s))) more,)
 
 same-length : tie.Need-same-length Inv-loop μ-loop
 same-length c = c .before .loop .inv .1
@@ -76,5 +75,4 @@ copy-spec =
     loop-less
     loop-again
     same-length
-    returns
-    )
+    returns)

@@ -1,7 +1,7 @@
 -- `join::whole::join` meets its contract: both checks, then what the limits leave.
 -- Assumes nothing.
 use Prim.Native.Nat.{ℕ}
-use mathlib.Core.Path.{_≡_, refl, sym, ap, _∙_, subst}
+use mathlib.Core.Path.{ap, _∙_, subst}
 use denote.Ref.{now}
 use lib.ListN.{length}
 use Rattle.gate.specs.Check.{CheckOf}
@@ -131,5 +131,4 @@ join-spec =
     same-length-5
     same-length-6
     same-length-7
-    returns-3
-    )
+    returns-3)

@@ -1,7 +1,7 @@
 -- `join::whole::join_accepted` meets its contract: the limits one after the other, then the writing.
 -- Assumes nothing.
-use Prim.Native.Nat.{ℕ, _+_, _-_, _≤_}
-use mathlib.Core.Path.{_≡_, refl, sym, ap, _∙_}
+use Prim.Native.Nat.{_+_, _-_}
+use mathlib.Core.Path.{refl, sym}
 use native.Mathlib.Omega.{arith}
 use denote.Ref.{now}
 use lib.ListN.{length}
@@ -69,5 +69,4 @@ join-accepted-spec =
     write-requires
     cast-t7
     same-length
-    returns-4
-    )
+    returns-4)
