@@ -48,7 +48,8 @@ loop-again c =
       simp length-set (omega arith),
       ap (λ (o : List ℕ). set o (a .at .0 + l .loop .i) (getD (now (a .s)) (l .loop .i) 0)) (l .loop .inv .2)
           ∙ paste-suc (now (a .out)) (a .at .0) (now (a .s)) (l .loop .i) 0 (omega (arith, l .before .before .pre)) (omega arith)
-          ∙ ap (paste (now (a .out)) (a .at .0) (now (a .s))) more,)
+          ∙ ap (paste (now (a .out)) (a .at .0) (now (a .s))) more,
+    )
 
 same-length : tie.Need-same-length Inv-loop μ-loop
 same-length c = c .before .loop .inv .1
