@@ -1,0 +1,20 @@
+// The tool's text: pieces that wait in a buffer, bytes that others chose, one line of several, and a decimal argument.
+mod escapes; // bytes that others chose
+mod numbers; // a decimal argument
+mod out; // the buffer
+mod texts; // a line of a text
+
+pub use escapes::escape;
+pub use numbers::Number;
+pub use numbers::parse;
+pub use out::Out;
+pub use out::ROOM;
+pub use out::flush;
+pub use out::lay;
+pub use out::put;
+pub use out::put_escaped;
+pub use out::put_number;
+pub use out::put_wide;
+pub use out::put_with;
+pub use out::to;
+pub use texts::line;

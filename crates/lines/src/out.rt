@@ -1,0 +1,137 @@
+// What is written waits in a lent buffer, which is written when it is full: a listing is then a few system calls and not
+// one for each piece.
+use crate::escapes::escape;
+ghost use Prim.Native.Nat.{_+_, _≤_, _<_};
+ghost use lib.ListN.{length};
+
+// The bytes of the buffer. An array's length is known, so that no function need prove that it keeps it.
+pub const ROOM: usize = 65536;
+
+// Where it goes, how many bytes wait in the buffer, and whether every write has taken all its bytes.
+pub struct Out {
+    pub fd: i32,
+    pub at: usize,
+    pub is_whole: bool,
+}
+
+pub fn to(fd: i32) -> Out {
+    Out {
+        fd,
+        at: 0,
+        is_whole: true,
+    }
+}
+
+// Nothing waits any more. After a write that failed no other is tried.
+fn write(o: Out, s: &[u8]) -> Out {
+    if !o.is_whole {
+        return Out {
+            fd: o.fd,
+            at: 0,
+            is_whole: false,
+        };
+    }
+    let is_whole = io::write_all(o.fd, s);
+    Out {
+        fd: o.fd,
+        at: 0,
+        is_whole,
+    }
+}
+
+fn write_first(buf: &[u8], o: Out) -> Out {
+    let n = o.at;
+    if buf.len() < n {
+        return o;
+    }
+    write(o, &buf[..n])
+}
+
+// What waits is written.
+pub fn flush(buf: &mut [u8; ROOM], o: Out) -> Out {
+    write_first(buf, o)
+}
+
+// The piece is laid at a place of the buffer.
+pub fn lay(buf: &mut [u8], at: usize, s: &[u8])
+    requires { ⌜ at + length (now s) ≤ length (now buf) ⌝ }
+{
+    let mut i = 0;
+    while i < s.len() {
+        buf[at + i] = s[i];
+        i += 1;
+    }
+}
+
+// One piece more. One that is longer than the buffer is written at once.
+pub fn put(buf: &mut [u8; ROOM], o: Out, s: &[u8]) -> Out {
+    let at = o.at;
+    if at <= ROOM {
+        if s.len() <= ROOM - at {
+            lay(buf, at, s);
+            return Out {
+                fd: o.fd,
+                at: at + s.len(),
+                is_whole: o.is_whole,
+            };
+        }
+    }
+    let o = flush(buf, o);
+    if ROOM < s.len() {
+        return write(o, s);
+    }
+    lay(buf, 0, s);
+    Out {
+        fd: o.fd,
+        at: s.len(),
+        is_whole: o.is_whole,
+    }
+}
+
+pub fn put_wide(buf: &mut [u8; ROOM], o: Out, n: u64) -> Out {
+    let mut digits = [0u8; 20];
+    let k = io::decimal(n, &mut digits);
+    put(buf, o, &digits[..k])
+}
+
+pub fn put_number(buf: &mut [u8; ROOM], o: Out, n: u32) -> Out {
+    put_wide(buf, o, n as u64)
+}
+
+// A text, and a number behind it.
+pub fn put_with(buf: &mut [u8; ROOM], o: Out, text: &[u8], n: u64) -> Out {
+    let o = put(buf, o, text);
+    put_wide(buf, o, n)
+}
+
+// A few bytes of a name, escaped.
+fn put_chunk(buf: &mut [u8; ROOM], o: Out, s: &[u8]) -> Out
+    requires { ⌜ length (now s) ≤ 256 ⌝ }
+{
+    let mut space = [0u8; 1024];
+    let n = escape(s, &mut space);
+    put(buf, o, &space[..n])
+}
+
+// So many bytes of what is left go into a chunk.
+fn chunk_size(left: usize) -> usize
+    requires { ⌜ 0 < left ⌝ }
+    ensures { λ r. ⌜ (0 < r) × (r ≤ left) × (r ≤ 256) ⌝ }
+{
+    if left <= 256 {
+        return left;
+    }
+    256
+}
+
+// Bytes that others chose, escaped, however many.
+pub fn put_escaped(buf: &mut [u8; ROOM], o: Out, s: &[u8]) -> Out {
+    let mut o = o;
+    let mut from = 0;
+    while from < s.len() {
+        let end = from + chunk_size(s.len() - from);
+        o = put_chunk(buf, o, &s[from..end]);
+        from = end;
+    }
+    o
+}
