@@ -1,0 +1,147 @@
+-- `listing::reports::told_of` meets its contract: each report is its number, at the type that it names.
+-- Assumes nothing.
+use mathlib.Core.Path.{sym, ap}
+use Rattle.paper.specs.Answer.{reportAsPaper}
+use borrow.Author.Needs.{needs}
+use Rattle.listing.proofs.reports.told_of.Statement.{statement}
+use Rattle.listing.proofs.reports.told_of.Tie as tie
+
+enum-told : tie.Need-enum-told
+enum-told c = search needs
+
+enum-told-2 : tie.Need-enum-told-2
+enum-told-2 c = search needs
+
+enum-told-3 : tie.Need-enum-told-3
+enum-told-3 c = search needs
+
+enum-told-4 : tie.Need-enum-told-4
+enum-told-4 c = search needs
+
+enum-told-5 : tie.Need-enum-told-5
+enum-told-5 c = search needs
+
+enum-known-r : tie.Need-enum-known-r
+enum-known-r c = search needs
+
+enum-known-r-2 : tie.Need-enum-known-r-2
+enum-known-r-2 c = search needs
+
+enum-told-6 : tie.Need-enum-told-6
+enum-told-6 c = search needs
+
+enum-told-7 : tie.Need-enum-told-7
+enum-told-7 c = search needs
+
+enum-known-r-3 : tie.Need-enum-known-r-3
+enum-known-r-3 c = search needs
+
+enum-known-r-4 : tie.Need-enum-known-r-4
+enum-known-r-4 c = search needs
+
+enum-known-r-5 : tie.Need-enum-known-r-5
+enum-known-r-5 c = search needs
+
+enum-known-r-6 : tie.Need-enum-known-r-6
+enum-known-r-6 c = search needs
+
+enum-known-r-7 : tie.Need-enum-known-r-7
+enum-known-r-7 c = search needs
+
+enum-known-r-8 : tie.Need-enum-known-r-8
+enum-known-r-8 c = search needs
+
+returns : tie.Need-returns
+unfolding reportAsPaper
+returns c = sym (ap reportAsPaper (c .enum-told .given .1))
+
+returns-2 : tie.Need-returns-2
+unfolding reportAsPaper
+returns-2 c = sym (ap reportAsPaper (c .enum-told2 .given .1))
+
+returns-3 : tie.Need-returns-3
+unfolding reportAsPaper
+returns-3 c = sym (ap reportAsPaper (c .enum-told3 .given .1))
+
+returns-4 : tie.Need-returns-4
+unfolding reportAsPaper
+returns-4 c = sym (ap reportAsPaper (c .enum-told4 .given .1))
+
+returns-5 : tie.Need-returns-5
+unfolding reportAsPaper
+returns-5 c = sym (ap reportAsPaper (c .enum-told5 .given .1))
+
+returns-6 : tie.Need-returns-6
+unfolding reportAsPaper
+returns-6 c = sym (ap reportAsPaper (c .before .r .given .1))
+
+returns-7 : tie.Need-returns-7
+unfolding reportAsPaper
+returns-7 c = sym (ap reportAsPaper (c .before .r2 .given .1))
+
+returns-8 : tie.Need-returns-8
+unfolding reportAsPaper
+returns-8 c = sym (ap reportAsPaper (c .enum-told6 .given .1))
+
+returns-9 : tie.Need-returns-9
+unfolding reportAsPaper
+returns-9 c = sym (ap reportAsPaper (c .enum-told7 .given .1))
+
+returns-10 : tie.Need-returns-10
+unfolding reportAsPaper
+returns-10 c = sym (ap reportAsPaper (c .before .r3 .given .1))
+
+returns-11 : tie.Need-returns-11
+unfolding reportAsPaper
+returns-11 c = sym (ap reportAsPaper (c .before .r4 .given .1))
+
+returns-12 : tie.Need-returns-12
+unfolding reportAsPaper
+returns-12 c = sym (ap reportAsPaper (c .before .r5 .given .1))
+
+returns-13 : tie.Need-returns-13
+unfolding reportAsPaper
+returns-13 c = sym (ap reportAsPaper (c .before .r6 .given .1))
+
+returns-14 : tie.Need-returns-14
+unfolding reportAsPaper
+returns-14 c = sym (ap reportAsPaper (c .before .r7 .given .1))
+
+returns-15 : tie.Need-returns-15
+unfolding reportAsPaper
+returns-15 c = sym (ap reportAsPaper (c .before .r8 .given .1))
+
+pub told-of-spec : {M : Type 1} → statement M
+told-of-spec =
+    tie.close
+    (tie.spec
+    enum-told
+    enum-told-2
+    enum-told-3
+    enum-told-4
+    enum-told-5
+    enum-known-r
+    enum-known-r-2
+    enum-told-6
+    enum-told-7
+    enum-known-r-3
+    enum-known-r-4
+    enum-known-r-5
+    enum-known-r-6
+    enum-known-r-7
+    enum-known-r-8
+    returns
+    returns-2
+    returns-3
+    returns-4
+    returns-5
+    returns-6
+    returns-7
+    returns-8
+    returns-9
+    returns-10
+    returns-11
+    returns-12
+    returns-13
+    returns-14
+    returns-15)

@@ -1,0 +1,14 @@
+// A table in words: a line for each type and entry, and what a report means.
+mod entries; // the lines below a type
+mod kinds; // a type in a line
+mod records; // where a record stands
+mod reports; // what a report means
+mod show; // the lines of the types
+
+pub use kinds::put_type;
+pub use reports::Told;
+pub use reports::put_report;
+pub use reports::told_of;
+pub use show::put_size;
+pub use show::show_all;
+pub use show::show_one;

@@ -1,0 +1,121 @@
+// Where a record and its entries stand, and the words of a record. Total: what is not there reads as zeros.
+use paper::NameOff;
+use paper::Place;
+use rows::kind_of;
+use rows::tail_words;
+ghost use Prim.Native.Nat.{_≤_};
+ghost use lib.ListN.{length};
+
+// The bytes from a place on; none where the place is past the end.
+fn rest_from(s: &[u8], at: usize) -> &[u8] {
+    if s.len() < at {
+        return &s[..0];
+    }
+    &s[at..]
+}
+
+// A function, so that a caller need not prove of an element that it fits.
+fn wide(n: u32) -> usize {
+    n as usize
+}
+
+// The bytes from a type's record on, by the index that a check has left.
+pub(crate) fn record_of<'a>(blob: &'a [u8], index: &[u32], t: u32) -> &'a [u8] {
+    let k = t as usize;
+    if index.len() <= k {
+        return rest_from(blob, blob.len());
+    }
+    rest_from(blob, wide(index[k]))
+}
+
+pub(crate) fn name_of(r: &[u8]) -> NameOff {
+    NameOff(words::read(r, Place(0)))
+}
+
+pub(crate) fn info_of(r: &[u8]) -> u32 {
+    words::read(r, Place(4))
+}
+
+pub(crate) fn third_of(r: &[u8]) -> u32 {
+    words::read(r, Place(8))
+}
+
+// The tail's first word: what an INT, a VAR and a DECL_TAG have, and an ARRAY's element.
+pub(crate) fn fourth_of(r: &[u8]) -> u32 {
+    words::read(r, Place(12))
+}
+
+// The bytes from an entry of three words on.
+pub(crate) fn long_entry(r: &[u8], i: u32) -> &[u8] {
+    rest_from(r, 12 + 12 * (i as usize))
+}
+
+// The bytes from an entry of two words on.
+pub(crate) fn short_entry(r: &[u8], i: u32) -> &[u8] {
+    rest_from(r, 12 + 8 * (i as usize))
+}
+
+// TYPEDEF, VOLATILE, CONST, RESTRICT or TYPE_TAG.
+fn is_alias(kind: u32) -> bool {
+    match kind {
+        8..=11 => true,
+        18 => true,
+        _ => false,
+    }
+}
+
+// The number of the base. In an accepted table no chain is longer than the index.
+pub(crate) fn base_of(blob: &[u8], index: &[u32], t: u32) -> u32 {
+    let mut at = t;
+    let mut left = index.len();
+    while 0 < left {
+        let r = record_of(blob, index, at);
+        if !is_alias(kind_of(info_of(r))) {
+            return at;
+        }
+        at = third_of(r);
+        left -= 1;
+    }
+    at
+}
+
+// The bytes before the strings, as far as there are so many.
+fn types_of(blob: &[u8]) -> &[u8] {
+    let end = 24 + words::read(blob, Place(12)) as usize;
+    if blob.len() < end {
+        return &blob[..0];
+    }
+    &blob[..end]
+}
+
+// Where the record behind the one at a place begins; the end where there is none.
+fn next_place(types: &[u8], at: usize) -> usize
+    ensures { λ r. ⌜ r ≤ length (now (types .entry)) ⌝ }
+{
+    let r = rest_from(types, at);
+    let size = 12 + 4 * (tail_words(info_of(r)) as usize);
+    if types.len() < size {
+        return types.len();
+    }
+    if types.len() - size < at {
+        return types.len();
+    }
+    at + size
+}
+
+// The bytes from a type's record on in a table that is refused, whose index is empty: by a walk from the first record. None
+// where the record's head is not there.
+pub(crate) fn record_by_walk(blob: &[u8], t: u32) -> &[u8] {
+    let types = types_of(blob);
+    let mut at = 24;
+    let mut k: u32 = 1;
+    while k < t {
+        at = next_place(types, at);
+        k += 1;
+    }
+    let r = rest_from(types, at);
+    if r.len() < 12 {
+        return &r[..0];
+    }
+    r
+}

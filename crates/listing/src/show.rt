@@ -1,0 +1,192 @@
+// The listing of an accepted table: a line for each type, and below it a line for each entry.
+use crate::entries::put_entry;
+use crate::kinds::put_type;
+use crate::records::fourth_of;
+use crate::records::info_of;
+use crate::records::record_of;
+use crate::records::third_of;
+use lines::Out;
+use lines::ROOM;
+use lines::line;
+use lines::put;
+use lines::put_with;
+use paper::Place;
+use paper::Sized;
+use paper::TypeNo;
+use rows::entry_words;
+use rows::flag_of;
+use rows::kind_of;
+use rows::third_role;
+use rows::vlen_of;
+
+// A type's size. An accepted table gives neither 21 nor 22.
+pub fn put_size(buf: &mut [u8; ROOM], o: Out, s: Sized) -> Out {
+    match s {
+        Sized::Exact(n) => { put_with(buf, o, b"size ", n as u64) }
+        Sized::NoSize => put(buf, o, b"no size"),
+        Sized::Overflow => put(buf, o, b"over 4294967295"),
+        Sized::Lost => put(buf, o, b"report 21"),
+        Sized::TooFar => put(buf, o, b"report 22"),
+    }
+}
+
+// An INT: how its bits are read, how many they are, and where they begin, unless at bit 0.
+fn put_int(buf: &mut [u8; ROOM], o: Out, w: u32) -> Out {
+    let encodings = b"unsigned\nsigned\nchar\n\nbool\n";
+    let o = put(buf, o, b", ");
+    let o = put(buf, o, line(encodings, w / 16777216 % 16));
+    let o = put_with(buf, o, b", ", (w % 256) as u64);
+    let o = put(buf, o, b" bits");
+    let from = w / 65536 % 256;
+    if from == 0 {
+        return o;
+    }
+    put_with(buf, o, b" from bit ", from as u64)
+}
+
+// An ARRAY: count, element and index.
+fn put_array(buf: &mut [u8; ROOM], o: Out, blob: &[u8], index: &[u32], r: &[u8]) -> Out {
+    let o = put_with(buf, o, b", ", words::read(r, Place(20)) as u64);
+    let o = put(buf, o, b" of ");
+    let o = put_type(buf, o, blob, index, fourth_of(r));
+    let o = put(buf, o, b", index ");
+    put_type(buf, o, blob, index, words::read(r, Place(16)))
+}
+
+fn put_linkage(buf: &mut [u8; ROOM], o: Out, linkage: u32) -> Out {
+    let o = put(buf, o, b", ");
+    put(buf, o, line(b"static\nglobal\nextern\n", linkage))
+}
+
+// A FWD: what it stands for.
+fn put_forward(buf: &mut [u8; ROOM], o: Out, flag: u32) -> Out {
+    if flag == 0 {
+        return put(buf, o, b", struct");
+    }
+    put(buf, o, b", union")
+}
+
+// A DECL_TAG: which part of what it is on, if it is on a part.
+fn put_component(buf: &mut [u8; ROOM], o: Out, r: &[u8]) -> Out {
+    if kind_of(info_of(r)) != 17 {
+        return o;
+    }
+    let component = fourth_of(r);
+    if component == 4294967295 {
+        return put(buf, o, b", no component");
+    }
+    put_with(buf, o, b", component ", component as u64)
+}
+
+// What a kind alone has.
+fn put_own(buf: &mut [u8; ROOM], o: Out, blob: &[u8], index: &[u32], r: &[u8]) -> Out {
+    let info = info_of(r);
+    let kind = kind_of(info);
+    match kind {
+        1 => put_int(buf, o, fourth_of(r)),
+        3 => put_array(buf, o, blob, index, r),
+        7 => put_forward(buf, o, flag_of(info)),
+        12 => put_linkage(buf, o, vlen_of(info)),
+        14 => put_linkage(buf, o, fourth_of(r)),
+        _ => o,
+    }
+}
+
+// What a type refers to, with a word for how.
+fn put_referent(buf: &mut [u8; ROOM], o: Out, blob: &[u8], index: &[u32], r: &[u8]) -> Out {
+    let kind = kind_of(info_of(r));
+    if third_role(kind) == 0 {
+        return o;
+    }
+    let how = b"\n\nto\n\n\n\n\n\nto\nto\nto\nto\nof\nreturns\nof\n\n\non\nto\n";
+    let o = put(buf, o, b", ");
+    let o = put(buf, o, line(how, kind));
+    let o = put(buf, o, b" ");
+    put_type(buf, o, blob, index, third_of(r))
+}
+
+// How many entries a type has, with a word for what they are.
+fn put_count(buf: &mut [u8; ROOM], o: Out, r: &[u8]) -> Out {
+    let info = info_of(r);
+    let kind = kind_of(info);
+    if entry_words(kind) == 0 {
+        return o;
+    }
+    let what =
+        b"\n\n\n\n member\n member\n value\n\n\n\n\n\n\n parameter\n\n entry\n\n\n\n value\n";
+    let many =
+        b"\n\n\n\n members\n members\n values\n\n\n\n\n\n\n parameters\n\n entries\n\n\n\n values\n";
+    let n = vlen_of(info);
+    let o = put_with(buf, o, b", ", n as u64);
+    if n == 1 {
+        return put(buf, o, line(what, kind));
+    }
+    put(buf, o, line(many, kind))
+}
+
+// The tags' kind_flag, which says that they stand for an attribute.
+fn put_flag(buf: &mut [u8; ROOM], o: Out, r: &[u8]) -> Out {
+    let info = info_of(r);
+    let kind = kind_of(info);
+    if kind < 17 {
+        return o;
+    }
+    if kind == 19 {
+        return o;
+    }
+    if flag_of(info) == 0 {
+        return o;
+    }
+    put(buf, o, b", kind_flag 1")
+}
+
+// What stands behind the size.
+fn put_details(buf: &mut [u8; ROOM], o: Out, blob: &[u8], index: &[u32], r: &[u8]) -> Out {
+    let o = put_own(buf, o, blob, index, r);
+    let o = put_referent(buf, o, blob, index, r);
+    let o = put_component(buf, o, r);
+    let o = put_count(buf, o, r);
+    put_flag(buf, o, r)
+}
+
+// The line of a type.
+fn put_line(buf: &mut [u8; ROOM], o: Out, blob: &[u8], index: &[u32], t: u32) -> Out {
+    let o = put_type(buf, o, blob, index, t);
+    let o = put(buf, o, b": ");
+    let o = put_size(buf, o, sizes::size(blob, index, TypeNo(t)));
+    let o = put_details(buf, o, blob, index, record_of(blob, index, t));
+    put(buf, o, b"\n")
+}
+
+// A line for each entry of a record.
+fn put_entries(buf: &mut [u8; ROOM], o: Out, blob: &[u8], index: &[u32], r: &[u8]) -> Out {
+    let info = info_of(r);
+    if entry_words(kind_of(info)) == 0 {
+        return o;
+    }
+    let n = vlen_of(info);
+    let mut o = o;
+    let mut i: u32 = 0;
+    while i < n {
+        o = put_entry(buf, o, blob, index, r, i);
+        i += 1;
+    }
+    o
+}
+
+// A type, with its entries.
+pub fn show_one(buf: &mut [u8; ROOM], o: Out, blob: &[u8], index: &[u32], t: u32) -> Out {
+    let o = put_line(buf, o, blob, index, t);
+    put_entries(buf, o, blob, index, record_of(blob, index, t))
+}
+
+// Every type of a table of so many.
+pub fn show_all(buf: &mut [u8; ROOM], o: Out, blob: &[u8], index: &[u32], n: u32) -> Out {
+    let mut o = o;
+    let mut t: u32 = 0;
+    while t < n {
+        t += 1;
+        o = show_one(buf, o, blob, index, t);
+    }
+    o
+}
