@@ -1,0 +1,107 @@
+// A table is read from a file, or from standard input where the name is a dash.
+use libc::STDERR_FILENO;
+use libc::STDIN_FILENO;
+use lines::escape;
+ghost use Prim.Native.Nat.{_≤_};
+ghost use lib.ListN.{length};
+
+// What one read gives: so many bytes, 0 at the end; or that it failed.
+struct Got {
+    n: usize,
+    is_read: bool,
+}
+
+// What a whole file gives.
+pub(crate) struct Read {
+    pub n: usize,
+    pub is_read: bool,
+}
+
+// The first so many bytes; none where there are fewer.
+pub(crate) fn start(s: &[u8], n: usize) -> &[u8] {
+    if s.len() < n {
+        return &s[..0];
+    }
+    &s[..n]
+}
+
+// "scrieve: NAME: why", by the errno that a call has left. The name is escaped before it is written.
+fn fail_chunk(name: &[u8])
+    requires { ⌜ length (now name) ≤ 4096 ⌝ }
+{
+    let mut space = [0u8; 16384];
+    let n = escape(name, &mut space);
+    io::write_all(STDERR_FILENO, b"scrieve: ");
+    os::fail(&space[..n]);
+}
+
+// A name that is longer than any path is not told.
+pub(crate) fn fail(name: &[u8]) {
+    if name.len() <= 4096 {
+        fail_chunk(name);
+    }
+}
+
+fn read_some(fd: i32, s: &mut [u8]) -> Got
+    ensures { λ r. ⌜ r .n ≤ length (now (s .entry)) ⌝ }
+{
+    let got = libc::read(fd, s);
+    Got {
+        n: io::count(got, s),
+        is_read: 0 <= got,
+    }
+}
+
+// Reads until the input ends, the slice is full or a read fails.
+fn read_from(fd: i32, s: &mut [u8]) -> Read {
+    let mut done = 0;
+    while done < s.len() {
+        let got = read_some(fd, &mut s[done..]);
+        if !got.is_read {
+            return Read {
+                n: 0,
+                is_read: false,
+            };
+        }
+        if got.n == 0 {
+            return Read {
+                n: done,
+                is_read: true,
+            };
+        }
+        done += got.n;
+    }
+    Read {
+        n: done,
+        is_read: true,
+    }
+}
+
+pub(crate) fn is_dash(name: &[u8]) -> bool {
+    check::same(name, b"-")
+}
+
+// The bytes of the file, as many as the slice holds. Where it cannot be read, standard error says why.
+pub(crate) fn read_file(name: &[u8], s: &mut [u8]) -> Read {
+    if is_dash(name) {
+        let read = read_from(STDIN_FILENO, s);
+        if !read.is_read {
+            fail(b"standard input");
+        }
+        return read;
+    }
+    let fd = os::open_read(name);
+    if fd < 0 {
+        fail(name);
+        return Read {
+            n: 0,
+            is_read: false,
+        };
+    }
+    let read = read_from(fd, s);
+    if !read.is_read {
+        fail(name);
+    }
+    libc::close(fd);
+    read
+}

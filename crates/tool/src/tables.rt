@@ -1,0 +1,159 @@
+// What is asked of one table, and its answer.
+use crate::files::fail;
+use crate::files::read_file;
+use crate::files::start;
+use libc::STDERR_FILENO;
+use libc::STDOUT_FILENO;
+use lines::Out;
+use lines::ROOM;
+use lines::flush;
+use lines::put;
+use lines::put_escaped;
+use lines::put_with;
+use listing::Told;
+use listing::put_report;
+use listing::put_size;
+use listing::put_type;
+use listing::show_all;
+use listing::show_one;
+use listing::told_of;
+use paper::Checked;
+use paper::NameOff;
+use paper::TypeNo;
+
+// How a call ends: as asked, with a refusal, or as a call that is wrong or whose files cannot be read or written.
+pub(crate) enum Status {
+    Done,
+    Refused,
+    Failed,
+}
+
+// Everything, one type, a type's size, or the name at an offset.
+pub(crate) enum Ask {
+    Check,
+    All,
+    One(u32),
+    Size(u32),
+    Name(u32),
+}
+
+// What waits is written. Standard error says so where that cannot be done.
+pub(crate) fn end(buf: &mut [u8; ROOM], o: Out, s: Status) -> Status {
+    let o = flush(buf, o);
+    if o.is_whole {
+        return s;
+    }
+    fail(b"standard output");
+    Status::Failed
+}
+
+// The type or the offset that is asked of a table of so many types is there.
+fn is_there(ask: Ask, blob: &[u8], n: u32) -> bool {
+    match ask {
+        Ask::Check => true,
+        Ask::All => true,
+        Ask::One(t) => t <= n,
+        Ask::Size(t) => t <= n,
+        Ask::Name(at) => !scan::nameless(blob, NameOff(at)),
+    }
+}
+
+fn put_missing(buf: &mut [u8; ROOM], o: Out, ask: Ask, n: u32) -> Out {
+    match ask {
+        Ask::Name(at) => {
+            let o = put_with(buf, o, b": offset ", at as u64);
+            put(buf, o, b" is past the strings\n")
+        }
+        _ => {
+            let o = put_with(buf, o, b": there is no such type, the last is ", n as u64);
+            put(buf, o, b"\n")
+        }
+    }
+}
+
+// What is asked is not there: a wrong call.
+fn missing(file: &[u8], ask: Ask, n: u32) -> Status {
+    let mut buf = [0u8; ROOM];
+    let o = put(&mut buf, lines::to(STDERR_FILENO), b"scrieve: ");
+    let o = put_escaped(&mut buf, o, file);
+    let o = put_missing(&mut buf, o, ask, n);
+    flush(&mut buf, o);
+    Status::Failed
+}
+
+fn put_accepted(buf: &mut [u8; ROOM], o: Out, file: &[u8], n: u32) -> Out {
+    let o = put_escaped(buf, o, file);
+    let o = put_with(buf, o, b": accepted, ", n as u64);
+    if n == 1 {
+        return put(buf, o, b" type\n");
+    }
+    put(buf, o, b" types\n")
+}
+
+fn put_sized(buf: &mut [u8; ROOM], o: Out, blob: &[u8], index: &[u32], t: u32) -> Out {
+    let o = put_type(buf, o, blob, index, t);
+    let o = put(buf, o, b": ");
+    let o = put_size(buf, o, sizes::size(blob, index, TypeNo(t)));
+    put(buf, o, b"\n")
+}
+
+fn put_string(buf: &mut [u8; ROOM], o: Out, blob: &[u8], at: u32) -> Out {
+    let o = put_escaped(buf, o, scan::name(blob, NameOff(at)));
+    put(buf, o, b"\n")
+}
+
+fn put_answer(
+    buf: &mut [u8; ROOM],
+    o: Out,
+    ask: Ask,
+    file: &[u8],
+    blob: &[u8],
+    index: &[u32],
+    n: u32,
+) -> Out {
+    match ask {
+        Ask::Check => put_accepted(buf, o, file, n),
+        Ask::All => show_all(buf, o, blob, index, n),
+        Ask::One(t) => show_one(buf, o, blob, index, t),
+        Ask::Size(t) => put_sized(buf, o, blob, index, t),
+        Ask::Name(at) => put_string(buf, o, blob, at),
+    }
+}
+
+fn put_refused(buf: &mut [u8; ROOM], o: Out, file: &[u8], blob: &[u8], told: Told) -> Out {
+    let o = put_escaped(buf, o, file);
+    let o = put(buf, o, b": refused, ");
+    let o = put_report(buf, o, blob, told);
+    put(buf, o, b"\n")
+}
+
+// A table is checked first, whatever is asked of it.
+fn answer(ask: Ask, file: &[u8], blob: &[u8], index: &mut [u32], work: &mut [u32]) -> Status {
+    let mut buf = [0u8; ROOM];
+    let o = lines::to(STDOUT_FILENO);
+    match gate::check(blob, index, work) {
+        Checked::Refused(r) => {
+            let o = put_refused(&mut buf, o, file, blob, told_of(r));
+            end(&mut buf, o, Status::Refused)
+        }
+        Checked::Accepted(n) => {
+            if !is_there(ask, blob, n) {
+                return missing(file, ask, n);
+            }
+            let o = put_answer(&mut buf, o, ask, file, blob, index, n);
+            end(&mut buf, o, Status::Done)
+        }
+    }
+}
+
+// One byte more is read than a table may have, so that a file that is too large gets report 1.
+pub(crate) fn ask_file(ask: Ask, file: &[u8]) -> Status {
+    let mut blob = [0u8; 65537];
+    let mut index = [0u32; 4097];
+    let mut work = [0u32; 4097];
+    let read = read_file(file, &mut blob);
+    if !read.is_read {
+        return Status::Failed;
+    }
+    answer(ask, file, start(&blob, read.n), &mut index, &mut work)
+}

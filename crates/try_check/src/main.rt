@@ -1,0 +1,4 @@
+// The tool on a table that is refused.
+fn main() {
+    tool::run();
+}

@@ -1,0 +1,4 @@
+// The tool joins two tables.
+fn main() {
+    tool::run();
+}

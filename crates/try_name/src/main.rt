@@ -1,0 +1,4 @@
+// The tool asked for a name.
+fn main() {
+    tool::run();
+}

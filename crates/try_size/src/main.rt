@@ -1,0 +1,4 @@
+// The tool asked for a size.
+fn main() {
+    tool::run();
+}
