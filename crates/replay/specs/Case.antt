@@ -1,4 +1,4 @@
--- What the bytes of a case say, when two answers agree, and an answer in the paper's record.
+-- What the bytes of a case say, when two answers agree, and what is seen of a call.
 use Prim.Native.Nat.{ℕ}
 use mathlib.Core.Bool.{Bool, cond, _&&_}
 use mathlib.Core.List.{List}
@@ -14,7 +14,6 @@ use Rattle.replay.specs.declared.cases.Head.{Head}
 use Rattle.replay.specs.declared.cases.Seen.{Seen}
 use Rattle.replay.specs.declared.cases.Opening.{Opening}
 use Rattle.replay.specs.declared.cases.Opening.the-variants.{Cases, Foreign}
-use Rattle.replay.specs.declared.ops.Answer.{Answer}
 
 -- "op, index places, work places, output bytes, x, y, length of a, length of b"
 abbrev pub headOf : List ℕ → Head
@@ -57,10 +56,6 @@ sameSeen u v =
     && (eqb (u .index) (v .index)
     && (eqb (u .work) (v .work)
     && eqb (u .output) (v .output))))))
-
--- an answer in the paper's record
-abbrev pub asPaper : Answer → paper.Answer
-asPaper r = record { number = r .number; inner = r .inner; t = r .t; p = r .p }
 
 -- a number and a value, with no report inside and no type
 abbrev pub plainly : ℕ → ℕ → paper.Answer

@@ -9,8 +9,8 @@ use Rattle.replay.proofs.ops.check.Tie as tie
 check-requires : tie.Need-check-requires
 check-requires c κs = search needs
 
-checked-requires : tie.Need-checked-requires
-checked-requires c κs = search needs
+of-checked-requires : tie.Need-of-checked-requires
+of-checked-requires c κs = search needs
 
 seen-requires : tie.Need-seen-requires
 seen-requires c κs = search needs
@@ -25,7 +25,7 @@ returns : tie.Need-returns
 returns c =
     let answer = c .before .before .before in
     let call = answer .before .before .before .before .before .check .ensures in
-    check-seen _ _ _ _ (c .seen .ensures) (answer .checked .ensures ∙ call .told .answers) (call .told .indexes) (call .cleared)
+    check-seen _ _ _ _ (c .seen .ensures) (answer .of-checked .ensures ∙ call .told .answers) (call .told .indexes) (call .cleared)
 
 pub check-spec : {M : Type 1} → statement M
-check-spec = tie.close (tie.spec check-requires checked-requires seen-requires same-length same-length-2 returns)
+check-spec = tie.close (tie.spec check-requires of-checked-requires seen-requires same-length same-length-2 returns)

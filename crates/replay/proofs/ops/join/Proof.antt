@@ -9,8 +9,8 @@ use Rattle.replay.proofs.ops.join.Tie as tie
 join-requires : tie.Need-join-requires
 join-requires c κs = search needs
 
-joined-requires : tie.Need-joined-requires
-joined-requires c κs = search needs
+of-joined-requires : tie.Need-of-joined-requires
+of-joined-requires c κs = search needs
 
 seen-requires : tie.Need-seen-requires
 seen-requires c κs = search needs
@@ -28,14 +28,14 @@ returns : tie.Need-returns
 returns c =
     let answer = c .before .before .before .before in
     let call = answer .before .before .before .before .before .before .before .join .ensures in
-    join-seen _ _ _ _ _ (c .seen .ensures) (answer .joined .ensures ∙ call .answers) (call .indexes) (call .works) (call .outputs)
+    join-seen _ _ _ _ _ (c .seen .ensures) (answer .of-joined .ensures ∙ call .answers) (call .indexes) (call .works) (call .outputs)
 
 pub join-spec : {M : Type 1} → statement M
 join-spec =
     tie.close
     (tie.spec
     join-requires
-    joined-requires
+    of-joined-requires
     seen-requires
     same-length
     same-length-2

@@ -11,8 +11,8 @@ use Rattle.replay.proofs.ops.size.Tie as tie
 size-requires : tie.Need-size-requires
 size-requires c κs = search needs
 
-sized-requires : tie.Need-sized-requires
-sized-requires c κs = search needs
+of-sized-requires : tie.Need-of-sized-requires
+of-sized-requires c κs = search needs
 
 seen-requires : tie.Need-seen-requires
 seen-requires c κs = search needs
@@ -21,7 +21,7 @@ returns : tie.Need-returns
 returns c =
     let d = c .before .before .before .before .before .before .before .before .args in
     c .seen .ensures
-    ∙ ap (λ (r : Answer). seenWith r (now (d .index)) (now (d .work)) (now (d .output))) (c .before .sized .ensures ∙ c .before .before .size .ensures)
+    ∙ ap (λ (r : Answer). seenWith r (now (d .index)) (now (d .work)) (now (d .output))) (c .before .of-sized .ensures ∙ c .before .before .size .ensures)
 
 pub size-spec : {M : Type 1} → statement M
-size-spec = tie.close (tie.spec size-requires sized-requires seen-requires returns)
+size-spec = tie.close (tie.spec size-requires of-sized-requires seen-requires returns)
