@@ -1,0 +1,102 @@
+/* The C interface of Scrieveply: the check of a BTF table, the size of a type, the name at an offset, the join of two tables.
+ *
+ * Every function is proved: for any bytes in the lent slices it ends, reads and writes nothing outside them, and leaves in each place
+ * exactly what is written here (crates/abi/src/lib.rt has the contracts). Build with `rt staticlib abi`, link with
+ * target/staticlib/libabi.a (x86-64). The archive needs `memset` and nothing else of a C library.
+ *
+ * What holds for every function
+ * - A slice is a pointer and the number of its elements: bytes for uint8_t, places for uint32_t. All memory is the caller's: nothing
+ *   is allocated, nothing is kept after the call, there is no global state. Calls in several threads at once are safe, each with
+ *   written slices of its own.
+ * - A slice that is written (index of a check or a join, work, out, answer) must not overlap any other slice of the call. Those that
+ *   are only read may overlap each other, so a table can be joined with itself. Nothing may write a slice during the call but the
+ *   call itself.
+ * - No pointer may be null, that of an empty slice neither: lend any object and 0 elements. A uint32_t pointer is aligned as
+ *   uint32_t is; a uint8_t pointer needs no alignment.
+ * - What stands in a written slice before the call has no meaning. It need not be cleared.
+ * - `type` and `offset` are a type number and an offset into the string section. Type 0 is void; records are numbered from 1.
+ *
+ * The answer
+ * Four numbers go into the first places of `answer`: number, inner, t, p. With fewer than four places only the first of them are
+ * told; places past the fourth stay as they were.
+ *
+ *   function       number                                inner               t                             p
+ *   scrieve_check  0 accepted, or a report 1 to 15       0                   count of types, or the        0
+ *                                                                            report's type
+ *   scrieve_size   0 exact, 1 no size, 2 over 32 bits,   0                   0                             the exact size, else 0
+ *                  21, 22
+ *   scrieve_name   0 a name, 1 none                      0                   where it begins in the blob   its length in bytes
+ *   scrieve_join   0 joined, or 16 to 20                 for 16 and 17 the   the type of the report        the joined length, else 0
+ *                                                        report inside       inside, else 0
+ *
+ * The reports
+ *    1 under 24 bytes or over 65,536                     12 a word after the head breaks a rule
+ *    2 the first four bytes are not 9F EB 01 00          13 a reference above the count or to a forbidden kind
+ *    3 the header length is not 24                       14 a type holds itself by value, or leads to one that does
+ *    4 the sections do not add up to the blob            15 a layout rule is broken
+ *    5 strings empty, or not from zero byte to zero byte 16 the first table is refused
+ *    6 a record does not fit the type section            17 the second table is refused
+ *    7 an unknown kind                                   18 over 4,096 types together
+ *    8 over 4,096 types                                  19 the joined length is over 65,536
+ *    9 index or work has under count + 1 places          20 the output is shorter than the joined length
+ *   10 a record's head breaks a rule                     21 the index leads outside what can be read
+ *   11 a name breaks a rule                              22 more records would be read than the index has places
+ */
+#ifndef SCRIEVE_H
+#define SCRIEVE_H
+
+#include <stddef.h>
+#include <stdint.h>
+
+/* Full size: with so many places in index and work, and so many bytes of output, no table is refused for want of room. */
+#define SCRIEVE_FULL_PLACES 4097
+#define SCRIEVE_FULL_BYTES 65536
+
+/* Places for a whole answer, and what stands in each. */
+#define SCRIEVE_ANSWER_PLACES 4
+#define SCRIEVE_NUMBER 0
+#define SCRIEVE_INNER 1
+#define SCRIEVE_T 2
+#define SCRIEVE_P 3
+
+#ifdef __cplusplus
+extern "C" {
+#endif
+
+/* Checks a blob.
+ *   blob     the table's bytes, read only
+ *   index    places, count of types + 1 or more. Accepted: place 0 holds 0, place k the byte place of record k in the blob, the rest 0.
+ *            Refused, for whatever reason: all 0.
+ *   work     places, count of types + 1 or more. All 0 afterwards, accepted or refused.
+ *   answer   see above */
+void scrieve_check(const uint8_t *blob, size_t, uint32_t *index, size_t, uint32_t *work, size_t, uint32_t *answer, size_t);
+
+/* The size of a type in bytes.
+ *   blob     the table's bytes, read only
+ *   index    the index that an accepted check of this blob has left, read only; count of types + 1 places are enough. With any other
+ *            blob and index the call is as safe, and 21 or 22 may be its answer.
+ *   type     the type number
+ *   answer   see above */
+void scrieve_size(const uint8_t *blob, size_t, const uint32_t *index, size_t, uint32_t type, uint32_t *answer, size_t);
+
+/* The name at an offset into the strings, up to its first zero byte. It is not copied: the answer says where it lies in the blob.
+ *   blob     the table's bytes, read only
+ *   offset   the name offset
+ *   answer   see above. There is none (1, with t and p 0) where the blob would get one of the reports 1 to 5, or where the offset is
+ *            not below the string length. A name of no bytes is a name (0), at the place where its zero byte stands. */
+void scrieve_name(const uint8_t *blob, size_t, uint32_t offset, uint32_t *answer, size_t);
+
+/* Joins two blobs: the first's types, then the second's with type numbers and name offsets raised.
+ *   a, b     the two tables' bytes, read only
+ *   index    places, count of types + 1 of the larger table or more. All 0 afterwards, joined or refused.
+ *   work     as index
+ *   out      bytes, the joined length or more. Joined: the table, and every byte past the joined length as it was. Refused: every
+ *            byte as it was.
+ *   answer   see above. Check the joined table to get its index. */
+void scrieve_join(const uint8_t *a, size_t, const uint8_t *b, size_t, uint32_t *index, size_t, uint32_t *work, size_t, uint8_t *out, size_t, uint32_t *answer, size_t);
+
+#ifdef __cplusplus
+}
+#endif
+
+#endif
