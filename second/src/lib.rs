@@ -5,6 +5,11 @@
 //! blob, no cleverness about speed or memory.
 
 pub mod antt;
+#[cfg(feature = "archive")]
+pub mod archive;
+#[cfg(feature = "archive")]
+pub mod beside;
+pub mod census;
 pub mod chain;
 pub mod check;
 pub mod generate;

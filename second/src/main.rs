@@ -11,10 +11,10 @@
 //! A seed's cases are mostly small, with some at the limits; with `--small` no
 //! limit is reached, with `--long` checks and joins are of long tables only.
 
+use second::census::Census;
 use second::generate::{cases, Scale, Wanted};
 use second::report::meaning;
-use second::vectors::{self, run, Case, CHECK, JOIN, NAME, SIZE};
-use std::collections::BTreeMap;
+use second::vectors::{self, run, Case, CHECK, JOIN};
 use std::io::Write;
 use std::process::ExitCode;
 
@@ -108,39 +108,11 @@ fn is_flag(wanted: &mut Wanted, argument: &str) -> bool {
 
 /// How many cases there are of each op and answer.
 fn census(cases: &[Case]) -> String {
-    let mut counts: BTreeMap<(u32, u32, u32), usize> = BTreeMap::new();
+    let mut census = Census::default();
     for case in cases {
-        let seen = run(case);
-        *counts
-            .entry((case.op, seen.number, seen.inner))
-            .or_default() += 1;
+        census.add(case.op, &run(case));
     }
-    let mut text = String::new();
-    for ((op, number, inner), count) in counts {
-        let inside = if inner == 0 {
-            String::new()
-        } else {
-            format!(" with {inner} inside")
-        };
-        text += &format!("{count:6}  {}{inside}\n", answer_in_words(op, number));
-    }
-    text + &format!("{:6}  cases\n", cases.len())
-}
-
-fn answer_in_words(op: u32, number: u32) -> String {
-    let (call, answer) = match (op, number) {
-        (CHECK, 0) => ("check", "accepted"),
-        (SIZE, 0) => ("size", "exact"),
-        (SIZE, 1) => ("size", "no size"),
-        (SIZE, 2) => ("size", "overflow"),
-        (NAME, 0) => ("name", "part of the blob"),
-        (NAME, _) => ("name", "no name there"),
-        (JOIN, 0) => ("join", "joined"),
-        (CHECK, _) => ("check", "report"),
-        (SIZE, _) => ("size", "report"),
-        _ => ("join", "report"),
-    };
-    format!("op {op} {call}: {number:2} {answer}")
+    census.text()
 }
 
 /// One line on the blob in a file.

@@ -1,0 +1,116 @@
+//! The proved code, as the archive has it for C: the functions that
+//! include/scrieve.h declares, lent Rust's slices.
+
+#[link(name = "abi", kind = "static")]
+extern "C" {
+    fn scrieve_check(
+        blob: *const u8,
+        blob_bytes: usize,
+        index: *mut u32,
+        index_places: usize,
+        work: *mut u32,
+        work_places: usize,
+        answer: *mut u32,
+        answer_places: usize,
+    );
+    fn scrieve_size(
+        blob: *const u8,
+        blob_bytes: usize,
+        index: *const u32,
+        index_places: usize,
+        type_number: u32,
+        answer: *mut u32,
+        answer_places: usize,
+    );
+    fn scrieve_name(
+        blob: *const u8,
+        blob_bytes: usize,
+        offset: u32,
+        answer: *mut u32,
+        answer_places: usize,
+    );
+    fn scrieve_join(
+        a: *const u8,
+        a_bytes: usize,
+        b: *const u8,
+        b_bytes: usize,
+        index: *mut u32,
+        index_places: usize,
+        work: *mut u32,
+        work_places: usize,
+        out: *mut u8,
+        out_bytes: usize,
+        answer: *mut u32,
+        answer_places: usize,
+    );
+}
+
+// Each call is sound for one reason: Rust's slices are live, aligned, never
+// null, and those that are written lie apart from all others.
+
+pub fn check(blob: &[u8], index: &mut [u32], work: &mut [u32], answer: &mut [u32]) {
+    unsafe {
+        scrieve_check(
+            blob.as_ptr(),
+            blob.len(),
+            index.as_mut_ptr(),
+            index.len(),
+            work.as_mut_ptr(),
+            work.len(),
+            answer.as_mut_ptr(),
+            answer.len(),
+        )
+    }
+}
+
+pub fn size(blob: &[u8], index: &[u32], type_number: u32, answer: &mut [u32]) {
+    unsafe {
+        scrieve_size(
+            blob.as_ptr(),
+            blob.len(),
+            index.as_ptr(),
+            index.len(),
+            type_number,
+            answer.as_mut_ptr(),
+            answer.len(),
+        )
+    }
+}
+
+pub fn name(blob: &[u8], offset: u32, answer: &mut [u32]) {
+    unsafe {
+        scrieve_name(
+            blob.as_ptr(),
+            blob.len(),
+            offset,
+            answer.as_mut_ptr(),
+            answer.len(),
+        )
+    }
+}
+
+pub fn join(
+    a: &[u8],
+    b: &[u8],
+    index: &mut [u32],
+    work: &mut [u32],
+    out: &mut [u8],
+    answer: &mut [u32],
+) {
+    unsafe {
+        scrieve_join(
+            a.as_ptr(),
+            a.len(),
+            b.as_ptr(),
+            b.len(),
+            index.as_mut_ptr(),
+            index.len(),
+            work.as_mut_ptr(),
+            work.len(),
+            out.as_mut_ptr(),
+            out.len(),
+            answer.as_mut_ptr(),
+            answer.len(),
+        )
+    }
+}

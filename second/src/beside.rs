@@ -1,0 +1,169 @@
+//! One case through the archive and through this implementation, compared in
+//! every number and every place of every slice.
+
+use crate::archive;
+use crate::generate::random::Random;
+use crate::vectors::{places, run, Case, Seen, CHECK, JOIN, NAME, SIZE};
+
+/// What stands in an answer's place before a call; no answer has this number.
+const UNTOLD: u32 = 0xA5A5_A5A5;
+
+/// Everything a call reads or writes. The written slices have a place more at
+/// each end that is not lent, so that a write outside would be seen.
+#[derive(Clone, PartialEq, Eq)]
+struct Slices {
+    a: Vec<u8>,
+    b: Vec<u8>,
+    given: Vec<u32>,
+    index: Vec<u32>,
+    work: Vec<u32>,
+    output: Vec<u8>,
+    answer: Vec<u32>,
+}
+
+/// A case with what the archive is lent besides.
+pub struct Trial {
+    pub case: Case,
+    pub answer_places: usize,
+    /// How far behind an aligned place both blobs begin.
+    pub shift: usize,
+}
+
+impl Trial {
+    /// Lent lengths are mostly the case's own; answers mostly fit.
+    pub fn new(r: &mut Random, mut case: Case) -> Trial {
+        if case.op == CHECK || case.op == JOIN {
+            case.index_places = lent(r, case.index_places, 5_000);
+            case.work_places = lent(r, case.work_places, 5_000);
+        }
+        if case.op == JOIN {
+            case.output_bytes = lent(r, case.output_bytes, 70_000);
+        }
+        Trial {
+            case,
+            answer_places: r.pick(&[4, 4, 4, 4, 4, 4, 4, 5, 6, 0, 1, 2, 3]),
+            shift: r.below(4) as usize,
+        }
+    }
+
+    /// The answer, if both leave the same; else the first difference.
+    pub fn compare(&self) -> Result<Seen, String> {
+        let mut archive = self.slices();
+        let mut second = archive.clone();
+        self.run_archive(&mut archive);
+        let seen = run(&self.case);
+        self.put_seen(&seen, &mut second);
+        if archive == second {
+            Ok(seen)
+        } else {
+            Err(difference(&archive, &second))
+        }
+    }
+
+    /// Filled before the call as the form of the vectors says.
+    fn slices(&self) -> Slices {
+        let case = &self.case;
+        Slices {
+            a: behind(self.shift, &case.a),
+            b: behind(self.shift, &case.b),
+            given: places(&case.b),
+            index: vec![u32::MAX; case.index_places as usize + 2],
+            work: vec![u32::MAX; case.work_places as usize + 2],
+            output: vec![165; case.output_bytes as usize + 2],
+            answer: vec![UNTOLD; self.answer_places + 2],
+        }
+    }
+
+    fn run_archive(&self, s: &mut Slices) {
+        let a = &s.a[self.shift..];
+        let b = &s.b[self.shift..];
+        let answer = inner(&mut s.answer);
+        match self.case.op {
+            CHECK => archive::check(a, inner(&mut s.index), inner(&mut s.work), answer),
+            SIZE => archive::size(a, &s.given, self.case.x, answer),
+            NAME => archive::name(a, self.case.x, answer),
+            _ => archive::join(
+                a,
+                b,
+                inner(&mut s.index),
+                inner(&mut s.work),
+                inner(&mut s.output),
+                answer,
+            ),
+        }
+    }
+
+    /// What must be there after the call. A name is told by where it begins
+    /// and its length; no output is lent for it.
+    fn put_seen(&self, seen: &Seen, s: &mut Slices) {
+        let t = match self.case.op {
+            NAME => name_start(&self.case),
+            _ => seen.t,
+        };
+        let told = [seen.number, seen.inner, t, seen.p];
+        for (place, number) in inner(&mut s.answer).iter_mut().zip(told) {
+            *place = number;
+        }
+        inner(&mut s.index).copy_from_slice(&seen.index);
+        inner(&mut s.work).copy_from_slice(&seen.work);
+        if self.case.op != NAME {
+            inner(&mut s.output).copy_from_slice(&seen.output);
+        }
+    }
+}
+
+/// Mostly as many as the case says; else fewer, more, none or the most.
+fn lent(r: &mut Random, own: u32, most: u32) -> u32 {
+    match r.below(40) {
+        0 => r.below(own + 1),
+        1 => own.saturating_sub(1),
+        2 => (own + r.between(1, 40)).min(most),
+        3 if r.one_in(8) => most,
+        4 if r.one_in(4) => 0,
+        _ => own,
+    }
+}
+
+/// The bytes behind so many others.
+fn behind(shift: usize, bytes: &[u8]) -> Vec<u8> {
+    let mut whole = vec![0x5A; shift];
+    whole.extend(bytes);
+    whole
+}
+
+/// The lent part of a slice.
+fn inner<T>(whole: &mut [T]) -> &mut [T] {
+    let last = whole.len() - 1;
+    &mut whole[1..last]
+}
+
+/// Where this implementation's part begins in the blob.
+fn name_start(case: &Case) -> u32 {
+    let (part, _) = crate::name(&case.a, case.x);
+    (part.as_ptr() as usize - case.a.as_ptr() as usize) as u32
+}
+
+/// The first slice that differs, and where.
+fn difference(archive: &Slices, second: &Slices) -> String {
+    let bytes = |whole: &[u8]| whole.iter().map(|b| u32::from(*b)).collect::<Vec<u32>>();
+    let pairs = [
+        ("answer", archive.answer.clone(), second.answer.clone()),
+        ("index", archive.index.clone(), second.index.clone()),
+        ("work", archive.work.clone(), second.work.clone()),
+        ("output", bytes(&archive.output), bytes(&second.output)),
+        ("given index", archive.given.clone(), second.given.clone()),
+        ("first blob", bytes(&archive.a), bytes(&second.a)),
+        ("second blob", bytes(&archive.b), bytes(&second.b)),
+    ];
+    for (slice, left, must) in pairs {
+        if let Some(at) = (0..left.len()).find(|at| left[*at] != must[*at]) {
+            // the place before the lent ones is place -1
+            let place = at as i64 - 1;
+            return format!(
+                "{slice}, place {place}: the archive has {}, second {}",
+                left[at], must[at]
+            );
+        }
+    }
+    "no difference".to_string()
+}

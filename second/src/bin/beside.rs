@@ -1,0 +1,139 @@
+//! The archive and this implementation in one process: generated cases of
+//! every op through both, until the first that differs.
+//!
+//!     beside [--seed N] [--cases N]
+//!
+//! The fixed cases come first, as many as fit the count: tables at the limits,
+//! and every rule's edges. Lent lengths vary with the seed. Status 1 for a
+//! difference, 2 for a wrong call.
+
+use second::beside::Trial;
+use second::census::Census;
+use second::generate::random::Random;
+use second::generate::{cases, Scale, Wanted};
+use second::vectors::{Case, CHECK, JOIN};
+use std::process::ExitCode;
+
+const USAGE: &str = "beside [--seed N] [--cases N]";
+
+/// Of a thousand generated cases, how many have each scale.
+const SHARES: [(Scale, usize); 3] = [(Scale::Small, 400), (Scale::Full, 590), (Scale::Long, 10)];
+
+fn main() -> ExitCode {
+    let arguments: Vec<String> = std::env::args().skip(1).collect();
+    let Some((seed, count)) = asked(&arguments) else {
+        eprintln!("{USAGE}");
+        return ExitCode::from(2);
+    };
+    let mut run = Run {
+        r: Random::new(seed),
+        left: count,
+        census: Census::default(),
+    };
+    let [small, any, long] = SHARES.map(|(_, count)| count);
+    println!(
+        "seed {seed}; of 1000 generated cases {small} are small, {any} of any size, {long} long"
+    );
+    let differed = run.all().is_err();
+    println!("{}", run.summary());
+    let agreed = count - run.left;
+    println!("{agreed} agreed, {} differed", u32::from(differed));
+    ExitCode::from(u8::from(differed))
+}
+
+fn asked(arguments: &[String]) -> Option<(u64, usize)> {
+    let (mut seed, mut count) = (1, 50_000);
+    for pair in arguments.chunks(2) {
+        let value = pair.get(1)?.parse::<u64>().ok()?;
+        match pair[0].as_str() {
+            "--seed" => seed = value,
+            "--cases" => count = value as usize,
+            _ => return None,
+        }
+    }
+    Some((seed, count))
+}
+
+/// A case has differed; it has been printed.
+struct Differed;
+
+struct Run {
+    r: Random,
+    left: usize,
+    census: Census,
+}
+
+impl Run {
+    fn all(&mut self) -> Result<(), Differed> {
+        let fixed = cases(&self.wanted(Scale::Full, 0, true));
+        println!("{} fixed cases before them", fixed.len().min(self.left));
+        self.some(fixed)?;
+        while self.left > 0 {
+            for (scale, count) in SHARES {
+                let wanted = self.wanted(scale, count.min(self.left), false);
+                self.some(cases(&wanted))?;
+            }
+        }
+        Ok(())
+    }
+
+    fn wanted(&mut self, scale: Scale, cases: usize, fixed: bool) -> Wanted {
+        Wanted {
+            seed: self.r.next(),
+            cases,
+            ops: vec![1, 2, 3, 4],
+            scale,
+            only: None,
+            edges: fixed,
+            thin: false,
+            large: fixed,
+        }
+    }
+
+    /// Each of these, as long as any are left to try.
+    fn some(&mut self, cases: Vec<Case>) -> Result<(), Differed> {
+        for case in cases.into_iter().take(self.left) {
+            let trial = Trial::new(&mut self.r, case);
+            match trial.compare() {
+                Ok(seen) => self.census.add(trial.case.op, &seen),
+                Err(what) => {
+                    print_case(&trial, &what);
+                    return Err(Differed);
+                }
+            }
+            self.left -= 1;
+        }
+        Ok(())
+    }
+
+    /// The census, and how many checks and joins went through.
+    fn summary(&self) -> String {
+        let mut text = self.census.text();
+        for (op, what) in [(CHECK, "checks accepted"), (JOIN, "joins done")] {
+            let (done, all) = (self.census.count(op, Some(0)), self.census.count(op, None));
+            let percent = 100.0 * done as f64 / all.max(1) as f64;
+            text += &format!("{what}: {done} of {all} ({percent:.1} %)\n");
+        }
+        text.trim_end().to_string()
+    }
+}
+
+fn print_case(trial: &Trial, what: &str) {
+    let case = &trial.case;
+    println!("differs: {what}");
+    println!(
+        "op {}, x {}, index {} places, work {} places, output {} bytes, answer {} places",
+        case.op,
+        case.x,
+        case.index_places,
+        case.work_places,
+        case.output_bytes,
+        trial.answer_places
+    );
+    println!("a: {}", hexadecimal(&case.a));
+    println!("b: {}", hexadecimal(&case.b));
+}
+
+fn hexadecimal(bytes: &[u8]) -> String {
+    bytes.iter().map(|byte| format!("{byte:02x}")).collect()
+}
