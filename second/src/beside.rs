@@ -146,22 +146,28 @@ fn name_start(case: &Case) -> u32 {
 /// The first slice that differs, and where.
 fn difference(archive: &Slices, second: &Slices) -> String {
     let bytes = |whole: &[u8]| whole.iter().map(|b| u32::from(*b)).collect::<Vec<u32>>();
+    // with the number of places before the lent ones
     let pairs = [
-        ("answer", archive.answer.clone(), second.answer.clone()),
-        ("index", archive.index.clone(), second.index.clone()),
-        ("work", archive.work.clone(), second.work.clone()),
-        ("output", bytes(&archive.output), bytes(&second.output)),
-        ("given index", archive.given.clone(), second.given.clone()),
-        ("first blob", bytes(&archive.a), bytes(&second.a)),
-        ("second blob", bytes(&archive.b), bytes(&second.b)),
+        ("answer", 1, archive.answer.clone(), second.answer.clone()),
+        ("index", 1, archive.index.clone(), second.index.clone()),
+        ("work", 1, archive.work.clone(), second.work.clone()),
+        ("output", 1, bytes(&archive.output), bytes(&second.output)),
+        (
+            "given index",
+            0,
+            archive.given.clone(),
+            second.given.clone(),
+        ),
+        ("first blob", 0, bytes(&archive.a), bytes(&second.a)),
+        ("second blob", 0, bytes(&archive.b), bytes(&second.b)),
     ];
-    for (slice, left, must) in pairs {
+    for (slice, before, left, must) in pairs {
         if let Some(at) = (0..left.len()).find(|at| left[*at] != must[*at]) {
-            // the place before the lent ones is place -1
-            let place = at as i64 - 1;
             return format!(
-                "{slice}, place {place}: the archive has {}, second {}",
-                left[at], must[at]
+                "{slice}, place {}: the archive has {}, second {}",
+                at as i64 - before,
+                left[at],
+                must[at]
             );
         }
     }

@@ -3,6 +3,7 @@
 mod common;
 
 use common::*;
+use second::generate::heavy::{NESTED, SHAPES};
 use second::generate::large::pointers;
 use second::generate::large_fixed::*;
 use second::vectors::{run, CHECK, SIZE};
@@ -99,4 +100,18 @@ fn cases_keep_the_limits_of_a_file() {
     assert_eq!(answers(CHECK, 15), 4);
     // no size: a prototype, its function and its tag
     assert_eq!(answers(SIZE, 1), 3);
+}
+
+/// The figures are of accepted tables, at full length and as halves that fit
+/// together.
+#[test]
+fn tables_of_the_figures() {
+    for shape in SHAPES.iter().chain([&NESTED]) {
+        for bytes in [65_536, 32_780] {
+            let blob = shape.blob(bytes);
+            assert_eq!(blob.len(), bytes, "{}", shape.title);
+            assert!(gate(&blob).is_ok(), "{}", shape.title);
+        }
+    }
+    assert_eq!(gate(&NESTED.blob(65_536)), Ok(4_000));
 }

@@ -14,6 +14,7 @@ pub mod edges_questions;
 pub mod edges_walks;
 pub mod grow;
 pub mod grow_members;
+pub mod heavy;
 pub mod join_cases;
 pub mod large;
 pub mod large_fixed;

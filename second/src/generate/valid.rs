@@ -53,15 +53,21 @@ pub fn turn_pointers(r: &mut Random, m: &mut Make) {
 }
 
 /// Renumbers the types in a random order, so that references lead forward
-/// too. Only tables that the walk of phase 2 reads are changed.
+/// too.
 pub fn shuffle(r: &mut Random, m: &mut Make) {
-    let Some(table) = table_of(m) else {
-        return;
-    };
     let mut order: Vec<usize> = (0..m.records.len()).collect();
     for last in (1..order.len()).rev() {
         order.swap(last, r.below(last as u32 + 1) as usize);
     }
+    reorder(m, &order);
+}
+
+/// Puts the types in this order and renumbers what refers to them. Only tables
+/// that the walk of phase 2 reads are changed.
+pub fn reorder(m: &mut Make, order: &[usize]) {
+    let Some(table) = table_of(m) else {
+        return;
+    };
     let mut renumbered = vec![0; order.len()];
     for (now, before) in order.iter().enumerate() {
         renumbered[*before] = now as u32 + 1;
