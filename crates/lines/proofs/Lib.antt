@@ -1,2 +1,3 @@
 pub mod Decimals
+pub mod Layers
 pub mod Printable

@@ -1,4 +1,4 @@
--- Laws of `Escape`: bytes laid one behind the other, how far an escape has come, and that all it gives is printable.
+-- Laws of `Escape`: how far an escape has come, and that all it gives is printable.
 -- Assumes nothing.
 use Prim.Native.Nat.{ℕ, suc, _+_, _*_, _/_, _%_, _<_, _≤_}
 use mathlib.Core.Path.{_≡_, refl, sym, ap, _∙_}
@@ -6,52 +6,33 @@ use mathlib.Core.Bool.{Bool, true, false, cond, _&&_}
 use mathlib.Core.List.{List, [], _∷_, _++_, append-assoc}
 use native.Mathlib.Numerals.{add-one}
 use native.Mathlib.Omega.{arith}
-use borrow.Author.Tests.{eq-eqb, ne-eqb, lt-ltb, le-ltb, ltb-true, leb-true}
+use borrow.Author.Tests.{eq-eqb, ne-eqb, le-leb, lt-leb, ltb-true, leb-true}
 use lib.Dec.{eqb, leb, ltb}
-use lib.ListN.{length, getD, take, set, length-set}
-use lib.Seq.{take-suc, take-suc-set, take-length}
+use lib.ListN.{length, getD, take, set, length-append}
+use lib.Seq.{take-suc, take-length}
 use Rattle.paper.specs.Fit.{Bytes}
-use Rattle.lines.specs.Escape.{Appended, Escaped, escaped, escapedByte, hexDigit, isPrintable}
-
--- ── bytes laid one behind the other ──
-
-lay-1 : (l : List ℕ) (p v : ℕ) → p < length l → take (p + 1) (set l p v) ≡ take p l ++ (v ∷ [])
-lay-1 l p v h = rw add-one (take-suc-set l p v h)
-
-lay-2 : (l : List ℕ) (p v w : ℕ) → p + 1 < length l → take (p + 2) (set (set l p v) (p + 1) w) ≡ take p l ++ (v ∷ w ∷ [])
-lay-2 l p v w h =
-    let two : p + 2 ≡ p + 1 + 1 = omega arith in
-    let k : p + 1 < length (set l p v) = rw length-set h in
-    rw two
-    (lay-1 (set l p v) (p + 1) w k ∙ ap (λ (s : List ℕ). s ++ (w ∷ [])) (lay-1 l p v (omega arith)) ∙ append-assoc (take p l) (v ∷ []) (w ∷ []))
-
-lay-4 : (l : List ℕ) (p a b c d : ℕ) → p + 3 < length l
-    → take (p + 4) (set (set (set (set l p a) (p + 1) b) (p + 2) c) (p + 3) d) ≡ take p l ++ (a ∷ b ∷ c ∷ d ∷ [])
-lay-4 l p a b c d h =
-    let four : p + 4 ≡ p + 2 + 2 = omega arith in
-    let three : p + 3 ≡ p + 2 + 1 = omega arith in
-    let k : p + 2 + 1 < length (set (set l p a) (p + 1) b) = simp length-set (omega arith) in
-    rw (four, three)
-    (lay-2 (set (set l p a) (p + 1) b) (p + 2) c d k ∙ ap (λ (s : List ℕ). s ++ (c ∷ d ∷ [])) (lay-2 l p a b (omega arith)) ∙ append-assoc (take p l) (a ∷ b ∷ []) (c ∷ d ∷ []))
+use Rattle.lines.specs.Escape.{Appended, Escaped, EscapeOf, escaped, escapedByte, fits, hexDigit, isPrintable}
+use Rattle.lines.specs.Lay.{over}
+use Rattle.lines.proofs.Layers.{over-none, over-1, over-2, over-4, over-over}
 
 -- ── one byte ──
 
 pub appended-slash : (l : List ℕ) (p b : ℕ) → p + 4 ≤ length l → b ≡ 92 → Appended l p (escapedByte b) (p + 2) (set (set l p 92) (p + 1) 92)
 unfolding escapedByte
 appended-slash l p b h e =
-    rw (eq-eqb b 92 e) record { end = refl; room = omega arith; bytes = lay-2 l p 92 92 (omega arith) }
+    rw (eq-eqb b 92 e) record { end = refl; room = omega arith; bytes = over-2 l p 92 92 (omega arith) }
 
 pub appended-plain : (l : List ℕ) (p b : ℕ) {t : Bool} → p + 4 ≤ length l → (b ≡ 92 → ⊥) → t ≡ isPrintable b → t ≡ true → Appended l p (escapedByte b) (p + 1) (set l p b)
 unfolding escapedByte
 appended-plain l p b h e u t =
-    rw (ne-eqb b 92 e, sym u ∙ t) record { end = refl; room = omega arith; bytes = lay-1 l p b (omega arith) }
+    rw (ne-eqb b 92 e, sym u ∙ t) record { end = refl; room = omega arith; bytes = over-1 l p b (omega arith) }
 
 pub appended-hex : (l : List ℕ) (p b : ℕ) {t : Bool} {x y : ℕ} → p + 4 ≤ length l → (b ≡ 92 → ⊥) → t ≡ isPrintable b → t ≡ false → x ≡ hexDigit (b / 16) → y ≡ hexDigit (b % 16)
     → Appended l p (escapedByte b) (p + 4) (set (set (set (set l p 92) (p + 1) 120) (p + 2) x) (p + 3) y)
 unfolding escapedByte
 appended-hex l p b {x = x} {y = y} h e u t ex ey =
     rw (ne-eqb b 92 e, sym u ∙ t, sym ex, sym ey)
-    record { end = refl; room = omega arith; bytes = lay-4 l p 92 120 x y (omega arith) }
+    record { end = refl; room = omega arith; bytes = over-4 l p 92 120 x y (omega arith) }
 
 -- ── all of them ──
 
@@ -66,34 +47,62 @@ escaped-more [] b = nothing (escapedByte b)
 escaped-more (x ∷ s) b = ap (λ (r : List ℕ). escapedByte x ++ r) (escaped-more s b) ∙ sym (append-assoc (escapedByte x) (escaped s) (escapedByte b))
 
 -- so many bytes are escaped, in so many places of the output
-pub record Escaping (s : List ℕ) (size : ℕ) (out : List ℕ) (at : ℕ) (i : ℕ) : Type 0 where
+pub record Escaping (s before out : List ℕ) (at : ℕ) (i : ℕ) : Type 0 where
   pub inside : i ≤ length s
-  pub kept : length out ≡ size
+  pub kept : length out ≡ length before
   pub room : at ≤ 4 * i
-  pub bytes : take at out ≡ escaped (take i s)
+  pub count : at ≡ length (escaped (take i s))
+  pub bytes : out ≡ over before 0 (escaped (take i s))
 
-pub escaping-start : (s out : List ℕ) → Escaping s (length out) out 0 0
+pub escaping-start : (s out : List ℕ) → Escaping s out out 0 0
 unfolding escaped
-escaping-start s out = record { inside = omega arith; kept = refl; room = omega arith; bytes = refl }
+escaping-start s out = record { inside = omega arith; kept = refl; room = omega arith; count = refl; bytes = over-none out 0 }
 
-pub escaping-next : {s : List ℕ} {size : ℕ} {out after : List ℕ} {at i r : ℕ}
-    → Escaping s size out at i → i < length s → Appended out at (escapedByte (getD s i 0)) r after → length after ≡ length out
-    → Escaping s size after r (i + 1)
-escaping-next {s} {i = i} g h a k =
-    record {
-      inside = omega arith;
-      kept = k ∙ g .kept;
-      room = omega (arith, a .room, g .room);
-      bytes = rw (add-one, take-suc s i 0 h, escaped-more) (a .bytes ∙ ap (λ (l : List ℕ). l ++ escapedByte (getD s i 0)) (g .bytes));
-    }
+module _ {s before out after : List ℕ} {at i r : ℕ} (g : Escaping s before out at i) (h : i < length s) (space : 4 * length s ≤ length before) where
+  pub escaping-next : Appended out at (escapedByte (getD s i 0)) r after → length after ≡ length out → Escaping s before after r (i + 1)
+  escaping-next a k =
+      let done : List ℕ = escaped (take i s) in
+      let piece : List ℕ = escapedByte (getD s i 0) in
+      let more : escaped (take (i + 1) s) ≡ done ++ piece = rw (add-one, take-suc s i 0 h) (escaped-more (take i s) (getD s i 0)) in
+      let long = length-append done piece in
+      let here : at ≡ 0 + length done = omega (arith, g .count) in
+      let c : length done ≤ 4 * i = omega (arith, g .room, g .count) in
+      record {
+        inside = omega arith;
+        kept = k ∙ g .kept;
+        room = omega (arith, a .room, g .room);
+        count = a .end ∙ ap (λ (n : ℕ). n + length piece) (g .count) ∙ sym long ∙ ap length (sym more);
+        bytes =
+            a .bytes
+            ∙ ap (λ (o : List ℕ). over o at piece) (g .bytes)
+            ∙ over-over before 0 done (omega arith) here piece
+            ∙ ap (over before 0) (sym more);
+      }
 
-pub escaping-done : {s : List ℕ} {size : ℕ} {out : List ℕ} {at i : ℕ} → Escaping s size out at i → length s ≤ i → 4 * length s ≤ size → Escaped s at out
-escaping-done {s} {i = i} g h k =
-    let all : i ≡ length s = omega (arith, g .inside) in
-    record {
-      within = omega (arith, g .room, g .kept);
-      bytes = g .bytes ∙ rw all (ap escaped (take-length s));
-    }
+module _ {s before out : List ℕ} {at i : ℕ} (g : Escaping s before out at i) (h : length s ≤ i) where
+  pub escaping-done : 4 * length s ≤ length before → Escaped s before at out
+  escaping-done k =
+      let all : i ≡ length s = omega (arith, g .inside) in
+      let whole : escaped (take i s) ≡ escaped s = rw all (ap escaped (take-length s)) in
+      record {
+        within = omega (arith, g .room);
+        count = g .count ∙ ap length whole;
+        bytes = g .bytes ∙ ap (over before 0) whole;
+      }
+
+-- ── an output of any length ──
+
+pub escape-fits : {s before after : List ℕ} {r : ℕ} → Escaped s before r after → 4 * length s ≤ length before → EscapeOf s before r after
+unfolding fits
+escape-fits {s} {before} e h =
+    let yes = le-leb (4 * length s) (length before) h in
+    record { within = e .within; count = rw yes (e .count); bytes = rw yes (e .bytes) }
+
+pub escape-short : (s before : List ℕ) → length before < 4 * length s → EscapeOf s before 0 before
+unfolding fits
+escape-short s before h =
+    let short = lt-leb (4 * length s) (length before) h in
+    record { within = omega arith; count = rw short refl; bytes = rw short refl }
 
 -- ── every byte is printable ──
 

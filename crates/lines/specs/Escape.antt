@@ -1,10 +1,11 @@
 -- How bytes that others chose are shown: printable ASCII (32 to 126) as it is, the backslash twice, every other byte as \xNN.
-use Prim.Native.Nat.{ℕ, _+_, _/_, _%_, _≤_}
+use Prim.Native.Nat.{ℕ, _+_, _*_, _/_, _%_, _≤_}
 use mathlib.Core.Bool.{Bool, cond, _&&_}
 use mathlib.Core.List.{List, [], _∷_, _++_}
 use mathlib.Core.Path.{_≡_}
 use lib.Dec.{eqb, leb, ltb}
-use lib.ListN.{length, take}
+use lib.ListN.{length}
+use Rattle.lines.specs.Lay.{over}
 
 -- 0 to 9, then a to f
 unfoldable pub hexDigit : ℕ → ℕ
@@ -22,13 +23,24 @@ unfoldable pub escaped : List ℕ → List ℕ
 escaped [] = []
 escaped (b ∷ s) = escapedByte b ++ escaped s
 
--- a piece is put behind the first bytes of a slice
+-- a piece is put behind the first bytes of a slice, and what is past it is as it was
 pub record Appended (before : List ℕ) (at : ℕ) (piece : List ℕ) (r : ℕ) (after : List ℕ) : Type 0 where
   pub end : r ≡ at + length piece
   pub room : r ≤ at + 4
-  pub bytes : take r after ≡ take at before ++ piece
+  pub bytes : after ≡ over before at piece
 
--- the first r bytes of the output are the escaped ones
-pub record Escaped (s : List ℕ) (r : ℕ) (out : List ℕ) : Type 0 where
-  pub within : r ≤ length out
-  pub bytes : take r out ≡ escaped s
+-- the output begins with the escaped bytes, and what is past them is as it was
+pub record Escaped (s before : List ℕ) (r : ℕ) (after : List ℕ) : Type 0 where
+  pub within : r ≤ length before
+  pub count : r ≡ length (escaped s)
+  pub bytes : after ≡ over before 0 (escaped s)
+
+-- the output has four bytes for each, as many as any byte can take
+unfoldable pub fits : List ℕ → List ℕ → Bool
+fits s out = leb (4 * length s) (length out)
+
+-- what an output of any length has afterwards: where it may be too short, what it had
+pub record EscapeOf (s before : List ℕ) (r : ℕ) (after : List ℕ) : Type 0 where
+  pub within : r ≤ length before
+  pub count : r ≡ cond (fits s before) (length (escaped s)) 0
+  pub bytes : after ≡ cond (fits s before) (over before 0 (escaped s)) before

@@ -3,7 +3,7 @@
 ghost use mathlib.Core.Path.{_≡_};
 ghost use Prim.Native.Nat.{_+_, _*_, _≤_, _<_};
 ghost use lib.ListN.{length};
-ghost use Rattle.lines.specs.Escape.{Appended, Escaped, escapedByte, hexDigit, isPrintable};
+ghost use Rattle.lines.specs.Escape.{Appended, Escaped, EscapeOf, escapedByte, hexDigit, isPrintable};
 
 fn hex_digit(d: u8) -> u8
     requires { ⌜ d < 16 ⌝ }
@@ -42,10 +42,10 @@ fn escape_byte(b: u8, out: &mut [u8], at: usize) -> usize
     at + 4
 }
 
-// The bytes, escaped, are put at the start of the output; how many they are is answered.
-pub fn escape(s: &[u8], out: &mut [u8]) -> usize
+// The bytes, escaped, are put at the start of an output that has room for them; how many they are is answered.
+fn escape_all(s: &[u8], out: &mut [u8]) -> usize
     requires { ⌜ 4 * length (now s) ≤ length (now out) ⌝ }
-    ensures { λ r. ⌜ Escaped (now (s .entry)) r (now (out .exit)) ⌝ }
+    ensures { λ r. ⌜ Escaped (now (s .entry)) (now (out .entry)) r (now (out .exit)) ⌝ }
 {
     let mut at = 0;
     let mut i = 0;
@@ -54,4 +54,15 @@ pub fn escape(s: &[u8], out: &mut [u8]) -> usize
         i += 1;
     }
     at
+}
+
+// The bytes, escaped, are put at the start of the output; how many they are is answered. Nothing is put, and 0 answered, where
+// the output has under four bytes for each.
+pub fn escape(s: &[u8], out: &mut [u8]) -> usize
+    ensures { λ r. ⌜ EscapeOf (now (s .entry)) (now (out .entry)) r (now (out .exit)) ⌝ }
+{
+    if out.len() / 4 < s.len() {
+        return 0;
+    }
+    escape_all(s, out)
 }

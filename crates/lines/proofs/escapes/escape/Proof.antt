@@ -1,58 +1,22 @@
--- `lines::escapes::escape` meets its contract. The loop's invariant: what is written is what is passed, escaped.
+-- `lines::escapes::escape` meets its contract, for an output of any length.
 -- Assumes nothing.
-use Prim.Native.Nat.{_-_}
 use native.Mathlib.Omega.{arith}
-use lib.ListN.{length}
-use Rattle.lines.proofs.Printable.{Escaping, escaping-start, escaping-next, escaping-done}
+use borrow.Author.Needs.{needs}
+use Rattle.lines.proofs.Printable.{escape-fits, escape-short}
 use Rattle.lines.proofs.escapes.escape.Statement.{statement}
 use Rattle.lines.proofs.escapes.escape.Tie as tie
 
-abbrev Inv-loop : tie.InvT-loop
-Inv-loop s out₀ at₀ i₀ out at i = Escaping s (length out₀) out at i
+returns : tie.Need-returns
+returns c = escape-short _ _ (omega arith)
 
-abbrev μ-loop : tie.MeasureT-loop
-μ-loop s out₀ at₀ i₀ out at i = length s - i
+escape-all-requires : tie.Need-escape-all-requires
+escape-all-requires c κs = search needs
 
-loop-holds : tie.Need-loop-holds Inv-loop μ-loop
-loop-holds c = escaping-start _ _
+same-length : tie.Need-same-length
+same-length c = search needs
 
-shared-slice-read-escape-byte : tie.Need-shared-slice-read-escape-byte Inv-loop μ-loop
-shared-slice-read-escape-byte c = omega arith
-
-escape-byte-requires : tie.Need-escape-byte-requires Inv-loop μ-loop
-escape-byte-requires c κs = omega arith
-
-add-i : tie.Need-add-i Inv-loop μ-loop
-add-i c = omega arith
-
-loop-less : tie.Need-loop-less Inv-loop μ-loop
-loop-less c = omega arith
-
-loop-again : tie.Need-loop-again Inv-loop μ-loop
-loop-again c =
-    escaping-next
-    (c .before .before .before .before .before .before .loop .inv)
-    (c .before .before .before .before .before .loop-test .taken)
-    (c .before .before .escape-byte .ensures)
-    (c .before .before .escape-byte .kept .1 .0)
-
-same-length : tie.Need-same-length Inv-loop μ-loop
-same-length c = omega arith
-
-returns : tie.Need-returns Inv-loop μ-loop
-returns c = escaping-done (c .before .loop .inv) (c .loop-test .left) (c .before .before .before .before .pre)
+returns-2 : tie.Need-returns-2
+returns-2 c = escape-fits (c .before .before .escape-all .ensures) (omega arith)
 
 pub escape-spec : {M : Type 1} → statement M
-escape-spec =
-    tie.close
-    (tie.spec
-    Inv-loop
-    μ-loop
-    loop-holds
-    shared-slice-read-escape-byte
-    escape-byte-requires
-    add-i
-    loop-less
-    loop-again
-    same-length
-    returns)
+escape-spec = tie.close (tie.spec returns escape-all-requires same-length returns-2)
