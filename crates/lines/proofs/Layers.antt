@@ -1,12 +1,13 @@
 -- Laws of `Lay`: bytes stored or copied one behind the other, and one run laid behind another.
 -- Assumes nothing.
-use Prim.Native.Nat.{ℕ, suc, _+_, _≤_}
-use mathlib.Core.Path.{_≡_, sym, ap, ap₂, _∙_}
+use Prim.Native.Nat.{ℕ, suc, _+_, _≤_, _<_}
+use mathlib.Core.Path.{_≡_, refl, sym, ap, ap₂, _∙_}
 use mathlib.Core.List.{List, [], _∷_, _++_, append-assoc}
 use native.Mathlib.Omega.{arith}
+use borrow.Author.Tests.{le-leb, lt-leb}
 use lib.ListN.{length, take, drop, set, length-append}
-use lib.Seq.{length-take-le, take-at, drop-at, drop-drop, paste-zero, sets-eq}
-use Rattle.lines.specs.Lay.{over}
+use lib.Seq.{length-take-le, take-at, drop-at, drop-drop, take-length, paste, paste-zero, sets-eq}
+use Rattle.lines.specs.Lay.{laid, over}
 
 -- nothing laid changes nothing
 pub over-none : (out : List ℕ) (p : ℕ) → out ≡ over out p []
@@ -33,6 +34,20 @@ over-4 l p a b c d h =
     let two : p + 2 ≡ suc (suc p) = omega arith in
     let three : p + 3 ≡ suc (suc (suc p)) = omega arith in
     (λ i. set (set (set (set l p a) (one i) b) (two i) c) (three i) d) ∙ sets-eq (a ∷ b ∷ c ∷ d ∷ []) l p h
+
+-- ── a copy ──
+
+pub over-copied : (out : List ℕ) (p : ℕ) (s : List ℕ) {n : ℕ} → n ≡ length s → paste out p s n ≡ over out p s
+unfolding over
+over-copied out p s e = ap (paste out p s) e ∙ ap (λ (t : List ℕ). take p out ++ t ++ drop (p + length s) out) (take-length s)
+
+pub laid-fits : (out : List ℕ) (p : ℕ) (s : List ℕ) → p + length s ≤ length out → over out p s ≡ laid out p s
+unfolding laid
+laid-fits out p s h = rw (le-leb (p + length s) (length out) h) refl
+
+pub laid-short : (out : List ℕ) (p : ℕ) (s : List ℕ) → length out < p + length s → out ≡ laid out p s
+unfolding laid
+laid-short out p s h = rw (lt-leb (p + length s) (length out) h) refl
 
 -- ── a run behind a run ──
 

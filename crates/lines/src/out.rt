@@ -1,8 +1,10 @@
 // What is written waits in a lent buffer, which is written when it is full: a listing is then a few system calls and not
 // one for each piece.
 use crate::escapes::escape;
+ghost use mathlib.Core.Path.{_≡_};
 ghost use Prim.Native.Nat.{_+_, _≤_, _<_};
 ghost use lib.ListN.{length};
+ghost use Rattle.lines.specs.Lay.{laid, over};
 
 // The bytes of the buffer. An array's length is known, so that no function need prove that it keeps it.
 pub const ROOM: usize = 65536;
@@ -52,15 +54,29 @@ pub fn flush(buf: &mut [u8; ROOM], o: Out) -> Out {
     write_first(buf, o)
 }
 
-// The piece is laid at a place of the buffer.
-pub fn lay(buf: &mut [u8], at: usize, s: &[u8])
+// The piece is laid at a place of the buffer that has room for all of it.
+fn copy(buf: &mut [u8], at: usize, s: &[u8])
     requires { ⌜ at + length (now s) ≤ length (now buf) ⌝ }
+    ensures { λ r. ⌜ now (buf .exit) ≡ over (now (buf .entry)) at (now (s .entry)) ⌝ }
 {
     let mut i = 0;
     while i < s.len() {
         buf[at + i] = s[i];
         i += 1;
     }
+}
+
+// The piece is laid at a place of the buffer. Nothing changes where it does not fit behind the place.
+pub fn lay(buf: &mut [u8], at: usize, s: &[u8])
+    ensures { λ r. ⌜ now (buf .exit) ≡ laid (now (buf .entry)) at (now (s .entry)) ⌝ }
+{
+    if buf.len() < at {
+        return;
+    }
+    if buf.len() - at < s.len() {
+        return;
+    }
+    copy(buf, at, s)
 }
 
 // One piece more. One that is longer than the buffer is written at once.

@@ -32,7 +32,7 @@ loop-again : tie.Need-loop-again Inv-loop μ-loop
 loop-again c =
     escaping-next
     (c .before .before .before .before .before .before .loop .inv)
-    (c .before .before .before .before .before .loop-test .taken)
+    (omega arith)
     (c .before .before .before .before .before .before .before .before .before .pre)
     (c .before .before .escape-byte .ensures)
     (c .before .before .escape-byte .kept .1 .0)
@@ -41,7 +41,7 @@ same-length : tie.Need-same-length Inv-loop μ-loop
 same-length c = omega arith
 
 returns : tie.Need-returns Inv-loop μ-loop
-returns c = escaping-done (c .before .loop .inv) (c .loop-test .left) (c .before .before .before .before .pre)
+returns c = escaping-done (c .before .loop .inv) (omega arith) (c .before .before .before .before .pre)
 
 pub escape-all-spec : {M : Type 1} → statement M
 escape-all-spec =

@@ -1,57 +1,29 @@
--- `lines::out::lay` is safe and ends.
+-- `lines::out::lay` meets its contract, for any place and piece.
 -- Assumes nothing.
-use Prim.Native.Nat.{_-_, _≤_}
-use mathlib.Core.Path.{_≡_}
-use lib.ListN.{length, length-set}
+use mathlib.Core.Path.{_∙_}
 use native.Mathlib.Omega.{arith}
+use borrow.Author.Needs.{needs}
+use Rattle.lines.proofs.Layers.{laid-fits, laid-short}
 use Rattle.lines.proofs.out.lay.Statement.{statement}
 use Rattle.lines.proofs.out.lay.Tie as tie
 
-abbrev Inv-loop : tie.InvT-loop
-Inv-loop buf₀ at s i₀ buf i = (i ≤ length s) × (length buf ≡ length buf₀)
+returns : tie.Need-returns
+returns c = laid-short _ _ _ (omega arith)
 
-abbrev μ-loop : tie.MeasureT-loop
-μ-loop buf₀ at s i₀ buf i = length s - i
+sub-if2 : tie.Need-sub-if2
+sub-if2 c = search needs
 
-loop-holds : tie.Need-loop-holds Inv-loop μ-loop
-loop-holds c = omega arith
+returns-2 : tie.Need-returns-2
+returns-2 c = laid-short _ _ _ (omega arith)
 
-shared-slice-read-buf : tie.Need-shared-slice-read-buf Inv-loop μ-loop
-shared-slice-read-buf c = omega arith
+copy-requires : tie.Need-copy-requires
+copy-requires c κs = search needs
 
-add-buf : tie.Need-add-buf Inv-loop μ-loop
-add-buf c = omega arith
+same-length : tie.Need-same-length
+same-length c = search needs
 
-slice-write-buf : tie.Need-slice-write-buf Inv-loop μ-loop
-slice-write-buf c = omega arith
-
-add-i : tie.Need-add-i Inv-loop μ-loop
-add-i c = omega arith
-
-loop-less : tie.Need-loop-less Inv-loop μ-loop
-loop-less c = omega arith
-
-loop-again : tie.Need-loop-again Inv-loop μ-loop
-loop-again c = simp length-set (omega arith)
-
-same-length : tie.Need-same-length Inv-loop μ-loop
-same-length c = omega arith
-
-returns : tie.Need-returns Inv-loop μ-loop
-returns c = tt
+returns-3 : tie.Need-returns-3
+returns-3 c = c .before .before .copy .ensures ∙ laid-fits _ _ _ (omega arith)
 
 pub lay-spec : {M : Type 1} → statement M
-lay-spec =
-    tie.close
-    (tie.spec
-    Inv-loop
-    μ-loop
-    loop-holds
-    shared-slice-read-buf
-    add-buf
-    slice-write-buf
-    add-i
-    loop-less
-    loop-again
-    same-length
-    returns)
+lay-spec = tie.close (tie.spec returns sub-if2 returns-2 copy-requires same-length returns-3)
