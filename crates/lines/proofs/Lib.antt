@@ -1,3 +1,4 @@
 pub mod Decimals
 pub mod Layers
+pub mod Passed
 pub mod Printable

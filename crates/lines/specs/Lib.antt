@@ -1,3 +1,4 @@
 pub mod Decimal
 pub mod Escape
 pub mod Lay
+pub mod Line

@@ -1,6 +1,7 @@
 // What is written waits in a lent buffer, which is written when it is full: a listing is then a few system calls and not
 // one for each piece.
 use crate::escapes::escape;
+ghost use mathlib.Core.Bool.{true};
 ghost use mathlib.Core.Path.{_≡_};
 ghost use Prim.Native.Nat.{_+_, _≤_, _<_};
 ghost use lib.ListN.{length};
@@ -16,7 +17,9 @@ pub struct Out {
     pub is_whole: bool,
 }
 
-pub fn to(fd: i32) -> Out {
+pub fn to(fd: i32) -> Out
+    ensures { λ r. ⌜ (r .fd ≡ fd) × (r .at ≡ 0) × (r .«is_whole» ≡ true) ⌝ }
+{
     Out {
         fd,
         at: 0,

@@ -2,11 +2,12 @@
 // proved in ten times the time.
 ghost use Prim.Native.Nat.{_≤_};
 ghost use lib.ListN.{length};
+ghost use Rattle.lines.specs.Line.{EndOf, LineOf, StartOf};
 
 // Where the line that a place stands in ends.
 fn line_end(s: &[u8], from: usize) -> usize
     requires { ⌜ from ≤ length (now s) ⌝ }
-    ensures { λ r. ⌜ (from ≤ r) × (r ≤ length (now (s .entry))) ⌝ }
+    ensures { λ r. ⌜ EndOf (now (s .entry)) from r ⌝ }
 {
     let mut at = from;
     while at < s.len() {
@@ -20,7 +21,7 @@ fn line_end(s: &[u8], from: usize) -> usize
 
 // Where a line begins, counted from 0; the end where there are fewer.
 fn line_start(s: &[u8], k: u32) -> usize
-    ensures { λ r. ⌜ r ≤ length (now (s .entry)) ⌝ }
+    ensures { λ r. ⌜ StartOf (now (s .entry)) k r ⌝ }
 {
     let mut at = 0;
     let mut i: u32 = 0;
@@ -35,7 +36,9 @@ fn line_start(s: &[u8], k: u32) -> usize
 }
 
 // A line, counted from 0; nothing where there are fewer.
-pub fn line(s: &[u8], k: u32) -> &[u8] {
+pub fn line(s: &[u8], k: u32) -> &[u8]
+    ensures { λ r. ⌜ LineOf r (s .entry) k ⌝ }
+{
     let from = line_start(s, k);
     let end = line_end(s, from);
     &s[from..end]
