@@ -1,4 +1,5 @@
 // The lines below a type: members, values, parameters and the entries of a section.
+use crate::kinds::put_many;
 use crate::kinds::put_name;
 use crate::kinds::put_type;
 use crate::records::base_of;
@@ -92,8 +93,9 @@ fn put_member(
     let o = put_head(buf, o, blob, e);
     let o = put(buf, o, b": ");
     let o = put_type(buf, o, blob, index, t);
-    let o = put_with(buf, o, b", ", span.width);
-    let o = put_with(buf, o, b" bits from bit ", span.from);
+    let o = put(buf, o, b", ");
+    let o = put_many(buf, o, span.width, b" bit", b" bits");
+    let o = put_with(buf, o, b" from bit ", span.from);
     put(buf, o, b"\n")
 }
 
@@ -151,13 +153,9 @@ fn put_parameter(buf: &mut [u8; ROOM], o: Out, blob: &[u8], index: &[u32], e: &[
 fn put_placed(buf: &mut [u8; ROOM], o: Out, blob: &[u8], index: &[u32], e: &[u8]) -> Out {
     let o = put(buf, o, b"    ");
     let o = put_type(buf, o, blob, index, words::read(e, Place(0)));
-    let o = put_with(buf, o, b": ", words::read(e, Place(8)) as u64);
-    let o = put_with(
-        buf,
-        o,
-        b" bytes from byte ",
-        words::read(e, Place(4)) as u64,
-    );
+    let o = put(buf, o, b": ");
+    let o = put_many(buf, o, words::read(e, Place(8)) as u64, b" byte", b" bytes");
+    let o = put_with(buf, o, b" from byte ", words::read(e, Place(4)) as u64);
     put(buf, o, b"\n")
 }
 

@@ -1,4 +1,4 @@
-// A type as it is named in a line: number, kind and name.
+// A type as it is named in a line: number, kind and name; and a number with its word.
 use crate::records::info_of;
 use crate::records::name_of;
 use crate::records::record_of;
@@ -8,6 +8,7 @@ use lines::line;
 use lines::put;
 use lines::put_escaped;
 use lines::put_number;
+use lines::put_wide;
 use paper::NameOff;
 use rows::is_known;
 use rows::kind_of;
@@ -35,6 +36,15 @@ fn put_kind(buf: &mut [u8; ROOM], o: Out, kind: u32) -> Out {
         TYPE_TAG\n\
         ENUM64\n";
     put(buf, o, line(names, kind))
+}
+
+// A number, with the word for one or for several behind it.
+pub(crate) fn put_many(buf: &mut [u8; ROOM], o: Out, n: u64, one: &[u8], many: &[u8]) -> Out {
+    let o = put_wide(buf, o, n);
+    if n == 1 {
+        return put(buf, o, one);
+    }
+    put(buf, o, many)
 }
 
 // The name at an offset, with a space before it; nothing where it is empty.

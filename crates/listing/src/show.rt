@@ -1,5 +1,6 @@
 // The listing of an accepted table: a line for each type, and below it a line for each entry.
 use crate::entries::put_entry;
+use crate::kinds::put_many;
 use crate::kinds::put_type;
 use crate::records::fourth_of;
 use crate::records::info_of;
@@ -35,8 +36,8 @@ fn put_int(buf: &mut [u8; ROOM], o: Out, w: u32) -> Out {
     let encodings = b"unsigned\nsigned\nchar\n\nbool\n";
     let o = put(buf, o, b", ");
     let o = put(buf, o, line(encodings, w / 16777216 % 16));
-    let o = put_with(buf, o, b", ", (w % 256) as u64);
-    let o = put(buf, o, b" bits");
+    let o = put(buf, o, b", ");
+    let o = put_many(buf, o, (w % 256) as u64, b" bit", b" bits");
     let from = w / 65536 % 256;
     if from == 0 {
         return o;
@@ -112,16 +113,17 @@ fn put_count(buf: &mut [u8; ROOM], o: Out, r: &[u8]) -> Out {
     if entry_words(kind) == 0 {
         return o;
     }
-    let what =
-        b"\n\n\n\n member\n member\n value\n\n\n\n\n\n\n parameter\n\n entry\n\n\n\n value\n";
+    let one = b"\n\n\n\n member\n member\n value\n\n\n\n\n\n\n parameter\n\n entry\n\n\n\n value\n";
     let many =
         b"\n\n\n\n members\n members\n values\n\n\n\n\n\n\n parameters\n\n entries\n\n\n\n values\n";
-    let n = vlen_of(info);
-    let o = put_with(buf, o, b", ", n as u64);
-    if n == 1 {
-        return put(buf, o, line(what, kind));
-    }
-    put(buf, o, line(many, kind))
+    let o = put(buf, o, b", ");
+    put_many(
+        buf,
+        o,
+        vlen_of(info) as u64,
+        line(one, kind),
+        line(many, kind),
+    )
 }
 
 // The tags' kind_flag, which says that they stand for an attribute.
