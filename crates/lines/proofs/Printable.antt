@@ -114,14 +114,17 @@ printable-append : {s t : List ℕ} → AllPrintable s → AllPrintable t → Al
 printable-append none q = q
 printable-append (more l h p) q = more l h (printable-append p q)
 
-isPrintable-within : (b : ℕ) → isPrintable b ≡ true → (32 ≤ b) × (b ≤ 126)
-unfolding isPrintable
-isPrintable-within b h = go (leb 32 b) (leb b 126) refl refl h
+within : (x y b : ℕ) → leb x b && leb b y ≡ true → (x ≤ b) × (b ≤ y)
+within x y b h = go (leb x b) (leb b y) refl refl h
   where
-    go : (t u : Bool) → leb 32 b ≡ t → leb b 126 ≡ u → t && u ≡ true → (32 ≤ b) × (b ≤ 126)
-    go true true e f k = (leb-true 32 b e, leb-true b 126 f)
+    go : (t u : Bool) → leb x b ≡ t → leb b y ≡ u → t && u ≡ true → (x ≤ b) × (b ≤ y)
+    go true true e f k = (leb-true x b e, leb-true b y f)
     go true false e f k = let z : _≡_ {A = ℕ} 0 1 = cc in absurd (omega arith)
     go false u e f k = let z : _≡_ {A = ℕ} 0 1 = cc in absurd (omega arith)
+
+isPrintable-within : (b : ℕ) → isPrintable b ≡ true → (32 ≤ b) × (b ≤ 126)
+unfolding isPrintable
+isPrintable-within b h = let w = within _ _ b h in (omega arith, omega arith)
 
 hexDigit-within : (d : ℕ) → d < 16 → (32 ≤ hexDigit d) × (hexDigit d ≤ 126)
 unfolding hexDigit
