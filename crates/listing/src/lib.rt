@@ -6,9 +6,7 @@ mod reports; // what a report means
 mod show; // the lines of the types
 
 pub use kinds::put_type;
-pub use reports::Told;
 pub use reports::put_report;
-pub use reports::told_of;
 pub use show::put_size;
 pub use show::show_all;
 pub use show::show_one;

@@ -1,42 +1,12 @@
 // What a report means, in words.
 use crate::kinds::put_record;
 use crate::records::record_by_walk;
+use answers::Numbers;
 use lines::Out;
 use lines::ROOM;
 use lines::line;
 use lines::put;
 use lines::put_number;
-use paper::Report;
-ghost use mathlib.Core.Path.{_≡_};
-ghost use Rattle.paper.specs.Answer.{report, reportAsPaper};
-
-// A report's number, and the type that it names; 0 where it names none.
-pub struct Told {
-    pub number: u32,
-    pub t: u32,
-}
-
-pub fn told_of(r: Report) -> Told
-    ensures { λ s. ⌜ report (s .number) (s .t) ≡ reportAsPaper r ⌝ }
-{
-    match r {
-        Report::Length => Told { number: 1, t: 0 },
-        Report::Opening => Told { number: 2, t: 0 },
-        Report::HeaderLength => Told { number: 3, t: 0 },
-        Report::Sections => Told { number: 4, t: 0 },
-        Report::Strings => Told { number: 5, t: 0 },
-        Report::RecordCut(t) => Told { number: 6, t: t.0 },
-        Report::UnknownKind(t) => Told { number: 7, t: t.0 },
-        Report::ManyTypes => Told { number: 8, t: 4097 },
-        Report::SlicesShort => Told { number: 9, t: 0 },
-        Report::Head(t) => Told { number: 10, t: t.0 },
-        Report::Named(t) => Told { number: 11, t: t.0 },
-        Report::Tail(t) => Told { number: 12, t: t.0 },
-        Report::Reference(t) => Told { number: 13, t: t.0 },
-        Report::Endless(t) => Told { number: 14, t: t.0 },
-        Report::Layout(t) => Told { number: 15, t: t.0 },
-    }
-}
 
 fn put_meaning(buf: &mut [u8; ROOM], o: Out, number: u32) -> Out {
     let meanings = b"\n\
@@ -75,7 +45,7 @@ fn put_named(buf: &mut [u8; ROOM], o: Out, blob: &[u8], t: u32) -> Out {
 }
 
 // "report R: what it means, type T (KIND name)".
-pub fn put_report(buf: &mut [u8; ROOM], o: Out, blob: &[u8], told: Told) -> Out {
+pub fn put_report(buf: &mut [u8; ROOM], o: Out, blob: &[u8], told: Numbers) -> Out {
     let o = put(buf, o, b"report ");
     let o = put_number(buf, o, told.number);
     let o = put(buf, o, b": ");

@@ -4,6 +4,8 @@ use crate::files::start;
 use crate::save::save;
 use crate::tables::Status;
 use crate::tables::end;
+use answers::Numbers;
+use answers::of_report;
 use libc::STDOUT_FILENO;
 use lines::Out;
 use lines::ROOM;
@@ -11,9 +13,7 @@ use lines::line;
 use lines::put;
 use lines::put_escaped;
 use lines::put_with;
-use listing::Told;
 use listing::put_report;
-use listing::told_of;
 use paper::Joined;
 use scan::Scanned;
 
@@ -58,7 +58,7 @@ fn put_inner(
     which: &[u8],
     file: &[u8],
     blob: &[u8],
-    told: Told,
+    told: Numbers,
 ) -> Out {
     let o = put(buf, o, b"join: refused, report ");
     let o = put(buf, o, which);
@@ -69,7 +69,7 @@ fn put_inner(
 }
 
 // A table that is refused by itself is told with its own report.
-fn refused(which: &[u8], file: &[u8], blob: &[u8], told: Told) -> Status {
+fn refused(which: &[u8], file: &[u8], blob: &[u8], told: Numbers) -> Status {
     let mut buf = [0u8; ROOM];
     let o = put_inner(&mut buf, lines::to(STDOUT_FILENO), which, file, blob, told);
     end(&mut buf, o, Status::Refused)
@@ -94,13 +94,13 @@ fn unjoined(j: Joined, a_file: &[u8], a: &[u8], b_file: &[u8], b: &[u8]) -> Stat
             b"16: the first table is refused, ",
             a_file,
             a,
-            told_of(r),
+            of_report(r),
         ),
         Joined::SecondRefused(r) => refused(
             b"17: the second table is refused, ",
             b_file,
             b,
-            told_of(r),
+            of_report(r),
         ),
         Joined::TooMany => apart(0),
         Joined::TooLong => apart(1),

@@ -2,6 +2,8 @@
 use crate::files::fail;
 use crate::files::read_file;
 use crate::files::start;
+use answers::Numbers;
+use answers::of_report;
 use libc::STDERR_FILENO;
 use libc::STDOUT_FILENO;
 use lines::Out;
@@ -10,13 +12,11 @@ use lines::flush;
 use lines::put;
 use lines::put_escaped;
 use lines::put_with;
-use listing::Told;
 use listing::put_report;
 use listing::put_size;
 use listing::put_type;
 use listing::show_all;
 use listing::show_one;
-use listing::told_of;
 use paper::Checked;
 use paper::NameOff;
 use paper::TypeNo;
@@ -120,7 +120,7 @@ fn put_answer(
     }
 }
 
-fn put_refused(buf: &mut [u8; ROOM], o: Out, file: &[u8], blob: &[u8], told: Told) -> Out {
+fn put_refused(buf: &mut [u8; ROOM], o: Out, file: &[u8], blob: &[u8], told: Numbers) -> Out {
     let o = put_escaped(buf, o, file);
     let o = put(buf, o, b": refused, ");
     let o = put_report(buf, o, blob, told);
@@ -133,7 +133,7 @@ fn answer(ask: Ask, file: &[u8], blob: &[u8], index: &mut [u32], work: &mut [u32
     let o = lines::to(STDOUT_FILENO);
     match gate::check(blob, index, work) {
         Checked::Refused(r) => {
-            let o = put_refused(&mut buf, o, file, blob, told_of(r));
+            let o = put_refused(&mut buf, o, file, blob, of_report(r));
             end(&mut buf, o, Status::Refused)
         }
         Checked::Accepted(n) => {
