@@ -111,7 +111,7 @@ module _ {A B : Table} {type name : ℕ → ℕ} (R : Renaming A B type name)
   -- STRUCT and UNION are alike but for their offsets
   members-kind : (r : Record) → member (kindOf r) (STRUCT ∷ UNION ∷ []) ≡ true
       → (rename type name r .third ≡ r .third) × (tailRoles r ≡ times (vlenOf r) memberRoles) × (Whole r → length (r .tail) ≡ 0 + vlenOf r * 3)
-  unfolding rowOf rows
+  unfolding memberRoles rowOf rows
   members-kind r e =
       member-each (λ (c : ℕ). kindOf r ≡ c → (rename type name r .third ≡ r .third) × (tailRoles r ≡ times (vlenOf r) memberRoles) × (Whole r → length (r .tail) ≡ 0 + vlenOf r * 3))
       (kindOf r) (STRUCT ∷ UNION ∷ []) e (

@@ -16,8 +16,8 @@ use Rattle.paper.proofs.renaming.RenamingSizes.{exactSize-rename}
 use Rattle.paper.proofs.renaming.RenamingTails.{intWord-rename}
 use Rattle.paper.specs.Chain.{endless}
 use Rattle.paper.specs.Choice.{times, every, member}
-use Rattle.paper.specs.Kind.{Role, names, refers, holds, number, identifier, plain, aVar}
-use Rattle.paper.specs.KindNo.{INT, ENUM, ENUM64}
+use Rattle.paper.specs.Kind.{Role, names, refers, holds, number, aVar, rows, rowOf}
+use Rattle.paper.specs.KindNo.{INT, STRUCT, ENUM, ENUM64}
 use Rattle.paper.specs.References.{refsOk}
 use Rattle.paper.specs.Rename.{renameWords, rename}
 use Rattle.paper.specs.Section.{Entry, entriesIn, coversSize, entryCovers, placedFrom}
@@ -32,8 +32,9 @@ renameMember type name m = record { name = name (m .name); type = type (m .type)
 abbrev pub renameEntry : (ℕ → ℕ) → Entry → Entry
 renameEntry type e = record { variable = type (e .variable); offset = e .offset; size = e .size }
 
-abbrev pub memberRoles : List Role
-memberRoles = names identifier ∷ holds plain ∷ number ∷ []
+-- a member's roles, as the row of a STRUCT has them, and that of a UNION
+unfoldable pub memberRoles : List Role
+memberRoles = rowOf STRUCT .each
 
 abbrev pub entryRoles : List Role
 entryRoles = refers aVar ∷ number ∷ number ∷ []
@@ -43,6 +44,7 @@ entryRoles = refers aVar ∷ number ∷ number ∷ []
 module _ (type name : ℕ → ℕ) where
   pub membersIn-rename : (v : ℕ) (ws : List ℕ) → length ws ≤ v * 3
       → membersIn (renameWords type name (times v memberRoles) ws) ≡ map (renameMember type name) (membersIn ws)
+  unfolding memberRoles rowOf rows
   membersIn-rename zero [] h = refl
   membersIn-rename zero (n ∷ ws) h = absurd (omega arith)
   membersIn-rename (suc v) [] h = refl
@@ -65,6 +67,7 @@ module _ (type name : ℕ → ℕ) where
 module _ (A : Table) where
   pub members-every : (f g : Member → Bool) → ((m : Member) → m .type ≤ count A → g m ≡ f m) → (v : ℕ) (ws : List ℕ) → length ws ≤ v * 3
       → everyRoled (inside A) (times v memberRoles) ws ≡ true → every g (membersIn ws) ≡ every f (membersIn ws)
+  unfolding memberRoles rowOf rows
   members-every f g h v [] l e = refl
   members-every f g h v (n ∷ []) l e = refl
   members-every f g h v (n ∷ t ∷ []) l e = refl
