@@ -27,19 +27,15 @@ impl Census {
     pub fn text(&self) -> String {
         let mut text = String::new();
         for ((op, number, inner), count) in &self.counts {
-            let inside = if *inner == 0 {
-                String::new()
-            } else {
-                format!(" with {inner} inside")
-            };
-            text += &format!("{count:6}  {}{inside}\n", in_words(*op, *number));
+            text += &format!("{count:6}  {}\n", in_words(*op, *number, *inner));
         }
         let all: usize = self.counts.values().sum();
         text + &format!("{all:6}  cases\n")
     }
 }
 
-fn in_words(op: u32, number: u32) -> String {
+/// An op and its answer: the number, and the one inside.
+pub fn in_words(op: u32, number: u32, inner: u32) -> String {
     let (call, answer) = match (op, number) {
         (CHECK, 0) => ("check", "accepted"),
         (SIZE, 0) => ("size", "exact"),
@@ -52,5 +48,10 @@ fn in_words(op: u32, number: u32) -> String {
         (SIZE, _) => ("size", "report"),
         _ => ("join", "report"),
     };
-    format!("op {op} {call}: {number:2} {answer}")
+    let inside = if inner == 0 {
+        String::new()
+    } else {
+        format!(" with {inner} inside")
+    };
+    format!("op {op} {call}: {number:2} {answer}{inside}")
 }

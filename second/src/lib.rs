@@ -11,6 +11,7 @@ pub mod archive;
 pub mod beside;
 pub mod census;
 pub mod chain;
+pub mod changed;
 pub mod check;
 pub mod generate;
 pub mod head;

@@ -4,6 +4,7 @@
 //!     second antt    --seed S --cases N [--ops 1,2,3,4] [--only R]
 //!     second census  --seed S --cases N [--ops 1,2,3,4] [--small|--long]
 //!     second check FILE
+//!     second changed FILE
 //!
 //! With `--edges` the first three put the fixed cases of every rule's edges in
 //! front; without a count, those are all. `--large` puts the fixed large tables
@@ -12,6 +13,7 @@
 //! limit is reached, with `--long` checks and joins are of long tables only.
 
 use second::census::Census;
+use second::changed::changed;
 use second::generate::{cases, Scale, Wanted};
 use second::report::meaning;
 use second::vectors::{self, run, Case, CHECK, JOIN};
@@ -23,6 +25,7 @@ second vectors --seed S --cases N [--ops 1,2,3,4] [--small|--long] [--only R]
 second antt    --seed S --cases N [--ops 1,2,3,4] [--only R]
 second census  --seed S --cases N [--ops 1,2,3,4] [--small|--long]
 second check FILE
+second changed FILE
 (--edges: the fixed cases of every rule's edges in front, and nothing else without --cases;
 --large: the fixed large tables before them; --thin: fewer of both crossed with each other;
 --small: no limit is reached; --long: checks and joins of long tables only)";
@@ -54,6 +57,7 @@ fn act(arguments: &[String]) -> Result<Vec<u8>, String> {
         }
         "census" => Ok(census(&cases(&wanted(rest)?)).into_bytes()),
         "check" => judge_file(rest.first().ok_or(USAGE)?),
+        "changed" => changed_answers(rest.first().ok_or(USAGE)?),
         _ => Err(USAGE.to_string()),
     }
 }
@@ -115,9 +119,21 @@ fn census(cases: &[Case]) -> String {
     census.text()
 }
 
+fn read(path: &str) -> Result<Vec<u8>, String> {
+    std::fs::read(path).map_err(|error| format!("{path}: {error}"))
+}
+
+/// Which answers of a vector file are others by now.
+fn changed_answers(path: &str) -> Result<Vec<u8>, String> {
+    match changed(&read(path)?) {
+        Ok(text) => Ok(text.into_bytes()),
+        Err(case) => Err(format!("{path}: cut short at case {case}")),
+    }
+}
+
 /// One line on the blob in a file.
 fn judge_file(path: &str) -> Result<Vec<u8>, String> {
-    let blob = std::fs::read(path).map_err(|error| format!("{path}: {error}"))?;
+    let blob = read(path)?;
     let mut index = vec![0; 4_097];
     let mut work = vec![0; 4_097];
     let line = match second::check(&blob, &mut index, &mut work) {

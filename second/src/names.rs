@@ -42,8 +42,8 @@ pub fn asked_of_head(kind: Kind) -> Asked {
 /// The first word of an entry is a name, but for the entries of a DATASEC.
 pub fn asked_of_entry(kind: Kind) -> Option<Asked> {
     match kind {
-        Kind::Struct | Kind::Union | Kind::Enum | Kind::Enum64 => Some(Asked::Identifier),
-        Kind::FuncProto => Some(Asked::ZeroOrIdentifier),
+        Kind::Enum | Kind::Enum64 => Some(Asked::Identifier),
+        Kind::Struct | Kind::Union | Kind::FuncProto => Some(Asked::ZeroOrIdentifier),
         _ => None,
     }
 }

@@ -135,12 +135,24 @@ pub fn sum(bytes: &[u8]) -> u32 {
     sum as u32
 }
 
+/// The last line of a case.
+pub fn numbers_of(seen: &Seen) -> [u32; 7] {
+    [
+        seen.number,
+        seen.inner,
+        seen.t,
+        seen.p,
+        sum(&bytes_of(&seen.index)),
+        sum(&bytes_of(&seen.work)),
+        sum(&seen.output),
+    ]
+}
+
 /// The whole vector file.
 pub fn file(cases: &[Case]) -> Vec<u8> {
     let mut file = b"SCRV".to_vec();
     file.extend(bytes_of(&[1, cases.len() as u32]));
     for case in cases {
-        let seen = run(case);
         let first = [
             case.op,
             case.index_places,
@@ -151,19 +163,10 @@ pub fn file(cases: &[Case]) -> Vec<u8> {
             case.a.len() as u32,
             case.b.len() as u32,
         ];
-        let last = [
-            seen.number,
-            seen.inner,
-            seen.t,
-            seen.p,
-            sum(&bytes_of(&seen.index)),
-            sum(&bytes_of(&seen.work)),
-            sum(&seen.output),
-        ];
         file.extend(bytes_of(&first));
         file.extend(&case.a);
         file.extend(&case.b);
-        file.extend(bytes_of(&last));
+        file.extend(bytes_of(&numbers_of(&run(case))));
     }
     file
 }

@@ -108,12 +108,41 @@ fn void_where_it_may_not_be() {
 #[test]
 fn member_name_comes_before_the_next_head() {
     let mut m = Make::new();
-    m.structure(4, false, &[[0, 2, 0]]);
+    let empty = m.string("");
+    m.structure(4, false, &[[empty, 2, 0]]);
     m.int(3);
     assert_eq!(judged(&m), refused(11, 1));
     // At one type the smaller number speaks.
     m.at(1).info |= 1 << 16;
     assert_eq!(judged(&m), refused(10, 1));
+}
+
+#[test]
+fn a_member_may_have_no_name() {
+    for kind in [Kind::Struct, Kind::Union] {
+        let with = |name: u32, of: u32, bytes: u32| {
+            let mut m = Make::new();
+            m.string("");
+            m.int(4);
+            m.listed(kind, false, 0, bytes, &[[name, of, 0]]);
+            judged(&m)
+        };
+        assert_eq!(with(0, 1, 4), Ok(2));
+        // Another offset to an empty string, and one past the strings.
+        assert_eq!(with(1, 1, 4), refused(11, 2));
+        assert_eq!(with(2, 1, 4), refused(11, 2));
+        // The later phases are as for any member.
+        assert_eq!(with(0, 0, 4), refused(13, 2));
+        assert_eq!(with(0, 3, 4), refused(13, 2));
+        assert_eq!(with(0, 2, 4), refused(14, 2));
+        assert_eq!(with(0, 1, 3), refused(15, 2));
+    }
+    // An enum's value keeps the strict rule.
+    for (kind, entry) in [(Kind::Enum, vec![0, 0]), (Kind::Enum64, vec![0, 0, 0])] {
+        let mut m = Make::new();
+        m.raw(0, info(kind, false, 1), 4, &entry);
+        assert_eq!(judged(&m), refused(11, 1));
+    }
 }
 
 #[test]

@@ -12,7 +12,7 @@ use Rattle.paper.specs.Computes.{computes}
 use Rattle.paper.specs.Gate.{gate, zeros}
 use Rattle.paper.specs.Header.{opening}
 use Rattle.paper.specs.Join.{join}
-use Rattle.paper.specs.KindNo.{INT, PTR, ARRAY, STRUCT, CONST, DECL-TAG}
+use Rattle.paper.specs.KindNo.{INT, PTR, ARRAY, STRUCT, UNION, ENUM, CONST, DECL-TAG}
 use Rattle.paper.specs.Size.{sizeOf}
 use Rattle.paper.specs.Table.{Record}
 use Rattle.paper.specs.Walk.{bytesOf}
@@ -90,6 +90,14 @@ tagged types names =
     ∷ rec PTR 0 0 (2 + types) []
     ∷ []
 
+-- a struct that holds a union in a member without a name, with every number raised by types and names
+abbrev unnamed : ℕ → ℕ → List Record
+unnamed types names =
+    rec INT 0 0 4 (32 ∷ [])
+    ∷ rec UNION 1 0 4 ((1 + names) ∷ (1 + types) ∷ 0 ∷ [])
+    ∷ rec STRUCT 1 (1 + names) 4 (0 ∷ (2 + types) ∷ 0 ∷ [])
+    ∷ []
+
 -- ── what is asked of each ──
 
 abbrev sameAnswer : Answer → Answer → Bool
@@ -163,6 +171,12 @@ benches =
     ∷ joins T (blob (tagged 0 0))
     (bytesOf lowFirst (record { records = rec INT 0 1 2 (16777232 ∷ []) ∷ tagged 1 2; strings = 0 ∷ 0x74 ∷ 0 ∷ 0x74 ∷ 0 ∷ [] }))
     ∷ (joins E (blob (tagged 0 0)) (blob (tagged 0 0)) && joins (blob (tagged 0 0)) E (blob (tagged 0 0)))
+    -- order 1, 25 to 28: a member without a name; its offset stays 0 in a join; another empty name is none; an enum's value must have one
+    ∷ gives (blob (unnamed 0 0)) (accepted 3) (0 ∷ 24 ∷ 40 ∷ 64 ∷ zeros 4)
+    ∷ joins T (blob (unnamed 0 0))
+    (bytesOf lowFirst (record { records = rec INT 0 1 2 (16777232 ∷ []) ∷ unnamed 1 2; strings = 0 ∷ 0x74 ∷ 0 ∷ 0x74 ∷ 0 ∷ [] }))
+    ∷ refuses (blob (int 4 0 32 ∷ rec STRUCT 1 0 4 (2 ∷ 1 ∷ 0 ∷ []) ∷ [])) 11 2
+    ∷ refuses (blob (rec ENUM 1 0 4 (0 ∷ 0 ∷ []) ∷ [])) 11 1
     ∷ []
 
 pub benches-hold : failing 1 benches ≡ []

@@ -51,7 +51,7 @@ abbrev unknown : Row
 unknown = row nought nought free number offset0 [] [] noSize
 
 abbrev member : List Role
-member = names identifier ∷ holds plain ∷ number ∷ []
+member = names offset0OrIdentifier ∷ holds plain ∷ number ∷ []
 
 abbrev aliasTo : NameRule → Values → Row
 aliasTo n f = row f nought free (holds voidOrPlain) n [] [] referent

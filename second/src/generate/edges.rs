@@ -21,6 +21,7 @@ pub fn cases(thin: bool) -> Vec<Case> {
     }
     edges_names::name_bytes(&mut found, thin);
     edges_names::name_lengths(&mut found);
+    edges_names::unnamed_members(&mut found);
     int_tails(&mut found);
     linkages_and_parameters(&mut found);
     edges_walks::cases(&mut found);

@@ -119,11 +119,12 @@ fn tags(m: &mut Make) {
     m.tag(1, var, u32::MAX);
 }
 
-/// Offset words that look like type numbers, with and without kind_flag.
+/// Offset words that look like type numbers, with and without kind_flag; one
+/// member has no name.
 fn members(m: &mut Make) {
     m.structure(4, true, &[[1, 1, field(1, 0)], [1, 1, field(0, 0)]]);
     m.structure(8, true, &[[1, 1, 1 << 24], [1, 2, field(3, 1)]]);
-    m.union(4, false, &[[1, 2, 0], [1, 1, 0]]);
+    m.union(4, false, &[[0, 2, 0], [1, 1, 0]]);
     m.odd_int(4, 1, 3);
     m.structure(4, false, &[[1, 6, 1], [1, 6, 2], [1, 6, 3]]);
 }

@@ -58,3 +58,17 @@ pub fn name_lengths(found: &mut Vec<Case>) {
         }
     }
 }
+
+/// A member without a name, and behind it what the later phases judge: void,
+/// each kind, the record itself, an end that fits and one that does not.
+pub fn unnamed_members(found: &mut Vec<Case>) {
+    for kind in ALL_KINDS {
+        for (around, bytes) in [(Kind::Struct, 8), (Kind::Union, 8), (Kind::Struct, 0)] {
+            for of in [0, 5, 6, 7] {
+                let mut m = one_of(kind);
+                m.listed(around, false, 0, bytes, &[[0, of, 0]]);
+                add(found, &m);
+            }
+        }
+    }
+}

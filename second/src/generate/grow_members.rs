@@ -21,7 +21,7 @@ pub fn grow_members(r: &mut Random, m: &mut Make, kind: Kind) -> u32 {
         if kind == Kind::Union && start != 0 {
             continue;
         }
-        tail.extend([identifier(r, m), of, word]);
+        tail.extend([zero_or_identifier(r, m), of, word]);
         // The next offset may not fall; mostly it lies behind this member.
         offset = if kind == Kind::Struct && r.one_in(3) {
             start
