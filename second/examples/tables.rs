@@ -121,6 +121,19 @@ fn torn() -> Make {
     m
 }
 
+/// Structs that each hold the next twice, in members without a name: written
+/// out, they would be over a thousand lines.
+fn nest() -> Make {
+    let mut m = Make::new();
+    let a = m.string("a");
+    for next in 2..=12 {
+        m.structure(4, false, &[[0, next, 0], [0, next, 0]]);
+    }
+    m.structure(4, false, &[[a, 13, 0]]);
+    m.int(4);
+    m
+}
+
 /// Both suppliers' in one.
 fn both() -> Vec<u8> {
     let (mut index, mut work, mut output) = ([0; 4097], [0; 4097], [0; 65536]);
@@ -139,6 +152,7 @@ fn main() {
         ("kinds", kinds().blob()),
         ("ring", ring().blob()),
         ("torn", torn().blob()),
+        ("nest", nest().blob()),
     ] {
         let file = Path::new(&folder).join(name).with_extension("btf");
         std::fs::write(file, blob).expect("the folder can be written");

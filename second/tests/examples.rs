@@ -5,7 +5,12 @@ mod common;
 use common::{gate, joined};
 use second::{size, SizeAnswer};
 
-const TABLES: [&str; 3] = ["blade.btf", "supplier_a.btf", "supplier_b.btf"];
+const TABLES: [&str; 4] = [
+    "blade.btf",
+    "supplier_a.btf",
+    "supplier_b.btf",
+    "reading.btf",
+];
 
 fn file(path: &str) -> Vec<u8> {
     let path = format!("{}/../{path}", env!("CARGO_MANIFEST_DIR"));
@@ -32,6 +37,7 @@ fn accepted() {
     assert_eq!(gate(&example("blade.btf")), Ok(2));
     assert_eq!(gate(&example("supplier_a.btf")), Ok(37));
     assert_eq!(gate(&example("supplier_b.btf")), Ok(33));
+    assert_eq!(gate(&example("reading.btf")), Ok(8));
 }
 
 /// What C says of them: a pointer, two structs named blade, the teeth; a
@@ -53,7 +59,7 @@ fn sized() {
 
 #[test]
 fn joined_in_both_groupings() {
-    let [x, y, z] = TABLES.map(example);
+    let [x, y, z, _] = TABLES.map(example);
     let left = joined(&joined(&x, &y), &z);
     assert_eq!(left, joined(&x, &joined(&y, &z)));
     assert_eq!(gate(&left), Ok(2 + 37 + 33));
@@ -89,7 +95,7 @@ fn the_program_agrees() {
         text += &format!("the empty table and {name}: {same}");
         text += &format!("{name} and the empty table: {same}");
     }
-    let [x, y, z] = TABLES.map(example);
+    let [x, y, z, _] = TABLES.map(example);
     let all = joined(&joined(&x, &y), &z);
     text += "(blade supplier_a) supplier_b and blade (supplier_a supplier_b): ";
     text += &format!("{} bytes, the same\n", all.len());

@@ -48,13 +48,23 @@ pub(crate) fn put_many(buf: &mut [u8; ROOM], o: Out, n: u64, one: &[u8], many: &
 }
 
 // The name at an offset, with a space before it; nothing where it is empty.
-pub(crate) fn put_name(buf: &mut [u8; ROOM], o: Out, blob: &[u8], at: NameOff) -> Out {
+fn put_name(buf: &mut [u8; ROOM], o: Out, blob: &[u8], at: NameOff) -> Out {
     let name = scan::name(blob, at);
     if name.len() == 0 {
         return o;
     }
     let o = put(buf, o, b" ");
     put_escaped(buf, o, name)
+}
+
+// What the line of an entry begins with: its name, indented.
+pub(crate) fn put_entry_name(buf: &mut [u8; ROOM], o: Out, blob: &[u8], e: &[u8]) -> Out {
+    let at = name_of(e);
+    if at.0 == 0 {
+        return put(buf, o, b"    (no name)");
+    }
+    let o = put(buf, o, b"   ");
+    put_name(buf, o, blob, at)
 }
 
 // The kind of a record and its name, if it has one.

@@ -1,6 +1,7 @@
 // A table in words: a line for each type and entry, and what a report means.
 mod entries; // the lines below a type
 mod kinds; // a type in a line
+mod members; // the lines of members
 mod records; // where a record stands
 mod reports; // what a report means
 mod show; // the lines of the types

@@ -1,5 +1,5 @@
 // The tables of example/ through the proved code: each is checked and its types sized; each is joined with the empty table on
-// either side; the three are joined in both groupings. What must be the same is compared byte for byte. Its data are copies.
+// either side; three are joined in both groupings. What must be the same is compared byte for byte. Its data are copies.
 mod lines; // what is written
 
 use paper::Checked;
@@ -107,12 +107,13 @@ fn ask(name: &[u8], blob: &[u8], index: &mut [u32], work: &mut [u32]) {
     neutral(name, blob, index, work);
 }
 
-fn ask_all(a: &[u8], b: &[u8], c: &[u8]) {
+fn ask_all(a: &[u8], b: &[u8], c: &[u8], d: &[u8]) {
     let mut index = [0u32; 4097];
     let mut work = [0u32; 4097];
     ask(b"blade.btf", a, &mut index, &mut work);
     ask(b"supplier_a.btf", b, &mut index, &mut work);
     ask(b"supplier_b.btf", c, &mut index, &mut work);
+    ask(b"reading.btf", d, &mut index, &mut work);
     grouped(a, b, c, &mut index, &mut work);
 }
 
@@ -120,8 +121,10 @@ fn main() {
     let mut a = [0u8; 65537]; // one byte more than a table may have
     let mut b = [0u8; 65537];
     let mut c = [0u8; 65537];
+    let mut d = [0u8; 65537];
     let n = read(b"blade.btf", &mut a);
     let m = read(b"supplier_a.btf", &mut b);
     let k = read(b"supplier_b.btf", &mut c);
-    ask_all(&a[..n], &b[..m], &c[..k]);
+    let l = read(b"reading.btf", &mut d);
+    ask_all(&a[..n], &b[..m], &c[..k], &d[..l]);
 }
