@@ -28,10 +28,11 @@ fn breaks_kind_flag(record: &Record) -> bool {
     record.kind_flag() && !may_be_set
 }
 
-/// FUNC holds its linkage in vlen; kinds without entries hold 0.
+/// FUNC holds its linkage in vlen, static or global; kinds without entries
+/// hold 0.
 fn breaks_vlen(record: &Record) -> bool {
     match record.kind {
-        Kind::Func => record.vlen() > 2,
+        Kind::Func => record.vlen() > 1,
         kind if kind.entry_words().is_some() => false,
         _ => record.vlen() != 0,
     }

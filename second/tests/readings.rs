@@ -146,6 +146,24 @@ fn a_member_may_have_no_name() {
 }
 
 #[test]
+fn functions_are_static_or_global_and_variables_may_be_outside() {
+    for linkage in 0..4 {
+        let mut m = Make::new();
+        let name = m.string("f");
+        m.proto(0, &[]);
+        m.raw(name, info(Kind::Func, false, linkage), 1, &[]);
+        let wanted = if linkage < 2 { Ok(2) } else { refused(10, 2) };
+        assert_eq!(judged(&m), wanted, "FUNC {linkage}");
+        let mut m = Make::new();
+        let name = m.string("v");
+        m.int(4);
+        m.bare(Kind::Var, name, 1, &[linkage]);
+        let wanted = if linkage < 3 { Ok(2) } else { refused(12, 2) };
+        assert_eq!(judged(&m), wanted, "VAR {linkage}");
+    }
+}
+
+#[test]
 fn int_tail_is_judged_after_the_head() {
     let mut m = Make::new();
     m.bare(Kind::Int, 0, 3, &[int_word(0, 200, 200)]);

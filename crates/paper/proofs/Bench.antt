@@ -12,7 +12,7 @@ use Rattle.paper.specs.Computes.{computes}
 use Rattle.paper.specs.Gate.{gate, zeros}
 use Rattle.paper.specs.Header.{opening}
 use Rattle.paper.specs.Join.{join}
-use Rattle.paper.specs.KindNo.{INT, PTR, ARRAY, STRUCT, UNION, ENUM, CONST, DECL-TAG}
+use Rattle.paper.specs.KindNo.{INT, PTR, ARRAY, STRUCT, UNION, ENUM, CONST, FUNC, FUNC-PROTO, VAR, DECL-TAG}
 use Rattle.paper.specs.Size.{sizeOf}
 use Rattle.paper.specs.Table.{Record}
 use Rattle.paper.specs.Walk.{bytesOf}
@@ -98,6 +98,11 @@ unnamed types names =
     ∷ rec STRUCT 1 (1 + names) 4 (0 ∷ (2 + types) ∷ 0 ∷ [])
     ∷ []
 
+-- a function and a variable of these linkages
+abbrev linked : ℕ → ℕ → List ℕ
+linked function variable =
+    blob (int 4 0 32 ∷ rec FUNC-PROTO 0 0 0 [] ∷ rec FUNC function 1 2 [] ∷ rec VAR 0 1 1 (variable ∷ []) ∷ [])
+
 -- ── what is asked of each ──
 
 abbrev sameAnswer : Answer → Answer → Bool
@@ -177,6 +182,10 @@ benches =
     (bytesOf lowFirst (record { records = rec INT 0 1 2 (16777232 ∷ []) ∷ unnamed 1 2; strings = 0 ∷ 0x74 ∷ 0 ∷ 0x74 ∷ 0 ∷ [] }))
     ∷ refuses (blob (int 4 0 32 ∷ rec STRUCT 1 0 4 (2 ∷ 1 ∷ 0 ∷ []) ∷ [])) 11 2
     ∷ refuses (blob (rec ENUM 1 0 4 (0 ∷ 0 ∷ []) ∷ [])) 11 1
+    -- order 12, 29 to 31: a FUNC of linkage 1, and of linkage 2; a VAR of linkage 2
+    ∷ gives (linked 1 0) (accepted 4) (0 ∷ 24 ∷ 40 ∷ 52 ∷ 64 ∷ zeros 3)
+    ∷ refuses (linked 2 0) 10 3
+    ∷ gives (linked 0 2) (accepted 4) (0 ∷ 24 ∷ 40 ∷ 52 ∷ 64 ∷ zeros 3)
     ∷ []
 
 pub benches-hold : failing 1 benches ≡ []

@@ -74,7 +74,7 @@ rows =
     ∷ aliasTo offset0 nought
     ∷ aliasTo offset0 nought
     -- FUNC, whose vlen is its linkage; FUNC_PROTO; VAR; DATASEC; FLOAT
-    ∷ row nought (oneOf (0 ∷ 1 ∷ 2 ∷ [])) free (refers aProto) identifier [] [] noSize
+    ∷ row nought (oneOf (0 ∷ 1 ∷ [])) free (refers aProto) identifier [] [] noSize
     ∷ row nought free free (refers voidOrPlain) offset0 [] (names offset0OrIdentifier ∷ refers voidOrPlain ∷ []) noSize
     ∷ row nought nought free (holds plain) identifier (number ∷ []) [] referent
     ∷ row nought free free number sectionName [] (refers aVar ∷ number ∷ number ∷ []) sizeWord

@@ -38,7 +38,17 @@ member-single w k = go (eqb w k)
     go true = refl
     go false = refl
 
--- a linkage is at most 2
+-- a FUNC's linkage is at most 1
+pub member-func-linkage : (w : ℕ) → leb w 1 ≡ member w (0 ∷ 1 ∷ [])
+member-func-linkage zero = refl
+member-func-linkage (suc zero) = refl
+member-func-linkage (suc (suc w)) =
+    lt-leb (suc (suc w)) 1 (omega arith) ∙ member-no-key (suc (suc w)) 0 (1 ∷ []) apart
+  where
+    apart : OneOf (0 ∷ 1 ∷ []) (suc (suc w)) → ⊥
+    apart s = ⊎-elim (λ e. omega arith) (λ e. omega arith) s
+
+-- a VAR's is at most 2
 pub member-linkage : (w : ℕ) → leb w 2 ≡ member w (0 ∷ 1 ∷ 2 ∷ [])
 member-linkage zero = refl
 member-linkage (suc zero) = refl

@@ -65,7 +65,7 @@ abbrev pub valuesOf : ℕ → Values
 valuesOf code =
     getD
     (oneOf (0 ∷ [])
-    ∷ oneOf (0 ∷ 1 ∷ 2 ∷ [])
+    ∷ oneOf (0 ∷ 1 ∷ [])
     ∷ oneOf (1 ∷ 2 ∷ 4 ∷ 8 ∷ 16 ∷ [])
     ∷ oneOf (1 ∷ 2 ∷ 4 ∷ 8 ∷ [])
     ∷ oneOf (2 ∷ 4 ∷ 8 ∷ 12 ∷ 16 ∷ [])
@@ -77,7 +77,7 @@ abbrev pub valuesCode : Values → ℕ
 valuesCode free = 5
 valuesCode (oneOf ws) =
     cond (same ws (0 ∷ [])) 0
-    (cond (same ws (0 ∷ 1 ∷ 2 ∷ [])) 1
+    (cond (same ws (0 ∷ 1 ∷ [])) 1
     (cond (same ws (1 ∷ 2 ∷ 4 ∷ 8 ∷ 16 ∷ [])) 2
     (cond (same ws (1 ∷ 2 ∷ 4 ∷ 8 ∷ [])) 3
     4)))

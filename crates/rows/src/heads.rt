@@ -48,7 +48,7 @@ fn allows(code: u32, w: u32) -> bool
 {
     match code {
         0 => w == 0,
-        1 => w <= 2,
+        1 => w <= 1,
         2 => int_size(w),
         3 => enum_size(w),
         4 => float_size(w),

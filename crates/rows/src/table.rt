@@ -5,7 +5,7 @@ ghost use Prim.Native.Nat.{_%_, _/_, _<_};
 ghost use Rattle.paper.specs.Kind.{rowOf};
 ghost use Rattle.rows.specs.Codes.{headCode, tailCode};
 
-// kind_flag, vlen, third word (0 only 0, 1 a linkage, 2 an INT's sizes, 3 an ENUM's, 4 a FLOAT's, 5 any); the third word's role;
+// kind_flag, vlen, third word (0 only 0, 1 a FUNC's linkage, 2 an INT's sizes, 3 an ENUM's, 4 a FLOAT's, 5 any); the third word's role;
 // name; size (0 none, 1 eight, 2 the size word, 3 count times element, 4 the referent's).
 pub(crate) fn head_row(kind: u32) -> u64
     ensures { λ r. ⌜ r ≡ headCode (rowOf kind) ⌝ }

@@ -105,7 +105,7 @@ fn grow_proto(r: &mut Random, m: &mut Make, may_be_unnamed: bool) -> u32 {
 fn grow_func(r: &mut Random, m: &mut Make) -> u32 {
     let prototype = grow_proto(r, m, false);
     let name = identifier(r, m);
-    let linkage = r.below(3);
+    let linkage = r.below(2);
     m.raw(name, info(Kind::Func, false, linkage), prototype, &[])
 }
 

@@ -1,6 +1,6 @@
 -- `rows::heads::allows` meets its contract: a case for each code.
 -- Assumes nothing.
-use Rattle.rows.proofs.Members.{member-single, member-linkage, valuesOf-other}
+use Rattle.rows.proofs.Members.{member-single, member-func-linkage, valuesOf-other}
 use borrow.Author.Needs.{needs}
 use Rattle.rows.proofs.heads.allows.Statement.{statement}
 use Rattle.rows.proofs.heads.allows.Tie as tie
@@ -18,7 +18,7 @@ returns : tie.Need-returns
 returns c = rw (c .match .keys1) (member-single (c .before .args .w) 0)
 
 returns-2 : tie.Need-returns-2
-returns-2 c = rw (c .match .keys2) (member-linkage (c .before .args .w))
+returns-2 c = rw (c .match .keys2) (member-func-linkage (c .before .args .w))
 
 returns-3 : tie.Need-returns-3
 returns-3 c = rw (c .before .match .keys3) (c .int-size .ensures)
