@@ -8,7 +8,8 @@
 //!
 //! With `--edges` the first three put the fixed cases of every rule's edges in
 //! front; without a count, those are all. `--large` puts the fixed large tables
-//! before them. With `--thin` fewer of both are crossed with each other.
+//! before them, `--names` every byte at every place of a name. With `--thin`
+//! fewer of the edges and the large are crossed with each other.
 //! A seed's cases are mostly small, with some at the limits; with `--small` no
 //! limit is reached, with `--long` checks and joins are of long tables only.
 
@@ -28,6 +29,7 @@ second check FILE
 second changed FILE
 (--edges: the fixed cases of every rule's edges in front, and nothing else without --cases;
 --large: the fixed large tables before them; --thin: fewer of both crossed with each other;
+--names: every byte at every place of a name before the edges;
 --small: no limit is reached; --long: checks and joins of long tables only)";
 
 fn main() -> ExitCode {
@@ -72,6 +74,7 @@ fn wanted(arguments: &[String]) -> Result<Wanted, String> {
         edges: false,
         thin: false,
         large: false,
+        names: false,
     };
     let mut count = None;
     let mut rest = arguments.iter();
@@ -90,7 +93,8 @@ fn wanted(arguments: &[String]) -> Result<Wanted, String> {
             _ => return Err(USAGE.to_string()),
         }
     }
-    wanted.cases = count.unwrap_or(if wanted.edges || wanted.large { 0 } else { 100 });
+    let fixed = wanted.edges || wanted.large || wanted.names;
+    wanted.cases = count.unwrap_or(if fixed { 0 } else { 100 });
     if wanted.ops.is_empty() || !wanted.ops.iter().all(|op| (CHECK..=JOIN).contains(op)) {
         return Err("ops are 1, 2, 3 and 4".to_string());
     }
@@ -105,6 +109,7 @@ fn is_flag(wanted: &mut Wanted, argument: &str) -> bool {
         "--edges" => wanted.edges = true,
         "--thin" => wanted.thin = true,
         "--large" => wanted.large = true,
+        "--names" => wanted.names = true,
         _ => return false,
     }
     true

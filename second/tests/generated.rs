@@ -22,6 +22,7 @@ fn wanted(seed: u64, cases: usize) -> Wanted {
         edges: false,
         thin: false,
         large: false,
+        names: false,
     }
 }
 
@@ -169,6 +170,21 @@ fn thinned_edges_are_edges_and_have_every_report_but_8() {
             "{number}"
         );
     }
+}
+
+/// By hand: 53 bytes begin an identifier, 63 go on, and a zero byte behind the
+/// first leaves an identifier of the bytes before it, if those are at most 127.
+#[test]
+fn every_byte_at_every_place_of_a_name() {
+    let names = Wanted {
+        names: true,
+        ..wanted(0, 0)
+    };
+    let all = cases(&names);
+    assert_eq!(all.len(), 256 * (1 + 2 + 3 + 126 + 127 + 128 + 129));
+    let with = |number: u32| all.iter().filter(|case| run(case).number == number).count();
+    let accepted = 5 * 53 + 64 * (1 + 2 + 125 + 126) + 127 + 127;
+    assert_eq!((with(0), with(11)), (accepted, all.len() - accepted));
 }
 
 #[test]

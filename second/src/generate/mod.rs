@@ -12,6 +12,7 @@ pub mod edges_layout;
 pub mod edges_names;
 pub mod edges_questions;
 pub mod edges_walks;
+pub mod every_byte;
 pub mod grow;
 pub mod grow_members;
 pub mod heavy;
@@ -57,6 +58,8 @@ pub struct Wanted {
     pub thin: bool,
     /// The fixed tables at the limits, in front of everything.
     pub large: bool,
+    /// Every byte at every place of a name, between those and the edges.
+    pub names: bool,
 }
 
 /// Tries for each case before a choice nothing can fulfil is given up.
@@ -67,6 +70,9 @@ pub fn cases(wanted: &Wanted) -> Vec<Case> {
     if wanted.large {
         found.extend(large_fixed::cases(wanted.thin));
         found.extend(large_joins::cases(wanted.thin));
+    }
+    if wanted.names {
+        found.extend(every_byte::cases());
     }
     if wanted.edges {
         // at every scale: an edge left out is a rule that is not tried
