@@ -1,5 +1,6 @@
 pub mod HeadSteps
 pub mod Runs
+pub mod Sets
 pub mod NameTests
 pub mod NameRoles
 pub mod Parameters

@@ -1,33 +1,40 @@
--- Laws of identifiers and section names: by the first byte, and by the run of those behind it.
+-- Laws of identifiers and section names: by the first byte, and by the run from it.
 -- Assumes nothing.
-use Prim.Native.Nat.{ℕ, suc, _+_, _<_, _≤_}
+use Prim.Native.Nat.{ℕ, suc, _<_, _≤_}
 use mathlib.Core.Path.{_≡_, refl, sym, ap, _∙_}
-use mathlib.Core.Bool.{Bool, true, false, not, cond, _&&_, _||_, false≢true}
+use mathlib.Core.Bool.{Bool, true, false, not, cond, _&&_, _||_}
 use mathlib.Core.List.{List, [], _∷_}
-use native.Mathlib.Numerals.{add-one}
 use native.Mathlib.Omega.{arith}
-use borrow.Author.Tests.{eq-eqb, ne-eqb, eqb-true, eqb-false, le-leb, not-true, not-false}
+use borrow.Author.Tests.{eq-eqb, ne-eqb, eqb-true, eqb-false, le-leb, lt-leb}
 use lib.Dec.{eqb, leb}
 use lib.ListN.{length, getD, drop, drop-of-length-le}
 use lib.Seq.{drop-cons}
 use Rattle.paper.specs.Choice.{every, isEmpty}
 use Rattle.paper.specs.Name.{untilZero, nameIn, between, isDigit, isLetter, isIdentifier, isSectionName}
-use Rattle.rules.specs.Parts.{runs, wordByte}
-use Rattle.rules.proofs.Runs.{leb-suc}
-
--- the bytes of an identifier, as its definition says them
-abbrev wordBytes : ℕ → Bool
-wordBytes c = isLetter c || isDigit c
-
-letter-not-zero : isLetter 0 ≡ true → ⊥
-unfolding isLetter
-letter-not-zero e = false≢true e
+use Rattle.rules.specs.Parts.{runs}
+use Rattle.rules.proofs.Sets.{wordBytes, between-past}
 
 and-swap : (a b : Bool) → a && b ≡ b && a
 and-swap true true = refl
 and-swap true false = refl
 and-swap false true = refl
 and-swap false false = refl
+
+or-false : (a : Bool) → a || false ≡ a
+or-false true = refl
+or-false false = refl
+
+-- ── a first byte: the letters lie from 64 on, the digits below ──
+
+letter-low : (c : ℕ) → c < 64 → isLetter c ≡ false
+unfolding isLetter
+letter-low c h = rw (lt-leb 65 c (omega arith), lt-leb 97 c (omega arith)) (ne-eqb c 95 (λ e. omega arith))
+
+word-high : (c : ℕ) → 64 ≤ c → wordBytes c ≡ isLetter c
+unfolding isDigit
+word-high c h = ap (λ (t : Bool). isLetter c || t) (between-past 48 57 c (omega arith)) ∙ or-false (isLetter c)
+
+-- ── a name ──
 
 module _ (s : List ℕ) (off : ℕ) where
   -- past the strings stands no name
@@ -60,28 +67,25 @@ module _ (s : List ℕ) (off : ℕ) where
         go true e = sym (ap (λ (cs : List ℕ). not (isEmpty cs)) (nameIn-zero (eqb-true (getD s off 0) 0 e)))
         go false e = sym (ap (λ (cs : List ℕ). not (isEmpty cs)) (nameIn-first (eqb-false (getD s off 0) 0 e)))
 
-    -- a first byte that is no letter
-    pub identifier-bad : {t : Bool} → t ≡ isLetter (getD s off 0) → not t ≡ true → false ≡ isIdentifier (nameIn s off)
-    identifier-bad {t} e n = go (eqb (getD s off 0) 0) refl
+    -- an identifier's first byte is from 64 on
+    pub identifier-bad : getD s off 0 < 64 → false ≡ isIdentifier (nameIn s off)
+    identifier-bad h = go (eqb (getD s off 0) 0) refl
       where
         go : (z : Bool) → eqb (getD s off 0) 0 ≡ z → false ≡ isIdentifier (nameIn s off)
         go true z = sym (ap isIdentifier (nameIn-zero (eqb-true (getD s off 0) 0 z)))
         go false z =
             sym (ap isIdentifier (nameIn-first (eqb-false (getD s off 0) 0 z))
-            ∙ ap (λ (b : Bool). b && every wordBytes (untilZero (drop (suc off) s)) && leb (suc (length (untilZero (drop (suc off) s)))) 127) (sym e ∙ not-true t n))
+            ∙ ap (λ (b : Bool). b && every wordBytes (untilZero (drop (suc off) s)) && leb (suc (length (untilZero (drop (suc off) s)))) 127) (letter-low (getD s off 0) h))
 
-    -- a letter, and the run behind it
-    pub identifier-run : {t : Bool} → t ≡ isLetter (getD s off 0) → not t ≡ false → {r : Bool}
-        → r ≡ runs wordByte 126 (drop (off + 1) s) → r ≡ isIdentifier (nameIn s off)
-    unfolding runs wordByte
-    identifier-run {t} e n d =
-        let first : isLetter (getD s off 0) ≡ true = sym e ∙ not-false t n in
+    pub identifier-run : 64 ≤ getD s off 0 → {r : Bool} → r ≡ runs wordBytes 127 (drop off s) → r ≡ isIdentifier (nameIn s off)
+    unfolding runs nameIn
+    identifier-run h d =
         let tail : List ℕ = untilZero (drop (suc off) s) in
+        let first = nameIn-first (λ z. omega arith) in
         d
-        ∙ ap (λ (j : ℕ). runs wordByte 126 (drop j s)) (add-one off)
-        ∙ ap (λ (b : Bool). every wordByte tail && b) (sym (leb-suc (length tail) 126))
-        ∙ ap (λ (b : Bool). b && every wordByte tail && leb (suc (length tail)) 127) (sym first)
-        ∙ sym (ap isIdentifier (nameIn-first (λ z. letter-not-zero (sym (ap isLetter z) ∙ first))))
+        ∙ ap (λ (cs : List ℕ). every wordBytes cs && leb (length cs) 127) first
+        ∙ ap (λ (b : Bool). b && every wordBytes tail && leb (suc (length tail)) 127) (word-high (getD s off 0) h)
+        ∙ sym (ap isIdentifier first)
 
     -- a section name has a first byte
     pub section-bad : getD s off 0 ≡ 0 → false ≡ isSectionName (nameIn s off)
@@ -91,7 +95,8 @@ module _ (s : List ℕ) (off : ℕ) where
     pub section-run : (getD s off 0 ≡ 0 → ⊥) → {r : Bool} → r ≡ runs (between 33 126) 127 (drop off s) → r ≡ isSectionName (nameIn s off)
     unfolding runs isSectionName nameIn
     section-run n d =
-        d ∙ and-swap (every (between 33 126) (nameIn s off)) (leb (length (nameIn s off)) 127)
+        d
+        ∙ and-swap (every (between 33 126) (nameIn s off)) (leb (length (nameIn s off)) 127)
         ∙ ap (λ (b : Bool). b && leb (length (nameIn s off)) 127 && every (between 33 126) (nameIn s off)) (sym some)
       where
         some : leb 1 (length (nameIn s off)) ≡ true

@@ -2,12 +2,12 @@
 -- Assumes nothing.
 use Prim.Native.Nat.{ℕ, suc, _+_, _-_, _<_, _≤_}
 use mathlib.Core.Path.{_≡_, refl, sym, ap, _∙_}
-use mathlib.Core.Bool.{Bool, true, false, not, _&&_}
+use mathlib.Core.Bool.{Bool, true, false, not, _&&_, false≢true}
 use mathlib.Core.List.{List, [], _∷_}
 use native.Mathlib.Numerals.{add-one}
 use native.Mathlib.Omega.{arith}
-use borrow.Author.Tests.{eq-eqb, ne-eqb, le-leb, lt-leb, leb-true, leb-false, not-true, not-false}
-use lib.Dec.{leb}
+use borrow.Author.Tests.{eq-eqb, ne-eqb, eqb-true, eqb-false, le-leb, lt-leb, leb-true, leb-false, not-true, not-false}
+use lib.Dec.{eqb, leb}
 use lib.ListN.{length, getD, drop, drop-of-length-le}
 use lib.Seq.{drop-cons}
 use Rattle.paper.specs.Choice.{every}
@@ -17,14 +17,14 @@ use Rattle.rules.specs.Parts.{runs}
 -- ── tests ──
 
 -- one more on both sides is the same test
-pub leb-suc : (m n : ℕ) → leb (suc m) (suc n) ≡ leb m n
+leb-suc : (m n : ℕ) → leb (suc m) (suc n) ≡ leb m n
 leb-suc m n = go (leb m n) refl
   where
     go : (t : Bool) → leb m n ≡ t → leb (suc m) (suc n) ≡ t
     go true e = let l = leb-true m n e in le-leb (suc m) (suc n) (omega arith)
     go false e = let l = leb-false m n e in lt-leb (suc m) (suc n) (omega arith)
 
-and-false : (a : Bool) → a && false ≡ false
+pub and-false : (a : Bool) → a && false ≡ false
 and-false true = refl
 and-false false = refl
 
@@ -57,34 +57,40 @@ module _ (f : ℕ → Bool) where
 
 -- ── a scan ──
 
--- what is left of a run: the run from here, of the bytes that may still come, is the run from the start
+-- what is left of a run: the run from here, of the bytes that may still come, is the run from the start; no zero byte passes the test
 pub record Running (f : ℕ → Bool) (s : List ℕ) (from most i left : ℕ) : Type 0 where
+  pub zero-ends : f 0 ≡ false
   pub rest : runs f most (drop from s) ≡ runs f left (drop i s)
 
 module _ {f : ℕ → Bool} {s : List ℕ} {from most i left : ℕ} (run : Running f s from most i left) where
   pub running-end : length s ≤ i → true ≡ runs f most (drop from s)
   running-end h = sym (run .rest ∙ ap (runs f left) (drop-of-length-le s h) ∙ runs-nothing f left)
 
-  module _ (inside : i < length s) where
+  module _ (inside : i < length s) {t : Bool} (e : t ≡ f (getD s i 0)) where
     here : drop i s ≡ getD s i 0 ∷ drop (suc i) s
     here = drop-cons s i 0 inside
 
-    pub running-zero : getD s i 0 ≡ 0 → true ≡ runs f most (drop from s)
-    running-zero e = sym (run .rest ∙ ap (runs f left) here ∙ runs-zero f left (getD s i 0) (drop (suc i) s) e)
+    -- the first byte that does not pass is the end, or refused
+    pub running-stop : not t ≡ true → eqb (getD s i 0) 0 ≡ runs f most (drop from s)
+    running-stop n = go (eqb (getD s i 0) 0) refl ∙ sym (run .rest ∙ ap (runs f left) here)
+      where
+        go : (z : Bool) → eqb (getD s i 0) 0 ≡ z → z ≡ runs f left (getD s i 0 ∷ drop (suc i) s)
+        go true z = sym (runs-zero f left (getD s i 0) (drop (suc i) s) (eqb-true (getD s i 0) 0 z))
+        go false z = sym (runs-bad f left (getD s i 0) (drop (suc i) s) (eqb-false (getD s i 0) 0 z) (sym e ∙ not-true t n))
 
-    module _ (more : getD s i 0 ≡ 0 → ⊥) where
+    module _ (n : not t ≡ false) where
+      more : getD s i 0 ≡ 0 → ⊥
+      more z = false≢true (sym (run .zero-ends) ∙ ap f (sym z) ∙ sym e ∙ not-false t n)
+
       pub running-full : left ≡ 0 → false ≡ runs f most (drop from s)
-      running-full e =
-          sym (run .rest ∙ (λ j. runs f (e j) (here j)) ∙ runs-full f (getD s i 0) (drop (suc i) s) more)
+      running-full l =
+          sym (run .rest ∙ (λ j. runs f (l j) (here j)) ∙ runs-full f (getD s i 0) (drop (suc i) s) more)
 
-      pub running-bad : {t : Bool} → t ≡ f (getD s i 0) → not t ≡ true → false ≡ runs f most (drop from s)
-      running-bad {t} e n =
-          sym (run .rest ∙ ap (runs f left) here ∙ runs-bad f left (getD s i 0) (drop (suc i) s) more (sym e ∙ not-true t n))
-
-      pub running-next : (left ≡ 0 → ⊥) → {t : Bool} → t ≡ f (getD s i 0) → not t ≡ false → Running f s from most (i + 1) (left - 1)
-      running-next some {t} e n =
+      pub running-next : (left ≡ 0 → ⊥) → Running f s from most (i + 1) (left - 1)
+      running-next some =
           let one : left ≡ suc (left - 1) = omega arith in
           record {
+            zero-ends = run .zero-ends;
             rest =
                 run .rest
                 ∙ (λ j. runs f (one j) (here j))

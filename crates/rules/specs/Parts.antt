@@ -1,13 +1,13 @@
 -- What the parts of phase 3 in code are promised to answer, in the paper's words.
-use Prim.Native.Nat.{ℕ, _*_}
-use mathlib.Core.Bool.{Bool, _&&_, _||_}
+use Prim.Native.Nat.{ℕ, _*_, _/_, _%_, _^_}
+use mathlib.Core.Bool.{Bool, _&&_}
 use mathlib.Core.List.{List, [], _∷_}
-use lib.Dec.{leb}
+use lib.Dec.{eqb, leb}
 use lib.ListN.{length, getD}
 use Rattle.paper.specs.Choice.{every}
 use Rattle.paper.specs.Heads.{allowed, spareZero}
 use Rattle.paper.specs.Kind.{NameRule, offset0, anyName, offset0OrIdentifier, identifier, nonEmpty, sectionName, rowOf}
-use Rattle.paper.specs.Name.{untilZero, isDigit, isLetter}
+use Rattle.paper.specs.Name.{untilZero}
 use Rattle.paper.specs.Reading.{wordsFrom}
 use Rattle.paper.specs.Table.{kindIn, vlenIn, flagIn}
 use Rattle.paper.specs.Tails.{parametersIn, voidsLast}
@@ -22,9 +22,9 @@ headBy info third =
     && allowed (row .vlen) (vlenIn info)
     && allowed (row .thirdValues) third
 
--- a byte of an identifier behind its first
-unfoldable pub wordByte : ℕ → Bool
-wordByte c = isLetter c || isDigit c
+-- a byte is of a set: four words, of a bit for each byte
+unfoldable pub among : List ℕ → ℕ → Bool
+among set c = eqb (getD set (c / 64) 0 / 2 ^ (c % 64) % 2) 1
 
 -- up to the first zero byte: at most so many bytes, and each passes a test
 unfoldable pub runs : (ℕ → Bool) → ℕ → List ℕ → Bool

@@ -1,81 +1,38 @@
-// Identifiers and section names: the bytes of a name are read once, and never past the 128th.
+// Identifiers and section names: a name is gone over once, and never past its 128th byte.
+// A set of bytes is four words of a bit for each byte, so that one look-up answers for a byte, and no branch hangs on which it is.
 use paper::NameOff;
 ghost use mathlib.Core.Path.{_≡_};
+ghost use mathlib.Core.Bool.{false};
 ghost use lib.ListN.{drop};
-ghost use Rattle.paper.specs.Name.{between, isIdentifier, isLetter, isSectionName, nameIn};
-ghost use Rattle.rules.specs.Parts.{runs, wordByte};
+ghost use Rattle.paper.specs.Name.{isIdentifier, isSectionName, nameIn};
+ghost use Rattle.rules.specs.Parts.{among, runs};
 
-// A byte from one to another.
-fn is_between(low: u8, high: u8, c: u8) -> bool
-    ensures { λ r. ⌜ r ≡ between low high c ⌝ }
+// Digits are 48 to 57, letters 65 to 90 and 97 to 122, the underscore is 95.
+const WORD: [u64; 4] = [0x03ff_0000_0000_0000, 0x07ff_fffe_87ff_fffe, 0, 0];
+
+// 33 to 126.
+const PRINTED: [u64; 4] = [0xffff_fffe_0000_0000, 0x7fff_ffff_ffff_ffff, 0, 0];
+
+// A byte is of a set, which is lent: a constant array is laid on the stack wherever it is named.
+fn is_among(set: &[u64; 4], c: u8) -> bool
+    ensures { λ r. ⌜ r ≡ among (now (set .entry)) c ⌝ }
 {
-    if c < low {
-        return false;
-    }
-    c <= high
+    (set[(c / 64) as usize] >> (c % 64)) % 2 == 1
 }
 
-// A letter or an underscore.
-fn is_letter(c: u8) -> bool
-    ensures { λ r. ⌜ r ≡ isLetter c ⌝ }
-{
-    if is_between(65, 90, c) {
-        return true;
-    }
-    if is_between(97, 122, c) {
-        return true;
-    }
-    c == 95
-}
-
-// A byte of an identifier behind its first.
-fn is_word_byte(c: u8) -> bool
-    ensures { λ r. ⌜ r ≡ wordByte c ⌝ }
-{
-    if is_letter(c) {
-        return true;
-    }
-    is_between(48, 57, c)
-}
-
-// From a place up to the first zero byte: at most 126 bytes of an identifier.
-fn word_run(s: &[u8], from: usize) -> bool
-    ensures { λ r. ⌜ r ≡ runs wordByte 126 (drop from (now (s .entry))) ⌝ }
-{
-    let mut i = from;
-    let mut left: u32 = 126;
-    while i < s.len() {
-        let c = s[i];
-        if c == 0 {
-            return true;
-        }
-        if left == 0 {
-            return false;
-        }
-        if !is_word_byte(c) {
-            return false;
-        }
-        left -= 1;
-        i += 1;
-    }
-    true
-}
-
-// From a place up to the first zero byte: at most 127 bytes of 33 to 126.
-fn print_run(s: &[u8], from: usize) -> bool
-    ensures { λ r. ⌜ r ≡ runs (between 33 126) 127 (drop from (now (s .entry))) ⌝ }
+// From a place up to the first zero byte: at most 127 bytes, and each is of a set.
+fn run(s: &[u8], from: usize, set: &[u64; 4]) -> bool
+    requires { ⌜ among (now set) 0 ≡ false ⌝ }
+    ensures { λ r. ⌜ r ≡ runs (among (now (set .entry))) 127 (drop from (now (s .entry))) ⌝ }
 {
     let mut i = from;
     let mut left: u32 = 127;
     while i < s.len() {
         let c = s[i];
-        if c == 0 {
-            return true;
+        if !is_among(set, c) {
+            return c == 0;
         }
         if left == 0 {
-            return false;
-        }
-        if !is_between(33, 126, c) {
             return false;
         }
         left -= 1;
@@ -84,7 +41,7 @@ fn print_run(s: &[u8], from: usize) -> bool
     true
 }
 
-// The name at an offset is an identifier.
+// The name at an offset is an identifier. A byte of the set from 64 on is no digit, so it may be the first.
 pub fn identifier(strings: &[u8], at: NameOff) -> bool
     ensures { λ r. ⌜ r ≡ isIdentifier (nameIn (now (strings .entry)) (at .0)) ⌝ }
 {
@@ -92,10 +49,10 @@ pub fn identifier(strings: &[u8], at: NameOff) -> bool
     if strings.len() <= from {
         return false;
     }
-    if !is_letter(strings[from]) {
+    if strings[from] < 64 {
         return false;
     }
-    word_run(strings, from + 1)
+    run(strings, from, &WORD)
 }
 
 // The name at an offset is one that a section may have.
@@ -109,5 +66,5 @@ pub fn section_name(strings: &[u8], at: NameOff) -> bool
     if strings[from] == 0 {
         return false;
     }
-    print_run(strings, from)
+    run(strings, from, &PRINTED)
 }

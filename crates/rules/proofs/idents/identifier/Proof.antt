@@ -1,7 +1,12 @@
--- `rules::idents::identifier` meets its contract: a letter, and the run behind it.
+-- `rules::idents::identifier` meets its contract: a first byte from 64 on, and the run from it.
 -- Assumes nothing.
+use mathlib.Core.Path.{refl}
+use native.Mathlib.Omega.{arith}
 use denote.Ref.{now}
+use Rattle.paper.specs.Name.{isDigit, isLetter}
+use Rattle.rules.specs.Parts.{among}
 use Rattle.rules.proofs.NameTests.{identifier-outside, identifier-bad, identifier-run}
+use Rattle.rules.proofs.Sets.{runs-word}
 use borrow.Author.Needs.{needs}
 use Rattle.rules.proofs.idents.identifier.Statement.{statement}
 use Rattle.rules.proofs.idents.identifier.Tie as tie
@@ -12,33 +17,24 @@ cast-from c = search needs
 returns : tie.Need-returns
 returns c = let a = c .before .before .before .args in identifier-outside (now (a .strings)) (a .at .0) (c .if1 .taken)
 
-shared-slice-read-is-letter : tie.Need-shared-slice-read-is-letter
-shared-slice-read-is-letter c = search needs
-
-is-letter-requires : tie.Need-is-letter-requires
-is-letter-requires c κs = search needs
+shared-slice-read-if2 : tie.Need-shared-slice-read-if2
+shared-slice-read-if2 c = search needs
 
 returns-2 : tie.Need-returns-2
-returns-2 c = let d = c .before .before .before in let a = d .before .before .before .args in identifier-bad (now (a .strings)) (a .at .0) (d .if1 .left) (c .before .is-letter .ensures) (c .if2 .taken)
+returns-2 c = let d = c .before .before in let a = d .before .before .before .args in identifier-bad (now (a .strings)) (a .at .0) (d .if1 .left) (omega arith)
 
-add-word-run : tie.Need-add-word-run
-add-word-run c = search needs
-
-word-run-requires : tie.Need-word-run-requires
-word-run-requires c κs = search needs
+run-requires : tie.Need-run-requires
+unfolding among
+run-requires c κs = refl
 
 returns-3 : tie.Need-returns-3
-returns-3 c = let e = c .before in let d = e .before .before .before in let a = d .before .before .before .args in identifier-run (now (a .strings)) (a .at .0) (d .if1 .left) (e .before .is-letter .ensures) (e .if2 .left) (c .word-run .ensures)
+returns-3 c =
+    let e = c .before .before in
+    let d = e .before .before in
+    let a = d .before .before .before .args in
+    identifier-run (now (a .strings)) (a .at .0) (d .if1 .left) (omega arith) (runs-word _ _ _ (c .run .ensures) (unfold among isLetter isDigit in refl))
 
 pub identifier-spec : {M : Type 1} → statement M
 identifier-spec =
     tie.close
-    (tie.spec
-    cast-from
-    returns
-    shared-slice-read-is-letter
-    is-letter-requires
-    returns-2
-    add-word-run
-    word-run-requires
-    returns-3)
+    (tie.spec cast-from returns shared-slice-read-if2 returns-2 run-requires returns-3)

@@ -1,7 +1,11 @@
 -- `rules::idents::section_name` meets its contract: a first byte, and the run from it.
 -- Assumes nothing.
+use mathlib.Core.Path.{refl}
 use denote.Ref.{now}
+use native.Mathlib.Omega.{arith}
+use Rattle.rules.specs.Parts.{among}
 use Rattle.rules.proofs.NameTests.{section-outside, section-bad, section-run}
+use Rattle.rules.proofs.Sets.{runs-print}
 use borrow.Author.Needs.{needs}
 use Rattle.rules.proofs.idents.section_name.Statement.{statement}
 use Rattle.rules.proofs.idents.section_name.Tie as tie
@@ -16,15 +20,20 @@ shared-slice-read-if2 : tie.Need-shared-slice-read-if2
 shared-slice-read-if2 c = search needs
 
 returns-2 : tie.Need-returns-2
-returns-2 c = let d = c .before .before in let a = d .before .before .before .args in section-bad (now (a .strings)) (a .at .0) (d .if1 .left) (c .if2 .taken)
+returns-2 c = let d = c .before .before in let a = d .before .before .before .args in section-bad (now (a .strings)) (a .at .0) (d .if1 .left) (omega arith)
 
-print-run-requires : tie.Need-print-run-requires
-print-run-requires c κs = search needs
+run-requires : tie.Need-run-requires
+unfolding among
+run-requires c κs = refl
 
 returns-3 : tie.Need-returns-3
-returns-3 c = let e = c .before in let d = e .before .before in let a = d .before .before .before .args in section-run (now (a .strings)) (a .at .0) (d .if1 .left) (e .if2 .left) (c .print-run .ensures)
+returns-3 c =
+    let e = c .before .before in
+    let d = e .before .before in
+    let a = d .before .before .before .args in
+    section-run (now (a .strings)) (a .at .0) (d .if1 .left) (e .if2 .left) (runs-print _ _ _ (c .run .ensures) (unfold among in refl))
 
 pub section-name-spec : {M : Type 1} → statement M
 section-name-spec =
     tie.close
-    (tie.spec cast-from returns shared-slice-read-if2 returns-2 print-run-requires returns-3)
+    (tie.spec cast-from returns shared-slice-read-if2 returns-2 run-requires returns-3)
