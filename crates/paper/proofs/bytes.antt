@@ -7,3 +7,4 @@ pub mod Tables
 pub mod Blobs
 pub mod Places
 pub mod Reading
+pub mod Identifiers

@@ -39,11 +39,15 @@ isDigit c = between 48 57 c
 unfoldable pub isLetter : ℕ → Bool
 isLetter c = between 65 90 c || between 97 122 c || eqb c 95
 
--- "An identifier is 1 to 127 (house) ASCII letters, digits, underscores, no digit first"
+-- "An identifier is 1 to 127 (house) ASCII letters, digits, underscores, no digit first": how many bytes it has, or that a name is none
+abbrev pub identifierLength : List ℕ → Option ℕ
+identifierLength [] = none
+identifierLength (c ∷ cs) =
+    cond (isLetter c && every (λ (d : ℕ). isLetter d || isDigit d) cs && leb (length (c ∷ cs)) 127)
+    (some (length (c ∷ cs))) none
+
 abbrev pub isIdentifier : List ℕ → Bool
-isIdentifier [] = false
-isIdentifier (c ∷ cs) =
-    isLetter c && every (λ (d : ℕ). isLetter d || isDigit d) cs && leb (length (c ∷ cs)) 127
+isIdentifier cs = isSome (identifierLength cs)
 
 -- "DATASEC: 1 to 127 bytes of 33 to 126 (house)"
 unfoldable pub isSectionName : List ℕ → Bool

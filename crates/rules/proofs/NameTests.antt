@@ -4,14 +4,16 @@ use Prim.Native.Nat.{ℕ, suc, _<_, _≤_}
 use mathlib.Core.Path.{_≡_, refl, sym, ap, _∙_}
 use mathlib.Core.Bool.{Bool, true, false, not, cond, _&&_, _||_}
 use mathlib.Core.List.{List, [], _∷_}
+use mathlib.Core.Option.{Option, none, some}
 use native.Mathlib.Omega.{arith}
 use borrow.Author.Tests.{eq-eqb, ne-eqb, eqb-true, eqb-false, le-leb, lt-leb}
 use lib.Dec.{eqb, leb}
 use lib.ListN.{length, getD, drop, drop-of-length-le}
 use lib.Seq.{drop-cons}
-use Rattle.paper.specs.Choice.{every, isEmpty}
-use Rattle.paper.specs.Name.{untilZero, nameIn, between, isDigit, isLetter, isIdentifier, isSectionName}
-use Rattle.rules.specs.Parts.{runs}
+use Rattle.paper.specs.Choice.{every, isEmpty, isSome}
+use Rattle.paper.specs.Name.{untilZero, nameIn, between, isDigit, isLetter, identifierLength, isSectionName}
+use Rattle.rules.specs.Parts.{runs, runLength}
+use Rattle.rules.proofs.Runs.{runLength-runs}
 use Rattle.rules.proofs.Sets.{wordBytes, between-past}
 
 and-swap : (a b : Bool) → a && b ≡ b && a
@@ -34,6 +36,10 @@ word-high : (c : ℕ) → 64 ≤ c → wordBytes c ≡ isLetter c
 unfolding isDigit
 word-high c h = ap (λ (t : Bool). isLetter c || t) (between-past 48 57 c (omega arith)) ∙ or-false (isLetter c)
 
+-- how long an identifier is, by the bytes behind its first and whether that is a letter
+abbrev lengthBy : List ℕ → Bool → Option ℕ
+lengthBy cs letter = cond (letter && every wordBytes cs && leb (suc (length cs)) 127) (some (suc (length cs))) none
+
 -- ── a name ──
 
 module _ (s : List ℕ) (off : ℕ) where
@@ -42,8 +48,8 @@ module _ (s : List ℕ) (off : ℕ) where
   unfolding nameIn
   nameIn-outside h = ap untilZero (drop-of-length-le s h)
 
-  pub identifier-outside : length s ≤ off → false ≡ isIdentifier (nameIn s off)
-  identifier-outside h = sym (ap isIdentifier (nameIn-outside h))
+  pub identifier-outside : length s ≤ off → none ≡ identifierLength (nameIn s off)
+  identifier-outside h = sym (ap identifierLength (nameIn-outside h))
 
   pub section-outside : length s ≤ off → false ≡ isSectionName (nameIn s off)
   unfolding isSectionName
@@ -68,36 +74,36 @@ module _ (s : List ℕ) (off : ℕ) where
         go false e = sym (ap (λ (cs : List ℕ). not (isEmpty cs)) (nameIn-first (eqb-false (getD s off 0) 0 e)))
 
     -- an identifier's first byte is from 64 on
-    pub identifier-bad : getD s off 0 < 64 → false ≡ isIdentifier (nameIn s off)
+    pub identifier-bad : getD s off 0 < 64 → none ≡ identifierLength (nameIn s off)
     identifier-bad h = go (eqb (getD s off 0) 0) refl
       where
-        go : (z : Bool) → eqb (getD s off 0) 0 ≡ z → false ≡ isIdentifier (nameIn s off)
-        go true z = sym (ap isIdentifier (nameIn-zero (eqb-true (getD s off 0) 0 z)))
+        go : (z : Bool) → eqb (getD s off 0) 0 ≡ z → none ≡ identifierLength (nameIn s off)
+        go true z = sym (ap identifierLength (nameIn-zero (eqb-true (getD s off 0) 0 z)))
         go false z =
-            sym (ap isIdentifier (nameIn-first (eqb-false (getD s off 0) 0 z))
-            ∙ ap (λ (b : Bool). b && every wordBytes (untilZero (drop (suc off) s)) && leb (suc (length (untilZero (drop (suc off) s)))) 127) (letter-low (getD s off 0) h))
+            sym (ap identifierLength (nameIn-first (eqb-false (getD s off 0) 0 z))
+            ∙ ap (lengthBy (untilZero (drop (suc off) s))) (letter-low (getD s off 0) h))
 
-    pub identifier-run : 64 ≤ getD s off 0 → {r : Bool} → r ≡ runs wordBytes 127 (drop off s) → r ≡ isIdentifier (nameIn s off)
-    unfolding runs nameIn
+    pub identifier-run : 64 ≤ getD s off 0 → {o : Option ℕ} → o ≡ runLength wordBytes 127 (drop off s) → o ≡ identifierLength (nameIn s off)
+    unfolding runs runLength nameIn
     identifier-run h d =
-        let tail : List ℕ = untilZero (drop (suc off) s) in
         let first = nameIn-first (λ z. omega arith) in
         d
-        ∙ ap (λ (cs : List ℕ). every wordBytes cs && leb (length cs) 127) first
-        ∙ ap (λ (b : Bool). b && every wordBytes tail && leb (suc (length tail)) 127) (word-high (getD s off 0) h)
-        ∙ sym (ap isIdentifier first)
+        ∙ ap (λ (cs : List ℕ). cond (every wordBytes cs && leb (length cs) 127) (some (length cs)) none) first
+        ∙ ap (lengthBy (untilZero (drop (suc off) s))) (word-high (getD s off 0) h)
+        ∙ sym (ap identifierLength first)
 
     -- a section name has a first byte
     pub section-bad : getD s off 0 ≡ 0 → false ≡ isSectionName (nameIn s off)
     unfolding isSectionName
     section-bad e = sym (ap isSectionName (nameIn-zero e))
 
-    pub section-run : (getD s off 0 ≡ 0 → ⊥) → {r : Bool} → r ≡ runs (between 33 126) 127 (drop off s) → r ≡ isSectionName (nameIn s off)
+    pub section-run : (getD s off 0 ≡ 0 → ⊥) → {o : Option ℕ} → o ≡ runLength (between 33 126) 127 (drop off s) → isSome o ≡ isSectionName (nameIn s off)
     unfolding runs isSectionName nameIn
     section-run n d =
-        d
+        ap isSome d
+        ∙ runLength-runs (between 33 126) 127 (drop off s)
         ∙ and-swap (every (between 33 126) (nameIn s off)) (leb (length (nameIn s off)) 127)
-        ∙ ap (λ (b : Bool). b && leb (length (nameIn s off)) 127 && every (between 33 126) (nameIn s off)) (sym some)
+        ∙ ap (λ (b : Bool). b && leb (length (nameIn s off)) 127 && every (between 33 126) (nameIn s off)) (sym filled)
       where
-        some : leb 1 (length (nameIn s off)) ≡ true
-        some = ap (λ (cs : List ℕ). leb 1 (length cs)) (nameIn-first n) ∙ le-leb 1 (suc (length (untilZero (drop (suc off) s)))) (omega arith)
+        filled : leb 1 (length (nameIn s off)) ≡ true
+        filled = ap (λ (cs : List ℕ). leb 1 (length cs)) (nameIn-first n) ∙ le-leb 1 (suc (length (untilZero (drop (suc off) s)))) (omega arith)

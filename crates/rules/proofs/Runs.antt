@@ -1,18 +1,21 @@
--- Laws of `runs`: a run of bytes up to the first zero byte, one byte at a time.
+-- Laws of `runs` and `runLength`: a run of bytes up to the first zero byte, one byte at a time.
 -- Assumes nothing.
 use Prim.Native.Nat.{ℕ, suc, _+_, _-_, _<_, _≤_}
 use mathlib.Core.Path.{_≡_, refl, sym, ap, _∙_}
-use mathlib.Core.Bool.{Bool, true, false, not, _&&_, false≢true}
+use mathlib.Core.Bool.{Bool, true, false, not, cond, _&&_, false≢true}
 use mathlib.Core.List.{List, [], _∷_}
+use mathlib.Core.Option.{Option, none, some}
 use native.Mathlib.Numerals.{add-one}
 use native.Mathlib.Omega.{arith}
-use borrow.Author.Tests.{eq-eqb, ne-eqb, eqb-true, eqb-false, le-leb, lt-leb, leb-true, leb-false, not-true, not-false}
-use lib.Dec.{eqb, leb}
+use borrow.Author.Tests.{eq-eqb, ne-eqb, le-leb, lt-leb, leb-true, leb-false, not-true, not-false}
+use lib.Dec.{leb}
 use lib.ListN.{length, getD, drop, drop-of-length-le}
 use lib.Seq.{drop-cons}
-use Rattle.paper.specs.Choice.{every}
+use Rattle.paper.specs.Choice.{every, isSome}
 use Rattle.paper.specs.Name.{untilZero}
-use Rattle.rules.specs.Parts.{runs}
+use Rattle.rules.specs.declared.idents.Spelt.{Spelt}
+use Rattle.rules.specs.declared.idents.Spelt.the-variants.{Bytes, Not}
+use Rattle.rules.specs.Parts.{runs, runLength, speltAsPaper}
 
 -- ── tests ──
 
@@ -55,45 +58,119 @@ module _ (f : ℕ → Bool) where
   runs-next most c cs n e =
       rw (ne-eqb c 0 n, e) (ap (λ (t : Bool). every f (untilZero cs) && t) (leb-suc (length (untilZero cs)) most))
 
+-- ── how many bytes ──
+
+module _ (f : ℕ → Bool) (most : ℕ) (cs : List ℕ) where
+  runLength-some : {n : ℕ} → runs f most cs ≡ true → n ≡ length (untilZero cs) → some n ≡ runLength f most cs
+  unfolding runLength
+  runLength-some e h = rw e (ap some h)
+
+  runLength-none : runs f most cs ≡ false → none ≡ runLength f most cs
+  unfolding runLength
+  runLength-none e = rw e refl
+
+  -- a run is one that has a length
+  pub runLength-runs : isSome (runLength f most cs) ≡ runs f most cs
+  unfolding runLength
+  runLength-runs = go (runs f most cs)
+    where
+      go : (t : Bool) → isSome (cond t (some (length (untilZero cs))) none) ≡ t
+      go true = refl
+      go false = refl
+
 -- ── a scan ──
 
--- what is left of a run: the run from here, of the bytes that may still come, is the run from the start; no zero byte passes the test
-pub record Running (f : ℕ → Bool) (s : List ℕ) (from most i left : ℕ) : Type 0 where
+-- so many bytes of a run are counted: the run from here, of the bytes that may still come, is the run from the start; no zero byte passes the test
+pub record Running (f : ℕ → Bool) (s : List ℕ) (from most i n : ℕ) : Type 0 where
   pub zero-ends : f 0 ≡ false
-  pub rest : runs f most (drop from s) ≡ runs f left (drop i s)
+  pub within : n ≤ most
+  pub rest : runs f most (drop from s) ≡ runs f (most - n) (drop i s)
+  pub counted : length (untilZero (drop from s)) ≡ n + length (untilZero (drop i s))
 
-module _ {f : ℕ → Bool} {s : List ℕ} {from most i left : ℕ} (run : Running f s from most i left) where
-  pub running-end : length s ≤ i → true ≡ runs f most (drop from s)
-  running-end h = sym (run .rest ∙ ap (runs f left) (drop-of-length-le s h) ∙ runs-nothing f left)
+pub running-start : {f : ℕ → Bool} {s : List ℕ} {from most n : ℕ} → f 0 ≡ false → n ≡ 0 → Running f s from most from n
+running-start {f} {s} {from} {most} {n} e z =
+    let all : most ≡ most - n = omega arith in
+    record {
+      zero-ends = e;
+      within = omega arith;
+      rest = ap (λ (k : ℕ). runs f k (drop from s)) all;
+      counted = omega arith;
+    }
+
+module _ {f : ℕ → Bool} {s : List ℕ} {from most i n : ℕ} (run : Running f s from most i n) where
+  -- where nothing is left, what is counted is the run
+  done : runs f (most - n) (drop i s) ≡ true → untilZero (drop i s) ≡ [] → some n ≡ runLength f most (drop from s)
+  done e none-left =
+      let all = run .counted in
+      let over : length (untilZero (drop i s)) ≡ 0 = ap length none-left in
+      runLength-some f most (drop from s) (run .rest ∙ e) (omega arith)
+
+  pub running-end : length s ≤ i → some n ≡ runLength f most (drop from s)
+  running-end h =
+      let over : drop i s ≡ [] = drop-of-length-le s h in
+      done (ap (runs f (most - n)) over ∙ runs-nothing f (most - n)) (ap untilZero over)
 
   module _ (inside : i < length s) {t : Bool} (e : t ≡ f (getD s i 0)) where
     here : drop i s ≡ getD s i 0 ∷ drop (suc i) s
     here = drop-cons s i 0 inside
 
     -- the first byte that does not pass is the end, or refused
-    pub running-stop : not t ≡ true → eqb (getD s i 0) 0 ≡ runs f most (drop from s)
-    running-stop n = go (eqb (getD s i 0) 0) refl ∙ sym (run .rest ∙ ap (runs f left) here)
-      where
-        go : (z : Bool) → eqb (getD s i 0) 0 ≡ z → z ≡ runs f left (getD s i 0 ∷ drop (suc i) s)
-        go true z = sym (runs-zero f left (getD s i 0) (drop (suc i) s) (eqb-true (getD s i 0) 0 z))
-        go false z = sym (runs-bad f left (getD s i 0) (drop (suc i) s) (eqb-false (getD s i 0) 0 z) (sym e ∙ not-true t n))
+    pub running-stop : getD s i 0 ≡ 0 → some n ≡ runLength f most (drop from s)
+    running-stop z =
+        done (ap (runs f (most - n)) here ∙ runs-zero f (most - n) (getD s i 0) (drop (suc i) s) z)
+        (ap untilZero here ∙ ap (λ (b : Bool). cond b [] (getD s i 0 ∷ untilZero (drop (suc i) s))) (eq-eqb (getD s i 0) 0 z))
 
-    module _ (n : not t ≡ false) where
+    pub running-bad : not t ≡ true → (getD s i 0 ≡ 0 → ⊥) → none ≡ runLength f most (drop from s)
+    running-bad stops z =
+        runLength-none f most (drop from s)
+        (run .rest
+        ∙ ap (runs f (most - n)) here
+        ∙ runs-bad f (most - n) (getD s i 0) (drop (suc i) s) z (sym e ∙ not-true t stops))
+
+    module _ (passes : not t ≡ false) where
       more : getD s i 0 ≡ 0 → ⊥
-      more z = false≢true (sym (run .zero-ends) ∙ ap f (sym z) ∙ sym e ∙ not-false t n)
+      more z = false≢true (sym (run .zero-ends) ∙ ap f (sym z) ∙ sym e ∙ not-false t passes)
 
-      pub running-full : left ≡ 0 → false ≡ runs f most (drop from s)
+      pub running-full : n ≡ most → none ≡ runLength f most (drop from s)
       running-full l =
-          sym (run .rest ∙ (λ j. runs f (l j) (here j)) ∙ runs-full f (getD s i 0) (drop (suc i) s) more)
+          let full : most - n ≡ 0 = omega arith in
+          runLength-none f most (drop from s)
+          (run .rest ∙ (λ j. runs f (full j) (here j)) ∙ runs-full f (getD s i 0) (drop (suc i) s) more)
 
-      pub running-next : (left ≡ 0 → ⊥) → Running f s from most (i + 1) (left - 1)
-      running-next some =
-          let one : left ≡ suc (left - 1) = omega arith in
+      pub running-next : (n ≡ most → ⊥) → Running f s from most (i + 1) (n + 1)
+      running-next room =
+          let w = run .within in
+          let one : most - n ≡ suc (most - (n + 1)) = omega arith in
           record {
             zero-ends = run .zero-ends;
+            within = omega arith;
             rest =
                 run .rest
                 ∙ (λ j. runs f (one j) (here j))
-                ∙ runs-next f (left - 1) (getD s i 0) (drop (suc i) s) more (sym e ∙ not-false t n)
-                ∙ ap (λ (j : ℕ). runs f (left - 1) (drop j s)) (sym (add-one i));
+                ∙ runs-next f (most - (n + 1)) (getD s i 0) (drop (suc i) s) more (sym e ∙ not-false t passes)
+                ∙ ap (λ (j : ℕ). runs f (most - (n + 1)) (drop j s)) (sym (add-one i));
+            counted = run .counted ∙ ap (λ (k : ℕ). n + k) longer ∙ sum;
           }
+        where
+          longer : length (untilZero (drop i s)) ≡ suc (length (untilZero (drop (i + 1) s)))
+          longer =
+              ap (λ (cs : List ℕ). length (untilZero cs)) here
+              ∙ ap (λ (b : Bool). length (cond b [] (getD s i 0 ∷ untilZero (drop (suc i) s)))) (ne-eqb (getD s i 0) 0 more)
+              ∙ ap (λ (j : ℕ). suc (length (untilZero (drop j s)))) (sym (add-one i))
+
+          sum : n + suc (length (untilZero (drop (i + 1) s))) ≡ (n + 1) + length (untilZero (drop (i + 1) s))
+          sum = omega arith
+
+-- ── answers ──
+
+abbrev speltOf : Option ℕ → Spelt
+speltOf none = Not
+speltOf (some n) = Bytes n
+
+speltOf-speltAsPaper : (x : Spelt) → speltOf (speltAsPaper x) ≡ x
+speltOf-speltAsPaper (Bytes n) = refl
+speltOf-speltAsPaper Not = refl
+
+-- two answers with the same number are one
+pub spelt-one : (x y : Spelt) → speltAsPaper x ≡ speltAsPaper y → x ≡ y
+spelt-one x y e = sym (speltOf-speltAsPaper x) ∙ ap speltOf e ∙ speltOf-speltAsPaper y

@@ -3,6 +3,7 @@
 use Prim.Native.Nat.{ℕ, zero, suc, _/_, _%_, _^_, _<_, _≤_}
 use mathlib.Core.Path.{_≡_, refl, sym, ap, _∙_}
 use mathlib.Core.Bool.{Bool, true, false, not, _&&_, _||_}
+use mathlib.Core.Option.{Option}
 use mathlib.Core.List.{List}
 use native.Mathlib.Nat.{zero-div, not-suc-le-zero}
 use native.Mathlib.Omega.{arith}
@@ -11,7 +12,7 @@ use lib.Dec.{eqb, leb}
 use lib.ListN.{length, List·getD-eq-default}
 use Rattle.paper.proofs.basics.Choices.{and-left, and-right}
 use Rattle.paper.specs.Name.{between, isDigit, isLetter}
-use Rattle.rules.specs.Parts.{among, runs}
+use Rattle.rules.specs.Parts.{among, runLength}
 use Rattle.rules.proofs.Runs.{and-false}
 
 -- the bytes of an identifier, as its definition says them
@@ -84,9 +85,9 @@ among-is set {f} past e c = go (leb 256 c) refl
     go false l =
         same-is (among set c) (f c) (below-at both 256 (and-right (leb (length set) 4) (below both 256) e) c (leb-false 256 c l))
 
-module _ (set : List ℕ) (most : ℕ) (cs : List ℕ) {r : Bool} (d : r ≡ runs (among set) most cs) where
-  pub runs-word : Bits set wordBytes → r ≡ runs wordBytes most cs
-  runs-word e = d ∙ (λ i. runs (λ (c : ℕ). among-is set word-past e c i) most cs)
+module _ (set : List ℕ) (most : ℕ) (cs : List ℕ) {o : Option ℕ} (d : o ≡ runLength (among set) most cs) where
+  pub runLength-word : Bits set wordBytes → o ≡ runLength wordBytes most cs
+  runLength-word e = d ∙ (λ i. runLength (λ (c : ℕ). among-is set word-past e c i) most cs)
 
-  pub runs-print : Bits set (between 33 126) → r ≡ runs (between 33 126) most cs
-  runs-print e = d ∙ (λ i. runs (λ (c : ℕ). among-is set print-past e c i) most cs)
+  pub runLength-print : Bits set (between 33 126) → o ≡ runLength (between 33 126) most cs
+  runLength-print e = d ∙ (λ i. runLength (λ (c : ℕ). among-is set print-past e c i) most cs)

@@ -4,8 +4,14 @@ use paper::NameOff;
 ghost use mathlib.Core.Path.{_≡_};
 ghost use mathlib.Core.Bool.{false};
 ghost use lib.ListN.{drop};
-ghost use Rattle.paper.specs.Name.{isIdentifier, isSectionName, nameIn};
-ghost use Rattle.rules.specs.Parts.{among, runs};
+ghost use Rattle.paper.specs.Name.{identifierLength, isSectionName, nameIn};
+ghost use Rattle.rules.specs.Parts.{among, runLength, speltAsPaper};
+
+// How many bytes a name has, or that it is not what was asked for.
+pub enum Spelt {
+    Bytes(u32),
+    Not,
+}
 
 // Digits are 48 to 57, letters 65 to 90 and 97 to 122, the underscore is 95.
 const WORD: [u64; 4] = [0x03ff_0000_0000_0000, 0x07ff_fffe_87ff_fffe, 0, 0];
@@ -20,37 +26,41 @@ fn is_among(set: &[u64; 4], c: u8) -> bool
     (set[(c / 64) as usize] >> (c % 64)) % 2 == 1
 }
 
-// From a place up to the first zero byte: at most 127 bytes, and each is of a set.
-fn run(s: &[u8], from: usize, set: &[u64; 4]) -> bool
+// From a place up to the first zero byte: how many bytes, if at most 127 and each is of a set.
+fn run(s: &[u8], from: usize, set: &[u64; 4]) -> Spelt
     requires { ⌜ among (now set) 0 ≡ false ⌝ }
-    ensures { λ r. ⌜ r ≡ runs (among (now (set .entry))) 127 (drop from (now (s .entry))) ⌝ }
+    ensures { λ r. ⌜ speltAsPaper r ≡ runLength (among (now (set .entry))) 127 (drop from (now (s .entry))) ⌝ }
 {
     let mut i = from;
-    let mut left: u32 = 127;
+    let mut n: u32 = 0;
     while i < s.len() {
         let c = s[i];
         if !is_among(set, c) {
-            return c == 0;
+            if c != 0 {
+                return Spelt::Not;
+            }
+            return Spelt::Bytes(n);
         }
-        if left == 0 {
-            return false;
+        if n == 127 {
+            return Spelt::Not;
         }
-        left -= 1;
+        n += 1;
         i += 1;
     }
-    true
+    Spelt::Bytes(n)
 }
 
-// The name at an offset is an identifier. A byte of the set from 64 on is no digit, so it may be the first.
-pub fn identifier(strings: &[u8], at: NameOff) -> bool
-    ensures { λ r. ⌜ r ≡ isIdentifier (nameIn (now (strings .entry)) (at .0)) ⌝ }
+// How many bytes the identifier at an offset has, or that the name there is none. A byte of the set from 64 on is no digit, so it
+// may be the first.
+pub fn identifier(strings: &[u8], at: NameOff) -> Spelt
+    ensures { λ r. ⌜ speltAsPaper r ≡ identifierLength (nameIn (now (strings .entry)) (at .0)) ⌝ }
 {
     let from = at.0 as usize;
     if strings.len() <= from {
-        return false;
+        return Spelt::Not;
     }
     if strings[from] < 64 {
-        return false;
+        return Spelt::Not;
     }
     run(strings, from, &WORD)
 }
@@ -66,5 +76,8 @@ pub fn section_name(strings: &[u8], at: NameOff) -> bool
     if strings[from] == 0 {
         return false;
     }
-    run(strings, from, &PRINTED)
+    match run(strings, from, &PRINTED) {
+        Spelt::Bytes(_) => true,
+        Spelt::Not => false,
+    }
 }

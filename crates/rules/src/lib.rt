@@ -6,6 +6,7 @@ mod phase; // the smallest of the three that is due
 mod tails; // report 12
 
 pub use heads::head_ok;
+pub use idents::Spelt;
 pub use idents::identifier;
 pub use idents::section_name;
 pub use names::names_ok;

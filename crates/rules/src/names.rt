@@ -1,4 +1,5 @@
 // Report 11: "a name breaks the list". A record's words are gone over three at a time, each by its role.
+use crate::idents::Spelt;
 use crate::idents::identifier;
 use crate::idents::section_name;
 use paper::NameOff;
@@ -17,12 +18,22 @@ ghost use Prim.Native.Nat.{_<_, _≤_};
 ghost use lib.ListN.{length};
 ghost use Rattle.paper.specs.Choice.{times};
 ghost use Rattle.paper.specs.Kind.{rowOf};
-ghost use Rattle.paper.specs.Name.{nameIn};
+ghost use Rattle.paper.specs.Name.{isIdentifier, nameIn};
 ghost use Rattle.paper.specs.Names.{nameFits, nameWordOk, namesOk};
 ghost use Rattle.paper.specs.Reading.{recordIn, roled, tailRoled};
 ghost use Rattle.paper.specs.Word.{lowFirst, wordAt};
 ghost use Rattle.rows.specs.Codes.{roleOf};
 ghost use Rattle.rules.specs.Parts.{nameRuleOf};
+
+// The name at an offset is an identifier, however long.
+fn is_identifier(strings: &[u8], at: NameOff) -> bool
+    ensures { λ r. ⌜ r ≡ isIdentifier (nameIn (now (strings .entry)) (at .0)) ⌝ }
+{
+    match identifier(strings, at) {
+        Spelt::Bytes(_) => true,
+        Spelt::Not => false,
+    }
+}
 
 // What a name's rule asks of an offset and the name that stands there.
 fn fits(strings: &[u8], rule: u32, at: NameOff) -> bool
@@ -33,8 +44,8 @@ fn fits(strings: &[u8], rule: u32, at: NameOff) -> bool
     match rule {
         1 => from == 0,
         2 => true,
-        3 => from == 0 || identifier(strings, at),
-        4 => identifier(strings, at),
+        3 => from == 0 || is_identifier(strings, at),
+        4 => is_identifier(strings, at),
         5 => strings[from] != 0,
         _ => section_name(strings, at),
     }

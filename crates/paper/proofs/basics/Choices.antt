@@ -36,6 +36,12 @@ pub cond-cong : {A : Type 0} (b : Bool) {x y : A} (z : A) → (b ≡ true → x 
 cond-cong true z h = h refl
 cond-cong false z h = refl
 
+-- an answer that two tests must let through: it is that one, and the second test passes
+pub cond-some : (a b : Bool) {k n : ℕ} → cond (a && b) (some k) none ≡ some n → (n ≡ k) × (b ≡ true)
+cond-some true true e = (cc, refl)
+cond-some true false e = absurd (let z : _≡_ {A = ℕ} 0 1 = cc in omega arith)
+cond-some false b e = absurd (let z : _≡_ {A = ℕ} 0 1 = cc in omega arith)
+
 -- ── one of two tests ──
 
 pub or-left : {a : Bool} (b : Bool) → a ≡ true → a || b ≡ true

@@ -6,7 +6,7 @@ use denote.Ref.{now}
 use Rattle.paper.specs.Name.{isDigit, isLetter}
 use Rattle.rules.specs.Parts.{among}
 use Rattle.rules.proofs.NameTests.{identifier-outside, identifier-bad, identifier-run}
-use Rattle.rules.proofs.Sets.{runs-word}
+use Rattle.rules.proofs.Sets.{runLength-word}
 use borrow.Author.Needs.{needs}
 use Rattle.rules.proofs.idents.identifier.Statement.{statement}
 use Rattle.rules.proofs.idents.identifier.Tie as tie
@@ -32,7 +32,7 @@ returns-3 c =
     let e = c .before .before in
     let d = e .before .before in
     let a = d .before .before .before .args in
-    identifier-run (now (a .strings)) (a .at .0) (d .if1 .left) (omega arith) (runs-word _ _ _ (c .run .ensures) (unfold among isLetter isDigit in refl))
+    identifier-run (now (a .strings)) (a .at .0) (d .if1 .left) (omega arith) (runLength-word _ _ _ (c .run .ensures) (unfold among isLetter isDigit in refl))
 
 pub identifier-spec : {M : Type 1} → statement M
 identifier-spec =

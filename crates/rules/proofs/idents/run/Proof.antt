@@ -1,23 +1,23 @@
--- `rules::idents::run` meets its contract: what is left of the run, from where it stands, is the run.
+-- `rules::idents::run` meets its contract: so many bytes are counted, and what is left from there is the rest of the run.
 -- Assumes nothing.
 use Prim.Native.Nat.{_-_}
 use mathlib.Core.Path.{refl}
 use native.Mathlib.Omega.{arith}
 use lib.ListN.{length}
 use Rattle.rules.specs.Parts.{among}
-use Rattle.rules.proofs.Runs.{Running, running-end, running-stop, running-full, running-next}
+use Rattle.rules.proofs.Runs.{Running, running-start, running-end, running-stop, running-bad, running-full, running-next}
 use borrow.Author.Needs.{needs}
 use Rattle.rules.proofs.idents.run.Statement.{statement}
 use Rattle.rules.proofs.idents.run.Tie as tie
 
 abbrev Inv-loop : tie.InvT-loop
-Inv-loop s from set i₀ left₀ i left = Running (among set) s from 127 i left
+Inv-loop s from set i₀ n₀ i n = Running (among set) s from 127 i n
 
 abbrev μ-loop : tie.MeasureT-loop
-μ-loop s from set i₀ left₀ i left = length s - i
+μ-loop s from set i₀ n₀ i n = length s - i
 
 loop-holds : tie.Need-loop-holds Inv-loop μ-loop
-loop-holds c = record { zero-ends = search needs; rest = refl }
+loop-holds c = running-start (search needs) refl
 
 shared-slice-read-c : tie.Need-shared-slice-read-c Inv-loop μ-loop
 shared-slice-read-c c = omega arith
@@ -27,18 +27,24 @@ is-among-requires c κs = search needs
 
 returns : tie.Need-returns Inv-loop μ-loop
 returns c =
-    let a = c .before in
+    let a = c .before .before in
     let k = a .before .before in
-    running-stop (k .before .loop .inv) (k .loop-test .taken) (a .is-among .ensures) (c .if1 .taken)
+    running-bad (k .before .loop .inv) (k .loop-test .taken) (a .is-among .ensures) (c .before .if1 .taken) (c .if2 .taken)
 
 returns-2 : tie.Need-returns-2 Inv-loop μ-loop
 returns-2 c =
     let a = c .before .before in
     let k = a .before .before in
-    running-full (k .before .loop .inv) (k .loop-test .taken) (a .is-among .ensures) (c .before .if1 .left) (c .if2 .taken)
+    running-stop (k .before .loop .inv) (k .loop-test .taken) (a .is-among .ensures) (omega arith)
 
-sub-left : tie.Need-sub-left Inv-loop μ-loop
-sub-left c = omega arith
+returns-3 : tie.Need-returns-3 Inv-loop μ-loop
+returns-3 c =
+    let a = c .before .before in
+    let k = a .before .before in
+    running-full (k .before .loop .inv) (k .loop-test .taken) (a .is-among .ensures) (c .before .if1 .left) (c .if3 .taken)
+
+add-n : tie.Need-add-n Inv-loop μ-loop
+add-n c = omega (arith, c .before .before .before .before .before .loop .inv .within)
 
 add-i : tie.Need-add-i Inv-loop μ-loop
 add-i c = omega arith
@@ -50,10 +56,10 @@ loop-again : tie.Need-loop-again Inv-loop μ-loop
 loop-again c =
     let a = c .before .before in
     let k = a .before .before in
-    running-next (k .before .loop .inv) (k .loop-test .taken) (a .is-among .ensures) (c .before .if1 .left) (c .if2 .left)
+    running-next (k .before .loop .inv) (k .loop-test .taken) (a .is-among .ensures) (c .before .if1 .left) (c .if3 .left)
 
-returns-3 : tie.Need-returns-3 Inv-loop μ-loop
-returns-3 c = running-end (c .before .loop .inv) (c .loop-test .left)
+returns-4 : tie.Need-returns-4 Inv-loop μ-loop
+returns-4 c = running-end (c .before .loop .inv) (c .loop-test .left)
 
 pub run-spec : {M : Type 1} → statement M
 run-spec =
@@ -66,8 +72,9 @@ run-spec =
     is-among-requires
     returns
     returns-2
-    sub-left
+    returns-3
+    add-n
     add-i
     loop-less
     loop-again
-    returns-3)
+    returns-4)

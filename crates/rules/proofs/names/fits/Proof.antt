@@ -15,11 +15,11 @@ use Rattle.rules.proofs.names.fits.Tie as tie
 cast-from : tie.Need-cast-from
 cast-from c = search needs
 
-identifier-requires : tie.Need-identifier-requires
-identifier-requires c κs = search needs
+is-identifier-requires : tie.Need-is-identifier-requires
+is-identifier-requires c κs = search needs
 
-identifier-requires-2 : tie.Need-identifier-requires-2
-identifier-requires-2 c κs = search needs
+is-identifier-requires-2 : tie.Need-is-identifier-requires-2
+is-identifier-requires-2 c κs = search needs
 
 shared-slice-read-result : tie.Need-shared-slice-read-result
 shared-slice-read-result c = search needs
@@ -43,10 +43,10 @@ returns-4 : tie.Need-returns-4
 returns-4 c =
     let m = c .before .before in
     let a = m .before .before .before .args in
-    rw (m .match .keys3, ne-eqb (a .at .0) 0 (c .before .if1 .left)) (c .identifier .ensures)
+    rw (m .match .keys3, ne-eqb (a .at .0) 0 (c .before .if1 .left)) (c .is-identifier .ensures)
 
 returns-5 : tie.Need-returns-5
-returns-5 c = rw (c .before .match .keys4) (c .identifier2 .ensures)
+returns-5 c = rw (c .before .match .keys4) (c .is-identifier2 .ensures)
 
 returns-6 : tie.Need-returns-6
 returns-6 c =
@@ -68,8 +68,8 @@ fits-spec =
     tie.close
     (tie.spec
     cast-from
-    identifier-requires
-    identifier-requires-2
+    is-identifier-requires
+    is-identifier-requires-2
     shared-slice-read-result
     section-name-requires
     returns
