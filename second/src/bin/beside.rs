@@ -87,6 +87,7 @@ impl Run {
             edges: fixed,
             thin: false,
             large: fixed,
+            names: false,
         }
     }
 
