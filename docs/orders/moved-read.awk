@@ -45,7 +45,7 @@ function endFile() {
     if (waiting != "") addClause("", "")
     if (folder == "proofs" && proof != "") { text[side, "F|" file "|"] = proof; isKey["F|" file "|"] }
     depth = base[0] = inHead = owners = 0
-    head[0] = proof = waiting = impl = signature = ""
+    head[0] = proof = waiting = impl = signature = type = ""
 }
 
 function endChunk(    words) {
@@ -141,6 +141,8 @@ FILENAME ~ /\.rt$/ {
     if (/^ghost use /) readUse(plain($0))
     if (module == "lib" && /^pub use /) handOn(plain($0))
     if (module == "lib" && /^pub mod /) { sub(/;.*/, ""); isOpen[side, crate, $3] }
+    if (type == "" && match($0, /^(pub(\([a-z]+\))? )?(enum|struct) [A-Za-z0-9_]+/)) { type = substr($0, 1, RLENGTH); sub(/.* /, "", type) }
+    if (type != "") readType()
     if (/^impl/) { impl = $0; sub(/ *\{.*/, "", impl); sub(/.* /, "", impl); sub(/<.*/, "", impl) }
     if (/^}/) impl = ""
     if (signature == "" && !/^ *pub ([a-z]+ |"C" )*fn /) next
@@ -148,6 +150,17 @@ FILENAME ~ /\.rt$/ {
     if (beforeBody(signature) == "") next
     promise[++promises] = plain(beforeBody(signature)); signature = ""
     promised[promises] = side SUBSEP crate SUBSEP module SUBSEP impl SUBSEP file
+}
+
+# a struct or an enum, which specs/ files name by declared.Type, or declared.module.Type, and its cases by the-variants below that
+function readType(    key, by) {
+    by = crate "/specs/declared/" (module == "lib" ? "" : module "/") type
+    gsub(/::/, "/", by)
+    key = "D|" crate "/src/" module "|" type
+    add(key, plain($0))
+    at[side, by, type] = at[side, file, type] = key
+    if (match($0, /^    [A-Z][A-Za-z0-9_]*/)) at[side, by "/the-variants", substr($0, 5, RLENGTH - 4)] = key
+    if (/^}/ || /[;}]$/) type = ""
 }
 
 # pub use m::f; pub use m::{f, g};
