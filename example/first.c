@@ -46,7 +46,8 @@ static int check(struct table *t)
 	scrieve_check(t->blob, t->length, t->index, SCRIEVE_FULL_PLACES, work, SCRIEVE_FULL_PLACES, answer, SCRIEVE_ANSWER_PLACES);
 	t->count = answer[SCRIEVE_T];
 	if (answer[SCRIEVE_NUMBER] != 0) {
-		printf("%s: refused, report %u at type %u\n", t->title, (unsigned)answer[SCRIEVE_NUMBER], (unsigned)answer[SCRIEVE_T]);
+		printf("%s: refused, report %u at type %u, byte %u\n", t->title, (unsigned)answer[SCRIEVE_NUMBER],
+		       (unsigned)answer[SCRIEVE_T], (unsigned)answer[SCRIEVE_P]);
 		return 0;
 	}
 	printf("%s: accepted, %u types in %u bytes\n", t->title, (unsigned)t->count, (unsigned)t->length);

@@ -23,13 +23,17 @@
  * told; places past the fourth stay as they were.
  *
  *   function       number                                inner               t                             p
- *   scrieve_check  0 accepted, or a report 1 to 15       0                   count of types, or the        0
+ *   scrieve_check  0 accepted, or a report 1 to 15       0                   count of types, or the        the report's place, else 0
  *                                                                            report's type
  *   scrieve_size   0 exact, 1 no size, 2 over 32 bits,   0                   0                             the exact size, else 0
  *                  21, 22
  *   scrieve_name   0 a name, 1 none                      0                   where it begins in the blob   its length in bytes
- *   scrieve_join   0 joined, or 16 to 20                 for 16 and 17 the   the type of the report        the joined length, else 0
- *                                                        report inside       inside, else 0
+ *   scrieve_join   0 joined, or 16 to 20                 for 16 and 17 the   the type of the report        the joined length, or the place
+ *                                                        report inside       inside, else 0                of the report inside, else 0
+ *
+ * A report's place is where in the blob the record of its type begins, in bytes from the blob's first: for 8, where record 4,097 would
+ * begin; for 1 to 5 and 9, which name no type, 0. It is a multiple of 4 and below the blob's length. That of a report inside a join's
+ * refusal counts in the blob that was refused.
  *
  * The reports
  *    1 under 24 bytes or over 65,536                     12 a word after the head breaks a rule

@@ -5,6 +5,17 @@ use crate::census::in_words;
 use crate::vectors::{numbers_of, places, run, Case};
 use std::collections::BTreeMap;
 
+/// What the seven numbers of an answer are, as the file's form names them.
+const NUMBERS: [&str; 7] = [
+    "number",
+    "inner",
+    "t",
+    "p",
+    "index sum",
+    "work sum",
+    "output sum",
+];
+
 /// A line for each op with its answer then and now, then one for all; or the
 /// number of the case at which the file ends too early.
 pub fn changed(file: &[u8]) -> Result<String, usize> {
@@ -18,7 +29,7 @@ pub fn changed(file: &[u8]) -> Result<String, usize> {
         if then != now {
             let pair = (
                 in_words(case.op, then[0], then[1]),
-                in_words(case.op, now[0], now[1]),
+                answer_now(case.op, &then, &now),
             );
             *counts.entry(pair).or_default() += 1;
         }
@@ -29,6 +40,17 @@ pub fn changed(file: &[u8]) -> Result<String, usize> {
     }
     let all: usize = counts.values().sum();
     Ok(text + &format!("{all} of {count} answers changed\n"))
+}
+
+/// An answer that reads as before is told with the numbers that differ.
+fn answer_now(op: u32, then: &[u32], now: &[u32]) -> String {
+    let words = in_words(op, now[0], now[1]);
+    if then[..2] != now[..2] {
+        return words;
+    }
+    let differ = (0..NUMBERS.len()).filter(|at| then[*at] != now[*at]);
+    let names: Vec<&str> = differ.map(|at| NUMBERS[at]).collect();
+    format!("{words}, another {}", names.join(", "))
 }
 
 /// A case and its seven numbers, taken off the front of a file.

@@ -29,12 +29,12 @@ pub fn judge(blob: &[u8], index_places: usize, work_places: usize) -> Result<Tab
     let sections = phase_1(blob)?;
     let table = phase_2(blob, sections)?;
     if report_9(&table, index_places, work_places) {
-        return Err(Report::new(9, 0));
+        return Err(Report::bare(9));
     }
     phase_3(&table)?;
     smallest_type(&table, 13, report_13)?;
     if let Some(type_number) = report_14(&table) {
-        return Err(Report::new(14, type_number));
+        return Err(naming(&table, 14, type_number));
     }
     smallest_type(&table, 15, report_15)?;
     Ok(table)
@@ -44,13 +44,13 @@ pub fn judge(blob: &[u8], index_places: usize, work_places: usize) -> Result<Tab
 fn phase_3(table: &Table) -> Result<(), Report> {
     for (record, type_number) in table.records.iter().zip(1..) {
         if report_10(record) {
-            return Err(Report::new(10, type_number));
+            return Err(naming(table, 10, type_number));
         }
         if report_11(table, record) {
-            return Err(Report::new(11, type_number));
+            return Err(naming(table, 11, type_number));
         }
         if report_12(record) {
-            return Err(Report::new(12, type_number));
+            return Err(naming(table, 12, type_number));
         }
     }
     Ok(())
@@ -66,7 +66,13 @@ fn smallest_type(
         .iter()
         .position(|record| broken(table, record))
     {
-        Some(before) => Err(Report::new(number, before as u32 + 1)),
+        Some(before) => Err(naming(table, number, before as u32 + 1)),
         None => Ok(()),
     }
+}
+
+/// A report on a type of the table, which stands at its record's place.
+fn naming(table: &Table, number: u32, type_number: u32) -> Report {
+    let place = table.records[type_number as usize - 1].place;
+    Report::new(number, type_number, place as u32)
 }

@@ -22,7 +22,7 @@ pub fn phase_1(blob: &[u8]) -> Result<Sections, Report> {
     let tests = [report_1, report_2, report_3, report_4, report_5];
     for (before, broken) in tests.iter().enumerate() {
         if broken(blob) {
-            return Err(Report::new(before as u32 + 1, 0));
+            return Err(Report::bare(before as u32 + 1));
         }
     }
     Ok(Sections {

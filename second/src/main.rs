@@ -148,7 +148,7 @@ fn judge_file(path: &str) -> Result<Vec<u8>, String> {
             let what = meaning(report.number);
             let at = match report.type_number {
                 0 => String::new(),
-                number => format!(", at type {number}"),
+                number => format!(", at type {number}, byte {}", report.place),
             };
             format!("refused, report {}: {what}{at}\n", report.number)
         }

@@ -1,18 +1,26 @@
 //! The gate's reports 1 to 15 and what each of them means.
 
-/// A report: its number in paper 01's table and the type it names.
+/// A report: its number in paper 01's table, the type it names, and the byte
+/// place of that type's record in the blob that was checked.
 #[derive(Clone, Copy, PartialEq, Eq, Debug)]
 pub struct Report {
     pub number: u32,
     pub type_number: u32,
+    pub place: u32,
 }
 
 impl Report {
-    pub fn new(number: u32, type_number: u32) -> Report {
+    pub fn new(number: u32, type_number: u32, place: u32) -> Report {
         Report {
             number,
             type_number,
+            place,
         }
+    }
+
+    /// Reports 1 to 5 and 9 name no type, so they have no place either.
+    pub fn bare(number: u32) -> Report {
+        Report::new(number, 0, 0)
     }
 }
 

@@ -61,6 +61,7 @@ fn run_check(case: &Case) -> Seen {
         Err(report) => {
             seen.number = report.number;
             seen.t = report.type_number;
+            seen.p = report.place;
         }
     }
     seen
@@ -104,6 +105,7 @@ fn run_join(case: &Case) -> Seen {
             if let Some(report) = refusal.inner() {
                 seen.inner = report.number;
                 seen.t = report.type_number;
+                seen.p = report.place;
             }
         }
     }

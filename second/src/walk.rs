@@ -11,9 +11,10 @@ pub fn phase_2(blob: &[u8], sections: Sections) -> Result<Table, Report> {
     let mut place = HEADER_BYTES;
     let mut records = Vec::new();
     while place < end {
-        // Report 8 comes before anything is read of the bytes that remain.
+        // Report 8 comes before anything is read of the bytes that remain. Its
+        // place is where the record too many would begin.
         if report_8(&records) {
-            return Err(Report::new(8, 4_097));
+            return Err(Report::new(8, 4_097, place as u32));
         }
         let record = read_record(blob, place, end, records.len() as u32 + 1)?;
         place += HEAD_BYTES + 4 * record.tail.len();
@@ -31,17 +32,18 @@ fn report_8(records: &[Record]) -> bool {
 /// Reads the record at a place: 6 for a head or tail that doesn't fit, 7 for
 /// an unknown kind, which has no tail.
 fn read_record(blob: &[u8], place: usize, end: usize, number: u32) -> Result<Record, Report> {
+    let refused = |report| Err(Report::new(report, number, place as u32));
     if place + HEAD_BYTES > end {
-        return Err(Report::new(6, number));
+        return refused(6);
     }
     let info = word(blob, place + 4);
     let Some(kind) = Kind::from_number(kind_number_of(info)) else {
-        return Err(Report::new(7, number));
+        return refused(7);
     };
     let tail_words = kind.tail_words(vlen_of(info));
     let tail_at = place + HEAD_BYTES;
     if tail_at + 4 * tail_words > end {
-        return Err(Report::new(6, number));
+        return refused(6);
     }
     Ok(Record {
         place,

@@ -1,7 +1,7 @@
 //! A vector file of yesterday, read by the rules of today.
 
 use second::changed::changed;
-use second::generate::edges;
+use second::generate::{edges, edges_joins};
 use second::vectors::file;
 
 #[test]
@@ -21,6 +21,22 @@ fn a_changed_answer_is_told() {
     let text = changed(&old).unwrap();
     assert!(text.contains("op 1 check: 11 report -> op 1 check: "));
     assert!(text.ends_with("1 of 1 answers changed\n"));
+}
+
+/// The answer stays, but for its byte place, the fourth of the numbers.
+#[test]
+fn a_changed_place_is_told() {
+    let bad = edges_joins::refused(10);
+    let joined = edges_joins::call(&edges_joins::refused(0), &bad, 4, 0);
+    let mut old = file(&[joined]);
+    let at = old.len() - 28 + 12;
+    assert_eq!(old[at], 64);
+    old[at] = 0;
+    let line = "op 4 join: 17 report with 10 inside";
+    assert_eq!(
+        changed(&old).unwrap(),
+        format!("     1  {line} -> {line}, another p\n1 of 1 answers changed\n")
+    );
 }
 
 #[test]

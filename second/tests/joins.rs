@@ -72,8 +72,8 @@ fn first_ground_speaks() {
 #[test]
 fn every_report_inside_16_and_17() {
     for report in SMALL_REPORTS {
-        let names = if report < 6 { 0 } else { 3 };
-        assert_eq!(gate(&table_with(report)), refused(report, names));
+        let (names, place) = if report < 6 { (0, 0) } else { (3, 64) };
+        assert_eq!(gate(&table_with(report)), refused(report, names, place));
     }
     assert_eq!(gate(&table_with(0)), Ok(3));
     let all: Vec<(u32, u32)> = small()

@@ -12,14 +12,14 @@ use second::SizeAnswer;
 #[test]
 fn type_limit() {
     assert_eq!(judged(&pointers(4_096)), Ok(4_096));
-    assert_eq!(judged(&pointers(4_097)), refused(8, 4_097));
+    assert_eq!(judged(&pointers(4_097)), refused(8, 4_097, 49_176));
 }
 
 #[test]
 fn byte_limit() {
     assert_eq!(of_bytes(65_536).len(), 65_536);
     assert_eq!(gate(&of_bytes(65_536)), Ok(1));
-    assert_eq!(gate(&of_bytes(65_537)), refused(1, 0));
+    assert_eq!(gate(&of_bytes(65_537)), refused(1, 0, 0));
     assert_eq!(full().len(), 65_536);
     assert_eq!(gate(&full()), Ok(4_094));
 }
@@ -43,20 +43,20 @@ fn nest_of_structs() {
 /// type 2 is the smallest that does.
 #[test]
 fn ring_behind_a_chain() {
-    assert_eq!(judged(&ring_behind(4_000)), refused(14, 2));
+    assert_eq!(judged(&ring_behind(4_000)), refused(14, 2, 36));
     assert_eq!(ring_behind(4_000).count(), 4_002);
 }
 
 #[test]
 fn ring_in_a_nest() {
-    assert_eq!(judged(&ring_in_nest(1_400)), refused(14, 1));
+    assert_eq!(judged(&ring_in_nest(1_400)), refused(14, 1, 24));
 }
 
 /// The last entry ends at byte 20,000.
 #[test]
 fn section_of_many_entries() {
     assert_eq!(judged(&entries(5_000, 20_000)), Ok(3));
-    assert_eq!(judged(&entries(5_000, 19_999)), refused(15, 3));
+    assert_eq!(judged(&entries(5_000, 19_999)), refused(15, 3, 56));
     assert_eq!(judged(&entries(5_000, 0)), Ok(3));
 }
 
@@ -65,14 +65,20 @@ fn section_of_many_entries() {
 #[test]
 fn prototype_of_many_parameters() {
     assert_eq!(judged(&parameters(8_000, 8_000, 7_999)), Ok(4));
-    assert_eq!(judged(&parameters(8_000, 7_999, 7_999)), refused(15, 3));
-    assert_eq!(judged(&parameters(8_000, 1, 7_999)), refused(15, 3));
-    assert_eq!(judged(&parameters(8_000, 8_000, 8_000)), refused(15, 4));
+    assert_eq!(
+        judged(&parameters(8_000, 7_999, 7_999)),
+        refused(15, 3, 64_052)
+    );
+    assert_eq!(judged(&parameters(8_000, 1, 7_999)), refused(15, 3, 64_052));
+    assert_eq!(
+        judged(&parameters(8_000, 8_000, 8_000)),
+        refused(15, 4, 64_064)
+    );
 }
 
 #[test]
 fn benches_that_no_proof_computes() {
-    assert_eq!(judged(&held_by_constant()), refused(14, 1));
+    assert_eq!(judged(&held_by_constant()), refused(14, 1, 24));
     assert_eq!(judged(&arrays_of_arrays()), Ok(3));
     assert_eq!(size_in(&arrays_of_arrays(), 2), SizeAnswer::Exact(24));
     assert_eq!(size_in(&arrays_of_arrays(), 3), SizeAnswer::Exact(120));

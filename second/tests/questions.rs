@@ -170,24 +170,21 @@ fn grounds_of_refusal() {
     };
     assert_eq!(
         call(&bad, &e, 5, 0),
-        Err(JoinRefusal::First(Report::new(10, 1)))
+        Err(JoinRefusal::First(Report::new(10, 1, 24)))
     );
     assert_eq!(
         call(&e, &bad, 5, 0),
-        Err(JoinRefusal::Second(Report::new(10, 1)))
+        Err(JoinRefusal::Second(Report::new(10, 1, 24)))
     );
     assert_eq!(
         call(&bad, &bad[..3], 5, 0),
-        Err(JoinRefusal::First(Report::new(10, 1)))
+        Err(JoinRefusal::First(Report::new(10, 1, 24)))
     );
     assert_eq!(
         call(&e, &bad, 1, 0),
-        Err(JoinRefusal::Second(Report::new(9, 0)))
+        Err(JoinRefusal::Second(Report::bare(9)))
     );
-    assert_eq!(
-        call(&e, &e, 0, 0),
-        Err(JoinRefusal::First(Report::new(9, 0)))
-    );
+    assert_eq!(call(&e, &e, 0, 0), Err(JoinRefusal::First(Report::bare(9))));
     assert_eq!(call(&e, &e, 1, 24), Err(JoinRefusal::OutputTooShort));
     assert_eq!(call(&e, &e, 1, 25), Ok(25));
 }

@@ -3,16 +3,16 @@
 mod common;
 
 use common::*;
+use second::check;
 use second::make::{info, int_word, Make};
 use second::table::Kind;
-use second::{check, Report};
 
 #[test]
 fn empty_table_needs_one_place() {
     let blob = Make::new().blob();
-    assert_eq!(check(&blob, &mut [], &mut [9]), refused(9, 0));
+    assert_eq!(check(&blob, &mut [], &mut [9]), refused(9, 0, 0));
     let mut index = [9, 9];
-    assert_eq!(check(&blob, &mut index, &mut []), refused(9, 0));
+    assert_eq!(check(&blob, &mut index, &mut []), refused(9, 0, 0));
     assert_eq!(index, [0, 0]);
     assert_eq!(check(&blob, &mut [9], &mut [9]), Ok(0));
 }
@@ -24,11 +24,11 @@ fn too_few_places_leave_zeros() {
     m.ptr(1);
     let mut index = [9; 2];
     let mut work = [9; 5];
-    assert_eq!(check(&m.blob(), &mut index, &mut work), refused(9, 0));
+    assert_eq!(check(&m.blob(), &mut index, &mut work), refused(9, 0, 0));
     assert_eq!((index, work), ([0; 2], [0; 5]));
     // 9 belongs to phase 2, so it speaks before a bad head.
     m.at(1).third = 3;
-    assert_eq!(check(&m.blob(), &mut index, &mut work), refused(9, 0));
+    assert_eq!(check(&m.blob(), &mut index, &mut work), refused(9, 0, 0));
 }
 
 #[test]
@@ -37,25 +37,25 @@ fn tails_go_by_kind_and_vlen_as_read() {
     let mut m = Make::new();
     m.raw(0, info(Kind::Ptr, false, 3), 0, &[]);
     m.int(4);
-    assert_eq!(judged(&m), refused(10, 1));
+    assert_eq!(judged(&m), refused(10, 1, 24));
     // Spare bits do not shorten an enum's tail.
     let mut m = Make::new();
     m.raw(0, info(Kind::Enum, false, 1) | 1 << 16, 4, &[]);
-    assert_eq!(judged(&m), refused(6, 1));
+    assert_eq!(judged(&m), refused(6, 1, 24));
     // An unknown kind has no tail to miss.
     let mut m = Make::new();
     m.raw(0, (20 << 24) | 0xFFFF, 0, &[]);
-    assert_eq!(judged(&m), refused(7, 1));
+    assert_eq!(judged(&m), refused(7, 1, 24));
 }
 
 #[test]
 fn offset_to_an_empty_string() {
     for (kind, wanted) in [
-        (Kind::Ptr, refused(11, 1)),
-        (Kind::Struct, refused(11, 1)),
-        (Kind::Typedef, refused(11, 1)),
-        (Kind::TypeTag, refused(11, 1)),
-        (Kind::Datasec, refused(11, 1)),
+        (Kind::Ptr, refused(11, 1, 24)),
+        (Kind::Struct, refused(11, 1, 24)),
+        (Kind::Typedef, refused(11, 1, 24)),
+        (Kind::TypeTag, refused(11, 1, 24)),
+        (Kind::Datasec, refused(11, 1, 24)),
         (Kind::Float, Ok(1)),
     ] {
         let mut m = Make::new();
@@ -86,11 +86,11 @@ fn parameters_of_type_0() {
     };
     assert_eq!(with(&[[1, 2], [0, 0]]), Ok(2));
     assert_eq!(with(&[[0, 0]]), Ok(2));
-    assert_eq!(with(&[[3, 0]]), refused(11, 1));
-    assert_eq!(with(&[[2, 0]]), refused(11, 1));
-    assert_eq!(with(&[[1, 0]]), refused(12, 1));
-    assert_eq!(with(&[[0, 0], [1, 2]]), refused(12, 1));
-    assert_eq!(with(&[[0, 0], [0, 0]]), refused(12, 1));
+    assert_eq!(with(&[[3, 0]]), refused(11, 1, 24));
+    assert_eq!(with(&[[2, 0]]), refused(11, 1, 24));
+    assert_eq!(with(&[[1, 0]]), refused(12, 1, 24));
+    assert_eq!(with(&[[0, 0], [1, 2]]), refused(12, 1, 24));
+    assert_eq!(with(&[[0, 0], [0, 0]]), refused(12, 1, 24));
 }
 
 #[test]
@@ -98,11 +98,11 @@ fn void_where_it_may_not_be() {
     let mut m = Make::new();
     let name = m.string("v");
     m.var(name, 0);
-    assert_eq!(judged(&m), refused(13, 1));
+    assert_eq!(judged(&m), refused(13, 1, 24));
     let mut m = Make::new();
     m.int(4);
     m.array(0, 1, 1);
-    assert_eq!(judged(&m), refused(13, 2));
+    assert_eq!(judged(&m), refused(13, 2, 40));
 }
 
 #[test]
@@ -111,10 +111,10 @@ fn member_name_comes_before_the_next_head() {
     let empty = m.string("");
     m.structure(4, false, &[[empty, 2, 0]]);
     m.int(3);
-    assert_eq!(judged(&m), refused(11, 1));
+    assert_eq!(judged(&m), refused(11, 1, 24));
     // At one type the smaller number speaks.
     m.at(1).info |= 1 << 16;
-    assert_eq!(judged(&m), refused(10, 1));
+    assert_eq!(judged(&m), refused(10, 1, 24));
 }
 
 #[test]
@@ -129,19 +129,19 @@ fn a_member_may_have_no_name() {
         };
         assert_eq!(with(0, 1, 4), Ok(2));
         // Another offset to an empty string, and one past the strings.
-        assert_eq!(with(1, 1, 4), refused(11, 2));
-        assert_eq!(with(2, 1, 4), refused(11, 2));
+        assert_eq!(with(1, 1, 4), refused(11, 2, 40));
+        assert_eq!(with(2, 1, 4), refused(11, 2, 40));
         // The later phases are as for any member.
-        assert_eq!(with(0, 0, 4), refused(13, 2));
-        assert_eq!(with(0, 3, 4), refused(13, 2));
-        assert_eq!(with(0, 2, 4), refused(14, 2));
-        assert_eq!(with(0, 1, 3), refused(15, 2));
+        assert_eq!(with(0, 0, 4), refused(13, 2, 40));
+        assert_eq!(with(0, 3, 4), refused(13, 2, 40));
+        assert_eq!(with(0, 2, 4), refused(14, 2, 40));
+        assert_eq!(with(0, 1, 3), refused(15, 2, 40));
     }
     // An enum's value keeps the strict rule.
     for (kind, entry) in [(Kind::Enum, vec![0, 0]), (Kind::Enum64, vec![0, 0, 0])] {
         let mut m = Make::new();
         m.raw(0, info(kind, false, 1), 4, &entry);
-        assert_eq!(judged(&m), refused(11, 1));
+        assert_eq!(judged(&m), refused(11, 1, 24));
     }
 }
 
@@ -152,13 +152,21 @@ fn functions_are_static_or_global_and_variables_may_be_outside() {
         let name = m.string("f");
         m.proto(0, &[]);
         m.raw(name, info(Kind::Func, false, linkage), 1, &[]);
-        let wanted = if linkage < 2 { Ok(2) } else { refused(10, 2) };
+        let wanted = if linkage < 2 {
+            Ok(2)
+        } else {
+            refused(10, 2, 36)
+        };
         assert_eq!(judged(&m), wanted, "FUNC {linkage}");
         let mut m = Make::new();
         let name = m.string("v");
         m.int(4);
         m.bare(Kind::Var, name, 1, &[linkage]);
-        let wanted = if linkage < 3 { Ok(2) } else { refused(12, 2) };
+        let wanted = if linkage < 3 {
+            Ok(2)
+        } else {
+            refused(12, 2, 40)
+        };
         assert_eq!(judged(&m), wanted, "VAR {linkage}");
     }
 }
@@ -167,7 +175,7 @@ fn functions_are_static_or_global_and_variables_may_be_outside() {
 fn int_tail_is_judged_after_the_head() {
     let mut m = Make::new();
     m.bare(Kind::Int, 0, 3, &[int_word(0, 200, 200)]);
-    assert_eq!(judged(&m), refused(10, 1));
+    assert_eq!(judged(&m), refused(10, 1, 24));
     for (encoding, fine) in [
         (0, true),
         (1, true),
@@ -210,17 +218,17 @@ fn report_names_in_order() {
     let mut m = Make::new();
     m.bare(Kind::Int, 0, 4, &[int_word(0, 0, 33)]);
     m.int(3);
-    assert_eq!(judged(&m), refused(12, 1));
+    assert_eq!(judged(&m), refused(12, 1, 24));
     // An earlier phase speaks for a larger type.
     let mut m = Make::new();
     m.ptr(9);
     m.int(3);
-    assert_eq!(judged(&m), Err(Report::new(10, 2)));
+    assert_eq!(judged(&m), refused(10, 2, 36));
 }
 
 #[test]
 fn names_of_127_and_128() {
-    for (length, wanted) in [(127, Ok(1)), (128, refused(11, 1))] {
+    for (length, wanted) in [(127, Ok(1)), (128, refused(11, 1, 24))] {
         for (kind, byte) in [(Kind::Fwd, b'a'), (Kind::Datasec, b'!')] {
             let mut m = Make::new();
             let name = m.string(vec![byte; length]);

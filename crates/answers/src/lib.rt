@@ -1,13 +1,15 @@
 // Every answer in the paper's four numbers, for what hands them out: the test vectors and the C interface.
 use paper::Checked;
 use paper::Joined;
+use paper::Place;
 use paper::Report;
 use paper::Sized;
+use paper::TypeNo;
 ghost use mathlib.Core.Path.{_≡_};
-ghost use Rattle.paper.specs.Answer.{checkedAsPaper, inside, joinedAsPaper, report, reportAsPaper, sizedAsPaper, value};
+ghost use Rattle.paper.specs.Answer.{checkedAsPaper, inside, joinedAsPaper, report, reportAsPaper, reportAt, sizedAsPaper, value};
 ghost use Rattle.answers.specs.Numbers.{asPaper};
 
-// The number, the number of the report inside a join's refusal, the type or the count, the size or the length.
+// The number, the number of the report inside a join's refusal, the type or the count, the size, the length or the place.
 pub struct Numbers {
     pub number: u32,
     pub inner: u32,
@@ -24,6 +26,18 @@ fn told(number: u32, t: u32) -> Numbers
         inner: 0,
         t,
         p: 0,
+    }
+}
+
+// A number, the type that it names, and where that type's record stands.
+fn placed(number: u32, t: TypeNo, at: Place) -> Numbers
+    ensures { λ n. ⌜ asPaper n ≡ reportAt number (t .0) (at .0) ⌝ }
+{
+    Numbers {
+        number,
+        inner: 0,
+        t: t.0,
+        p: at.0,
     }
 }
 
@@ -61,16 +75,16 @@ pub fn of_report(r: Report) -> Numbers
         Report::HeaderLength => told(3, 0),
         Report::Sections => told(4, 0),
         Report::Strings => told(5, 0),
-        Report::RecordCut(t) => told(6, t.0),
-        Report::UnknownKind(t) => told(7, t.0),
-        Report::ManyTypes => told(8, 4097),
+        Report::RecordCut(t, at) => placed(6, t, at),
+        Report::UnknownKind(t, at) => placed(7, t, at),
+        Report::ManyTypes(at) => placed(8, TypeNo(4097), at),
         Report::SlicesShort => told(9, 0),
-        Report::Head(t) => told(10, t.0),
-        Report::Named(t) => told(11, t.0),
-        Report::Tail(t) => told(12, t.0),
-        Report::Reference(t) => told(13, t.0),
-        Report::Endless(t) => told(14, t.0),
-        Report::Layout(t) => told(15, t.0),
+        Report::Head(t, at) => placed(10, t, at),
+        Report::Named(t, at) => placed(11, t, at),
+        Report::Tail(t, at) => placed(12, t, at),
+        Report::Reference(t, at) => placed(13, t, at),
+        Report::Endless(t, at) => placed(14, t, at),
+        Report::Layout(t, at) => placed(15, t, at),
     }
 }
 

@@ -20,14 +20,14 @@ use Rattle.gate.specs.declared.phases.Said.{Said}
 use Rattle.gate.specs.declared.phases.Said.the-variants.{Nothing, Says}
 use Rattle.paper.proofs.gates.Gates.{overTypes-silent}
 use Rattle.paper.proofs.Outcomes.{gate-refused, gate-accepted, length-indexOf, getD-indexOf}
-use Rattle.paper.specs.Answer.{Answer, report, reportAsPaper, checkedAsPaper}
+use Rattle.paper.specs.Answer.{Answer, report, reportAt, reportAsPaper, checkedAsPaper}
 use Rattle.paper.specs.Chain.{endless}
 use Rattle.paper.specs.Choice.{orElse}
 use Rattle.paper.specs.Fit.{Bytes}
 use Rattle.paper.specs.Gate.{phase1, phase2, shortSlices, phase3, phase4, phase5, phase6, overTypes, tableReport, refusal, zeros, indexOf, Outcome, outcome, gate}
 use Rattle.paper.specs.References.{refsOk, refBad}
 use Rattle.paper.specs.Table.{Table, count, recordAt}
-use Rattle.paper.specs.Walk.{tableOf, placesOf}
+use Rattle.paper.specs.Walk.{tableOf, placesOf, placeAt}
 use Rattle.paper.specs.declared.Checked.the-variants.{Accepted, Refused}
 use Rattle.paper.specs.declared.Report.{Report}
 use Rattle.paper.specs.declared.TypeNo.{TypeNo}
@@ -68,12 +68,12 @@ module _ (T : Table) (s₃ : Said) (e₃ : saidAsPaper s₃ ≡ overTypes phase3
     pub judge-fourth : {r : Report} → s₄ ≡ Says r → saidAsPaper s₄ ≡ tableReport T
     judge-fourth p = ap saidAsPaper p ∙ sym (said-fourth T (sym e₃ ∙ ap saidAsPaper n₃) (sym e₄ ∙ ap saidAsPaper p))
 
-    module _ (n₄ : s₄ ≡ Nothing) (w : Ring) (e₅ : ringAsPaper w ≡ overTypes phase5 T) where
-      fifth : {v : Ring} → w ≡ v → tableReport T ≡ orElse (ringAsPaper v) (overTypes phase6 T)
-      fifth {v} q = said-fifth T (sym e₃ ∙ ap saidAsPaper n₃) (sym e₄ ∙ ap saidAsPaper n₄) (ringAsPaper v) (sym e₅ ∙ ap ringAsPaper q)
+    module _ (n₄ : s₄ ≡ Nothing) (w : Ring) (e₅ : ringAsPaper T w ≡ overTypes phase5 T) where
+      fifth : {v : Ring} → w ≡ v → tableReport T ≡ orElse (ringAsPaper T v) (overTypes phase6 T)
+      fifth {v} q = said-fifth T (sym e₃ ∙ ap saidAsPaper n₃) (sym e₄ ∙ ap saidAsPaper n₄) (ringAsPaper T v) (sym e₅ ∙ ap (ringAsPaper T) q)
 
-      pub judge-ring : {t : TypeNo} → w ≡ From t → some (report 14 (t .0)) ≡ tableReport T
-      judge-ring q = sym (fifth q)
+      pub judge-ring : {t : TypeNo} {p : ℕ} → w ≡ From t → p ≡ placeAt T (t .0) → some (reportAt 14 (t .0) p) ≡ tableReport T
+      judge-ring {t} q at = ap (λ (p : ℕ). some (reportAt 14 (t .0) p)) at ∙ sym (fifth q)
 
       pub judge-sixth : w ≡ Nowhere → {o : Option Answer} → o ≡ overTypes phase6 T → o ≡ tableReport T
       judge-sixth q e = e ∙ sym (fifth q)
@@ -83,14 +83,14 @@ pub judge-chains : {b index work : List ℕ} {n : ℕ} → Judgeable b index n w
 judge-chains j s e p = record { ready = followable (j .standing) (j .room) (sym e ∙ ap saidAsPaper p); unmarked = j .blank }
 
 pub judge-layouts : {b index work : List ℕ} {n : ℕ} → Judgeable b index n work → (s : Said) → saidAsPaper s ≡ overTypes phase4 (tableOf b) → s ≡ Nothing
-    → (w : Ring) → ringAsPaper w ≡ overTypes phase5 (tableOf b) → w ≡ Nowhere → Judged b index n
+    → (w : Ring) → ringAsPaper (tableOf b) w ≡ overTypes phase5 (tableOf b) → w ≡ Nowhere → Judged b index n
 unfolding phase4 phase5 refBad
 judge-layouts {b} j s e p w f q =
     let T = tableOf b in
     record {
       standing = j .standing;
       refs = λ t low high. not-false (refsOk T (recordAt T t)) (overTypes-silent T phase4 (sym e ∙ ap saidAsPaper p) t low high .0);
-      ends = λ t low high. overTypes-silent T phase5 (sym f ∙ ap ringAsPaper q) t low high .0;
+      ends = λ t low high. overTypes-silent T phase5 (sym f ∙ ap (ringAsPaper T) q) t low high .0;
     }
 
 -- ── with phases 1 and 2 before them ──

@@ -1,6 +1,6 @@
 -- Demands 1 and 2 of the code: what it means that `check` has answered, in the person's words. Each from its contract alone.
 -- Assumes nothing.
-use Prim.Native.Nat.{ℕ, _*_, _≤_}
+use Prim.Native.Nat.{ℕ, _*_, _%_, _≤_, _<_}
 use mathlib.Core.Path.{_≡_, refl, sym, ap, _∙_}
 use mathlib.Core.List.{List}
 use mathlib.Core.Option.{none, some}
@@ -14,6 +14,7 @@ use Rattle.paper.proofs.basics.Answers.{checked-one}
 use Rattle.paper.proofs.Demands.{accepted-ends}
 use Rattle.paper.proofs.Outcomes.{gate-refused, gate-accepted, index-place, whole-size}
 use Rattle.paper.proofs.gates.Reports.{refusal-spoken, report-14}
+use Rattle.paper.proofs.gates.Wheres.{report-stands, report-inside, report-bytes}
 use Rattle.paper.specs.Answer.{Answer, reportAsPaper, checkedAsPaper, sizedAsPaper}
 use Rattle.paper.specs.Chain.{heldBy, Chain}
 use Rattle.paper.specs.Fit.{Bytes}
@@ -24,6 +25,7 @@ use Rattle.paper.specs.Size.{exactSize, answerOf, sizeOf}
 use Rattle.paper.specs.Smallest.{Spoken}
 use Rattle.paper.specs.Table.{count, recordAt, wordsOf}
 use Rattle.paper.specs.Walk.{tableOf}
+use Rattle.paper.specs.Where.{StandsAt}
 use Rattle.paper.specs.Word.{bytesOfWords}
 use Rattle.paper.specs.declared.Checked.{Checked}
 use Rattle.paper.specs.declared.Checked.the-variants.{Accepted, Refused}
@@ -41,7 +43,7 @@ module _ {c : Checked} {b : List ℕ} {places work : ℕ} {index left : List ℕ
   -- ── a refused table ──
 
   module _ (r : Report) (p : c ≡ Refused r) where
-    -- it gets its number and type
+    -- it gets its number, type and place
     pub refused-report : refusal b places work ≡ some (reportAsPaper r)
     refused-report = checked-refused b places work r (ap checkedAsPaper (sym p) ∙ answers)
 
@@ -52,6 +54,16 @@ module _ {c : Checked} {b : List ℕ} {places work : ℕ} {index left : List ℕ
     -- a report of 10 or more is the smallest of the earliest phase
     pub refused-smallest : 10 ≤ reportAsPaper r .number → Readable b places work × Spoken (tableOf b) (reportAsPaper r)
     refused-smallest late = refusal-spoken b places work (reportAsPaper r) refused-report late
+
+    -- its place is where the record that it names stands: below the blob's end, and at a multiple of 4
+    pub refused-place : 6 ≤ reportAsPaper r .number → (reportAsPaper r .number ≡ 9 → ⊥) → StandsAt b (reportAsPaper r .t) (reportAsPaper r .p) × (reportAsPaper r .p < length b) × (reportAsPaper r .p % 4 ≡ 0)
+    refused-place low not-9 =
+        let inside = report-inside b places work (reportAsPaper r) refused-report low not-9 in
+        (report-stands b places work (reportAsPaper r) refused-report low not-9, inside .0, inside .1)
+
+    -- from 10 on the bytes there are that record's
+    pub refused-bytes : Bytes b → 10 ≤ reportAsPaper r .number → let ws = wordsOf (recordAt (tableOf b) (reportAsPaper r .t)) in take (4 * length ws) (drop (reportAsPaper r .p) b) ≡ bytesOfWords (orderOf b) ws
+    refused-bytes bytes late = report-bytes b places work (reportAsPaper r) refused-report bytes late
 
     -- report 14 names a type from which a by-value chain can be followed for ever
     pub refused-endless : reportAsPaper r .number ≡ 14 → Chain (heldBy (tableOf b)) (reportAsPaper r .t)

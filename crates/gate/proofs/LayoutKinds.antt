@@ -1,17 +1,18 @@
 -- Laws of report 15: which rule speaks of which kinds.
 -- Assumes nothing.
 use Prim.Native.Nat.{ℕ}
-use mathlib.Core.Path.{_≡_, refl, sym, ap, _∙_}
+use mathlib.Core.Path.{_≡_, refl, sym, ap, ap₂, _∙_}
 use mathlib.Core.Bool.{Bool, true, false, not, _&&_, _||_}
 use mathlib.Core.List.{[], _∷_}
 use borrow.Author.Tests.{ne-eqb}
 use Rattle.paper.specs.Choice.{_when_, firstDue, differ, member}
-use Rattle.paper.specs.Gate.{naming, phase6}
+use Rattle.paper.specs.Gate.{namingAt, phase6}
 use Rattle.paper.specs.KindNo.{ARRAY, STRUCT, UNION, FUNC, VAR, DATASEC, DECL-TAG}
 use Rattle.paper.specs.Layout.{membersOk, arrayOk, functionOk, tagOk, layoutOk, layoutBad}
 use Rattle.paper.specs.Section.{sectionOk}
 use Rattle.paper.specs.Size.{hasSmallSize}
 use Rattle.paper.specs.Table.{Record, Table, recordAt, kindOf}
+use Rattle.paper.specs.Walk.{placeAt}
 
 -- the six rules, by what each asks of its kinds
 abbrev byKind : ℕ → Bool → Bool → Bool → Bool → Bool → Bool → Bool
@@ -65,6 +66,7 @@ module _ (T : Table) (r : Record) {k : ℕ} (kind : k ≡ kindOf r) where
 -- ── phase 6 of one type ──
 
 -- from whether its layout keeps to the rules
-pub layout-due : (T : Table) (t : ℕ) {z : Bool} → z ≡ layoutOk T (recordAt T t) → naming t (firstDue (15 when not z ∷ [])) ≡ naming t (firstDue (phase6 T t))
+pub layout-due : (T : Table) (t : ℕ) {z : Bool} {p : ℕ} → z ≡ layoutOk T (recordAt T t) → p ≡ placeAt T t
+    → namingAt t p (firstDue (15 when not z ∷ [])) ≡ namingAt t (placeAt T t) (firstDue (phase6 T t))
 unfolding phase6 layoutBad
-layout-due T t e = ap (λ (b : Bool). naming t (firstDue (15 when not b ∷ []))) e
+layout-due T t e at = ap₂ (λ (p : ℕ) (b : Bool). namingAt t p (firstDue (15 when not b ∷ []))) at e

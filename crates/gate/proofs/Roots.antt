@@ -9,12 +9,12 @@ use mathlib.Core.Option.{Option, none, some}
 use native.Mathlib.Numerals.{add-one}
 use native.Mathlib.Omega.{arith}
 use lib.ListN.{length, getD}
-use Rattle.paper.specs.Answer.{Answer, report}
+use Rattle.paper.specs.Answer.{Answer, reportAt}
 use Rattle.paper.specs.Chain.{heldBy, walks, endless}
 use Rattle.paper.specs.Choice.{_when_, firstDue, orElse}
-use Rattle.paper.specs.Gate.{naming, firstOf, overTypes, phase5, zeros}
+use Rattle.paper.specs.Gate.{namingAt, firstOf, overTypes, phase5, zeros}
 use Rattle.paper.specs.Table.{Table, count}
-use Rattle.paper.specs.Walk.{tableOf}
+use Rattle.paper.specs.Walk.{placeAt, tableOf}
 use Rattle.gate.specs.Search.{Followable, Unsearched, AtRoot, Clean, Followed}
 
 -- ── marks between two roots ──
@@ -40,17 +40,17 @@ root-seen {root = root} r seen =
 
 module _ (T : Table) (left t : ℕ) where
   after : Bool → Option Answer
-  after b = orElse (naming t (firstDue (14 when b ∷ []))) (firstOf (phase5 T) left (suc t))
+  after b = orElse (namingAt t (placeAt T t) (firstDue (14 when b ∷ []))) (firstOf (placeAt T) (phase5 T) left (suc t))
 
-  first-after : firstOf (phase5 T) (suc left) t ≡ after (endless T t)
+  first-after : firstOf (placeAt T) (phase5 T) (suc left) t ≡ after (endless T t)
   unfolding phase5 after
   first-after = refl
 
-  first-endless : endless T t ≡ true → firstOf (phase5 T) (suc left) t ≡ some (report 14 t)
+  first-endless : endless T t ≡ true → firstOf (placeAt T) (phase5 T) (suc left) t ≡ some (reportAt 14 t (placeAt T t))
   unfolding after
   first-endless e = first-after ∙ ap after e
 
-  first-ends : endless T t ≡ false → firstOf (phase5 T) (suc left) t ≡ firstOf (phase5 T) left (suc t)
+  first-ends : endless T t ≡ false → firstOf (placeAt T) (phase5 T) (suc left) t ≡ firstOf (placeAt T) (phase5 T) left (suc t)
   unfolding after
   first-ends e = first-after ∙ ap after e
 
@@ -61,7 +61,7 @@ pub record Rooting (b index : List ℕ) (n size : ℕ) (work : List ℕ) (t : �
   pub size-kept : length work ≡ size
   pub clean : Clean (heldBy (tableOf b)) n work
   pub few : t ≤ n
-  pub left : overTypes phase5 (tableOf b) ≡ firstOf (phase5 (tableOf b)) (n - t) (t + 1)
+  pub left : overTypes phase5 (tableOf b) ≡ firstOf (placeAt (tableOf b)) (phase5 (tableOf b)) (n - t) (t + 1)
 
 pub rooting-start : {b index work : List ℕ} {n : ℕ} → Unsearched b index n work → Rooting b index n (length work) work 0
 unfolding overTypes
@@ -72,14 +72,14 @@ rooting-start {b} {work = work} {n} s =
       size-kept = refl;
       clean = clean-start (heldBy (tableOf b)) n (length work) (s .unmarked);
       few = omega arith;
-      left = ap (λ (k : ℕ). firstOf (phase5 (tableOf b)) k 1) all;
+      left = ap (λ (k : ℕ). firstOf (placeAt (tableOf b)) (phase5 (tableOf b)) k 1) all;
     }
 
 module _ {b index work : List ℕ} {n size t : ℕ} (r : Rooting b index n size work t) where
   pub rooting-done : n ≤ t → none ≡ overTypes phase5 (tableOf b)
   rooting-done h =
       let nothing : n - t ≡ 0 = omega arith in
-      sym (r .left ∙ ap (λ (k : ℕ). firstOf (phase5 (tableOf b)) k (t + 1)) nothing)
+      sym (r .left ∙ ap (λ (k : ℕ). firstOf (placeAt (tableOf b)) (phase5 (tableOf b)) k (t + 1)) nothing)
 
   -- a walk of as many steps as there are types is an endless one
   endless-here : (x : ℕ) {z : Bool} → walks (heldBy (tableOf b)) n x ≡ z → endless (tableOf b) x ≡ z
@@ -87,12 +87,12 @@ module _ {b index work : List ℕ} {n size t : ℕ} (r : Rooting b index n size 
   endless-here x e = ap (λ (k : ℕ). walks (heldBy (tableOf b)) k x) (sym (r .ready .standing .counted)) ∙ e
 
   module _ (more : t < n) where
-    one-more : overTypes phase5 (tableOf b) ≡ firstOf (phase5 (tableOf b)) (suc (n - (t + 1))) (t + 1)
+    one-more : overTypes phase5 (tableOf b) ≡ firstOf (placeAt (tableOf b)) (phase5 (tableOf b)) (suc (n - (t + 1))) (t + 1)
     one-more =
         let one : n - t ≡ suc (n - (t + 1)) = omega arith in
-        r .left ∙ ap (λ (k : ℕ). firstOf (phase5 (tableOf b)) k (t + 1)) one
+        r .left ∙ ap (λ (k : ℕ). firstOf (placeAt (tableOf b)) (phase5 (tableOf b)) k (t + 1)) one
 
-    pub rooting-ring : walks (heldBy (tableOf b)) n (t + 1) ≡ true → some (report 14 (t + 1)) ≡ overTypes phase5 (tableOf b)
+    pub rooting-ring : walks (heldBy (tableOf b)) n (t + 1) ≡ true → some (reportAt 14 (t + 1) (placeAt (tableOf b) (t + 1))) ≡ overTypes phase5 (tableOf b)
     rooting-ring e = sym (one-more ∙ first-endless (tableOf b) (n - (t + 1)) (t + 1) (endless-here (t + 1) e))
 
     pub rooting-next : {work′ : List ℕ} → length work′ ≡ length work → Followed (heldBy (tableOf b)) n (t + 1) work′ false → Rooting b index n size work′ (t + 1)
@@ -105,5 +105,5 @@ module _ {b index work : List ℕ} {n size t : ℕ} (r : Rooting b index n size 
           left =
               one-more
               ∙ first-ends (tableOf b) (n - (t + 1)) (t + 1) (endless-here (t + 1) (followed .0))
-              ∙ ap (firstOf (phase5 (tableOf b)) (n - (t + 1))) (sym (add-one (t + 1)));
+              ∙ ap (firstOf (placeAt (tableOf b)) (phase5 (tableOf b)) (n - (t + 1))) (sym (add-one (t + 1)));
         }

@@ -8,20 +8,20 @@ use mathlib.Core.Option.{none}
 use native.Mathlib.Omega.{arith}
 use borrow.Author.Tests.{eq-eqb, ne-eqb, lt-ltb, le-ltb, ltb-true, ltb-false}
 use lib.Dec.{eqb, ltb}
-use lib.ListN.{length, getD, drop}
+use lib.ListN.{length, getD, drop, List·getD-eq-default}
 use lib.Seq.{drop-length}
 use Rattle.gate.specs.Standing.{Standing, placeIn}
 use Rattle.paper.proofs.gates.Acceptance.{readable-walk}
 use Rattle.paper.proofs.bytes.Blobs.{strings-tableOf}
 use Rattle.paper.proofs.bytes.Headers.{facts-headerReport}
 use Rattle.paper.proofs.walks.Insides.{recordAt-outside}
-use Rattle.paper.proofs.bytes.Places.{blob-place-high}
+use Rattle.paper.proofs.bytes.Places.{length-placesOf, blob-place-high}
 use Rattle.paper.proofs.bytes.Reading.{recordIn-place}
 use Rattle.paper.specs.Header.{orderOf, typeLen, stringsIn}
 use Rattle.paper.specs.Kind.{rows, rowOf}
 use Rattle.paper.specs.Reading.{recordIn}
 use Rattle.paper.specs.Table.{Record, nothing, recordAt, tailLength}
-use Rattle.paper.specs.Walk.{tableOf}
+use Rattle.paper.specs.Walk.{tableOf, placesOf, placeAt}
 use Rattle.paper.specs.Word.{lowFirst, wordAt}
 
 -- ── the place of a type ──
@@ -81,6 +81,22 @@ module _ {b index : List ℕ} {n : ℕ} (s : Standing b index n) where
           let c = s .counted in
           ap (λ (p : ℕ). recordIn lowFirst (drop p b)) (sym (placeIn-type index n (length b) {t = suc t} (λ z. omega arith) h) ∙ s .placed t h)
           ∙ recordIn-place b (s .bytes) (facts-headerReport b (s .readable .header)) (tableOf b .records) (readable-walk b (length index) (suc n) (s .readable)) t (omega arith)
+
+  -- the place that a report of a type carries
+  pub stands-place : (t : ℕ) → placeIn index n t 0 ≡ placeAt (tableOf b) t
+  unfolding placeAt
+  stands-place zero = sym (placeIn-void index n 0 {t = 0} refl)
+  stands-place (suc t) = go (ltb n (suc t)) refl
+    where
+      go : (z : Bool) → ltb n (suc t) ≡ z → placeIn index n (suc t) 0 ≡ getD (placesOf (tableOf b)) t 0
+      go true x =
+          let h = ltb-true n (suc t) x in
+          let c = s .counted in
+          let l = length-placesOf (tableOf b) in
+          sym (placeIn-above index n 0 {t = suc t} (λ z. omega arith) h) ∙ sym (List·getD-eq-default (placesOf (tableOf b)) 0 (omega arith))
+      go false x =
+          let h = ltb-false n (suc t) x in
+          sym (placeIn-type index n 0 {t = suc t} (λ z. omega arith) h) ∙ s .placed t h
 
   -- ── the strings behind the type section ──
 

@@ -12,12 +12,12 @@ use Rattle.gate.specs.declared.chains.Step.{Step}
 use Rattle.gate.specs.declared.chains.Step.the-variants.{On, Met, Finished}
 use Rattle.gate.specs.Holding.{heldFrom, NextHeld}
 use Rattle.gate.specs.Standing.{Standing}
-use Rattle.paper.specs.Answer.{Answer, report}
+use Rattle.paper.specs.Answer.{Answer, reportAt}
 use Rattle.paper.specs.Chain.{heldBy, walks}
 use Rattle.paper.specs.Gate.{zeros}
 use Rattle.paper.specs.References.{refsOk}
-use Rattle.paper.specs.Table.{Record, recordAt}
-use Rattle.paper.specs.Walk.{tableOf}
+use Rattle.paper.specs.Table.{Record, Table, recordAt}
+use Rattle.paper.specs.Walk.{placeAt, tableOf}
 
 -- ── marks: 0 is a type not yet seen ──
 
@@ -108,6 +108,6 @@ Followed held n root work false = (walks held n root ≡ false) × Clean held n 
 
 -- ── the answer ──
 
-abbrev pub ringAsPaper : Ring → Option Answer
-ringAsPaper Nowhere = none
-ringAsPaper (From t) = some (report 14 (t .0))
+abbrev pub ringAsPaper : Table → Ring → Option Answer
+ringAsPaper T Nowhere = none
+ringAsPaper T (From t) = some (reportAt 14 (t .0) (placeAt T (t .0)))

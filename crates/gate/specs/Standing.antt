@@ -17,6 +17,6 @@ pub record Standing (b index : List ℕ) (n : ℕ) : Type 0 where
   pub counted : n ≡ count (tableOf b)
   pub placed : (t : ℕ) → t < n → getD index (suc t) 0 ≡ getD (placesOf (tableOf b)) t 0
 
--- where a type's record begins; an end for void and for a number above n
+-- where a type's record begins; another place for void and for a number above n
 unfoldable pub placeIn : List ℕ → ℕ → ℕ → ℕ → ℕ
-placeIn index n t end = cond (eqb t 0 || ltb n t) end (getD index t 0)
+placeIn index n t nowhere = cond (eqb t 0 || ltb n t) nowhere (getD index t 0)

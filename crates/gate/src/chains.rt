@@ -95,7 +95,7 @@ fn visit(b: &[u8], index: &[u32], n: u32, root: TypeNo, work: &mut [u32]) -> boo
 // What phase 5 says. Roots are taken in order, so that the first with a ring is the smallest.
 pub(crate) fn chains(b: &[u8], index: &[u32], n: u32, work: &mut [u32]) -> Ring
     requires { ⌜ Unsearched (now b) (now index) n (now work) ⌝ }
-    ensures { λ r. ⌜ ringAsPaper r ≡ overTypes phase5 (tableOf (now (b .entry))) ⌝ }
+    ensures { λ r. ⌜ ringAsPaper (tableOf (now (b .entry))) r ≡ overTypes phase5 (tableOf (now (b .entry))) ⌝ }
 {
     let mut t: u32 = 0;
     while t < n {

@@ -8,22 +8,30 @@ ghost use lib.ListN.{length};
 ghost use Rattle.gate.specs.Standing.{Standing, placeIn};
 ghost use Rattle.paper.specs.Reading.{recordIn};
 ghost use Rattle.paper.specs.Table.{kindAt, recordAt};
-ghost use Rattle.paper.specs.Walk.{tableOf};
+ghost use Rattle.paper.specs.Walk.{placeAt, tableOf};
 ghost use Rattle.paper.specs.Word.{lowFirst};
 
-// Where a type's record begins in the blob; the blob's end for void and for a number above n.
-fn place_of(index: &[u32], n: u32, t: TypeNo, end: usize) -> usize
+// Where a type's record begins in the blob; `nowhere` for void and for a number above n.
+fn place_in(index: &[u32], n: u32, t: TypeNo, nowhere: u32) -> u32
     requires { ⌜ n < length (now index) ⌝ }
-    ensures { λ r. ⌜ r ≡ placeIn (now (index .entry)) n (t .0) end ⌝ }
+    ensures { λ r. ⌜ r ≡ placeIn (now (index .entry)) n (t .0) nowhere ⌝ }
 {
     let k = t.0;
     if k == 0 {
-        return end;
+        return nowhere;
     }
     if n < k {
-        return end;
+        return nowhere;
     }
-    index[k as usize] as usize
+    index[k as usize]
+}
+
+// The place that a report of a type carries.
+pub(crate) fn place_of(b: &[u8], index: &[u32], n: u32, t: TypeNo) -> Place
+    requires { ⌜ Standing (now b) (now index) n ⌝ }
+    ensures { λ r. ⌜ r .0 ≡ placeAt (tableOf (now (b .entry))) (t .0) ⌝ }
+{
+    Place(place_in(index, n, t, 0))
 }
 
 // The bytes from a type's record on; none for void and for a number above n, which read as the record of no kind.
@@ -31,7 +39,7 @@ pub(crate) fn record_of<'a>(b: &'a [u8], index: &[u32], n: u32, t: TypeNo) -> &'
     requires { ⌜ Standing (now b) (now index) n ⌝ }
     ensures { λ r. ⌜ recordIn lowFirst (now r) ≡ recordAt (tableOf (now (b .entry))) (t .0) ⌝ }
 {
-    let from = place_of(index, n, t, b.len());
+    let from = place_in(index, n, t, b.len() as u32) as usize;
     &b[from..]
 }
 

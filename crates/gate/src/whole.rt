@@ -5,6 +5,7 @@ use crate::phases::Said;
 use crate::phases::fourth;
 use crate::phases::sixth;
 use crate::phases::third;
+use crate::types::place_of;
 use paper::Checked;
 use paper::Report;
 use scan::Scanned;
@@ -34,7 +35,7 @@ fn judge(b: &[u8], index: &[u32], n: u32, work: &mut [u32]) -> Said
     }
     match chains(b, index, n, work) {
         Ring::Nowhere => sixth(b, index, n),
-        Ring::From(t) => Said::Says(Report::Endless(t)),
+        Ring::From(t) => Said::Says(Report::Endless(t, place_of(b, index, n, t))),
     }
 }
 

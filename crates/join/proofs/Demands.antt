@@ -18,9 +18,9 @@ use Rattle.paper.proofs.basics.Answers.{joined-one}
 use Rattle.paper.proofs.gates.Acceptance.{accepted-meets}
 use Rattle.paper.proofs.gates.Answered.{joined-whole, joined-refused}
 use Rattle.paper.proofs.joins.Grouping.{join-assoc}
-use Rattle.paper.proofs.joins.JoinRefusals.{joinRefusal-joinable, joinable-joinRefusal}
+use Rattle.paper.proofs.joins.JoinRefusals.{joinRefusal-joinable, joinable-joinRefusal, inside-16, inside-17}
 use Rattle.paper.proofs.joins.Neutral.{join-empty-left, join-empty-right}
-use Rattle.paper.specs.Answer.{Answer, joinedAsPaper}
+use Rattle.paper.specs.Answer.{Answer, inside, joinedAsPaper}
 use Rattle.paper.specs.Fit.{Bytes}
 use Rattle.paper.specs.Full.{joinFull, andThen, emptyBlob}
 use Rattle.paper.specs.Gate.{refusal, zeros, gate}
@@ -54,6 +54,13 @@ module _ {j : Joined} {a b : List ℕ} {places work : ℕ} {out index left outpu
     -- for the first ground that there is
     pub refused-ground : joinRefusal a b places work (length out) ≡ some (joinedAsPaper j)
     refused-ground = joined-refused a b places work out j no (h .answers)
+
+    -- 16 and 17 hold the refused table's own report: its number, its type and its place
+    pub refused-first : joinedAsPaper j .number ≡ 16 → (x : Answer) × (refusal a places work ≡ some x) × (joinedAsPaper j ≡ inside 16 x)
+    refused-first is = inside-16 a b places work (length out) refused-ground is
+
+    pub refused-second : joinedAsPaper j .number ≡ 17 → (x : Answer) × (refusal b places work ≡ some x) × (joinedAsPaper j ≡ inside 17 x)
+    refused-second is = inside-17 a b places work (length out) refused-ground is
 
     -- and no output byte changes
     pub refused-output : output ≡ out

@@ -6,7 +6,7 @@ use mathlib.Core.Bool.{Bool, true, false, _&&_}
 use mathlib.Core.List.{List, [], _∷_, _++_}
 use lib.Dec.{eqb}
 use lib.ListN.{length, take, set, replicate}
-use Rattle.paper.specs.Answer.{Answer, report, accepted, value}
+use Rattle.paper.specs.Answer.{Answer, report, reportAt, accepted, value}
 use Rattle.paper.specs.Choice.{same}
 use Rattle.paper.specs.Computes.{computes}
 use Rattle.paper.specs.Gate.{gate, zeros}
@@ -113,8 +113,8 @@ abbrev gives : List ℕ → Answer → List ℕ → Bool
 gives b a index =
     let g = gate b 8 8 in sameAnswer (g .answer) a && same (g .index) index && same (g .work) (zeros 8)
 
-abbrev refuses : List ℕ → ℕ → ℕ → Bool
-refuses b number type = gives b (report number type) (zeros 8)
+abbrev refuses : List ℕ → ℕ → ℕ → ℕ → Bool
+refuses b number type place = gives b (reportAt number type place) (zeros 8)
 
 -- accepted with so many types, and a type's size is answered so from the index that the check left
 abbrev sizes : List ℕ → ℕ → ℕ → Answer → Bool
@@ -145,33 +145,33 @@ unfolding computes
 benches =
     -- 1 to 4: E; E with flags 1; its first 23 bytes; its first 24 with str_len 0
     gives E (accepted 0) (zeros 8)
-    ∷ refuses (set E 3 1) 2 0
-    ∷ refuses (take 23 E) 1 0
-    ∷ refuses (take 24 (set E 20 0)) 5 0
+    ∷ refuses (set E 3 1) 2 0 0
+    ∷ refuses (take 23 E) 1 0 0
+    ∷ refuses (take 24 (set E 20 0)) 5 0 0
     -- 5 to 8: T with its index and size; width 17; kind 20
     ∷ gives T (accepted 1) (0 ∷ 24 ∷ zeros 6)
     ∷ sizes T 1 1 (value 2)
-    ∷ refuses (set T 36 17) 12 1
-    ∷ refuses (set T 31 20) 7 1
+    ∷ refuses (set T 36 17) 12 1 24
+    ∷ refuses (set T 31 20) 7 1 24
     -- 9, 10: CONST to itself; PTR to itself
-    ∷ refuses (blob (rec CONST 0 0 1 [] ∷ [])) 14 1
+    ∷ refuses (blob (rec CONST 0 0 1 [] ∷ [])) 14 1 24
     ∷ sizes (blob (rec PTR 0 0 1 [] ∷ [])) 1 1 (value 8)
     -- 11: T joined to T
     ∷ joins T T TT
     -- 12, 13: 000's bit field, in 14 bytes and in 13
     ∷ gives (bitField 14 100) (accepted 2) (0 ∷ 24 ∷ 40 ∷ zeros 5)
-    ∷ refuses (bitField 13 100) 15 2
+    ∷ refuses (bitField 13 100) 15 2 40
     -- not starred, 14 to 18: CONST to a struct that holds itself; int a[5][6]; the two products
-    ∷ refuses (blob (rec CONST 0 0 2 [] ∷ struct 8 2 0 ∷ [])) 14 1
+    ∷ refuses (blob (rec CONST 0 0 2 [] ∷ struct 8 2 0 ∷ [])) 14 1 24
     ∷ sizes (blob (int 4 0 32 ∷ array 1 6 ∷ array 2 5 ∷ [])) 3 2 (value 24)
     ∷ sizes (blob (int 4 0 32 ∷ array 1 6 ∷ array 2 5 ∷ [])) 3 3 (value 120)
     ∷ sizes (arrays (65537 ∷ 65535 ∷ [])) 3 3 (value 4294967295)
     ∷ sizes (arrays (65536 ∷ 65536 ∷ [])) 3 3 (report 2 0)
     -- ours, 19 to 22: zero elements of an overflowing type; a sum that wraps in 32 bits; a bit field to the last bit, and one bit past it
     ∷ sizes (arrays (65536 ∷ 65536 ∷ 0 ∷ [])) 4 4 (value 0)
-    ∷ refuses wrapping 4 0
+    ∷ refuses wrapping 4 0 0
     ∷ gives (bitField 14 106) (accepted 2) (0 ∷ 24 ∷ 40 ∷ zeros 5)
-    ∷ refuses (bitField 14 107) 15 2
+    ∷ refuses (bitField 14 107) 15 2 40
     -- 23, 24: references and names are raised, void, offset 0, sizes, offsets and a tag's component are not; the empty table is neutral
     ∷ joins T (blob (tagged 0 0))
     (bytesOf lowFirst (record { records = rec INT 0 1 2 (16777232 ∷ []) ∷ tagged 1 2; strings = 0 ∷ 0x74 ∷ 0 ∷ 0x74 ∷ 0 ∷ [] }))
@@ -180,11 +180,11 @@ benches =
     ∷ gives (blob (unnamed 0 0)) (accepted 3) (0 ∷ 24 ∷ 40 ∷ 64 ∷ zeros 4)
     ∷ joins T (blob (unnamed 0 0))
     (bytesOf lowFirst (record { records = rec INT 0 1 2 (16777232 ∷ []) ∷ unnamed 1 2; strings = 0 ∷ 0x74 ∷ 0 ∷ 0x74 ∷ 0 ∷ [] }))
-    ∷ refuses (blob (int 4 0 32 ∷ rec STRUCT 1 0 4 (2 ∷ 1 ∷ 0 ∷ []) ∷ [])) 11 2
-    ∷ refuses (blob (rec ENUM 1 0 4 (0 ∷ 0 ∷ []) ∷ [])) 11 1
+    ∷ refuses (blob (int 4 0 32 ∷ rec STRUCT 1 0 4 (2 ∷ 1 ∷ 0 ∷ []) ∷ [])) 11 2 40
+    ∷ refuses (blob (rec ENUM 1 0 4 (0 ∷ 0 ∷ []) ∷ [])) 11 1 24
     -- order 12, 29 to 31: a FUNC of linkage 1, and of linkage 2; a VAR of linkage 2
     ∷ gives (linked 1 0) (accepted 4) (0 ∷ 24 ∷ 40 ∷ 52 ∷ 64 ∷ zeros 3)
-    ∷ refuses (linked 2 0) 10 3
+    ∷ refuses (linked 2 0) 10 3 52
     ∷ gives (linked 0 2) (accepted 4) (0 ∷ 24 ∷ 40 ∷ 52 ∷ 64 ∷ zeros 3)
     ∷ []
 

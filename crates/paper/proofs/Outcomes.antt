@@ -6,11 +6,11 @@ use mathlib.Core.List.{List, _∷_, _++_}
 use mathlib.Core.Option.{none, some}
 use native.Mathlib.Omega.{arith}
 use lib.ListN.{length, getD, take, drop, length-append, length-take, length-replicate, List·getD-append}
-use lib.Seq.{getD-take, take-all, take-at}
-use Rattle.paper.proofs.gates.Acceptance.{accepted-meets, accepted-bytes}
-use Rattle.paper.proofs.bytes.Bytes.{length-bytesOfWords}
+use lib.Seq.{getD-take, take-all}
+use Rattle.paper.proofs.gates.Acceptance.{accepted-meets}
+use Rattle.paper.proofs.gates.Wheres.{place-bytes}
 use Rattle.paper.proofs.Demands.{accepted-size}
-use Rattle.paper.proofs.bytes.Places.{length-placesOf, place-record}
+use Rattle.paper.proofs.bytes.Places.{length-placesOf}
 use Rattle.paper.specs.Answer.{Answer, accepted, value}
 use Rattle.paper.specs.Fit.{Bytes}
 use Rattle.paper.specs.Gate.{refusal, zeros, indexOf, Outcome, outcome, gate}
@@ -18,7 +18,7 @@ use Rattle.paper.specs.Header.{orderOf}
 use Rattle.paper.specs.Join.{joinedBytes, joinRefusal, joinOutcome, join}
 use Rattle.paper.specs.Size.{exactSize, answerOf, sizeOf}
 use Rattle.paper.specs.Table.{Table, count, recordAt, wordsOf}
-use Rattle.paper.specs.Walk.{tableOf, placesOf}
+use Rattle.paper.specs.Walk.{tableOf, placesOf, placeAt}
 use Rattle.paper.specs.Word.{bytesOfWords}
 
 -- ── a check ──
@@ -75,15 +75,14 @@ module _ (b : List ℕ) (bytes : Bytes b) (places work : ℕ) (e : refusal b pla
   pub index-place : (k : ℕ) → 1 ≤ k → k ≤ count (tableOf b)
       → take (4 * length (wordsOf (recordAt (tableOf b) k))) (drop (getD (gate b places work .index) k 0) b)
       ≡ bytesOfWords (orderOf b) (wordsOf (recordAt (tableOf b) k))
+  unfolding placeAt
   index-place zero low high = absurd (omega arith)
   index-place (suc t) low high =
       let T = tableOf b in
       let ws = wordsOf (recordAt T (suc t)) in
       ap (λ (o : Outcome). take (4 * length ws) (drop (getD (o .index) (suc t) 0) b)) (gate-accepted b places work e)
       ∙ ap (λ (p : ℕ). take (4 * length ws) (drop p b)) (getD-indexOf T places enough t high)
-      ∙ ap (λ (s : List ℕ). take (4 * length ws) (drop (getD (placesOf T) t 0) s)) (sym (accepted-bytes b places work e bytes))
-      ∙ ap (take (4 * length ws)) (place-record (orderOf b) T t high)
-      ∙ take-at (bytesOfWords (orderOf b) ws) _ (4 * length ws) (length-bytesOfWords (orderOf b) ws)
+      ∙ place-bytes b bytes (accepted-meets b places work e .readable) (suc t) low high
 
   -- cut to n + 1 places or longer, it answers every type's exact size
   pub checked-size : (k : ℕ) → count (tableOf b) < k → (t : ℕ) → t ≤ count (tableOf b)

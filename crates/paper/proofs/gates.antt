@@ -3,5 +3,6 @@ pub mod Gates
 pub mod Numbers
 pub mod Acceptance
 pub mod Reports
+pub mod Wheres
 pub mod Answered
 pub mod SizeAsked

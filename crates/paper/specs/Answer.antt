@@ -11,15 +11,20 @@ use Rattle.paper.specs.declared.Joined.{Joined}
 use Rattle.paper.specs.declared.Joined.the-variants.{Whole, FirstRefused, SecondRefused, TooMany, TooLong, OutputShort}
 
 -- the paper's number (0 where nothing is refused), the number of the report inside a join's refusal,
--- the type count or the type that is named, and the exact size or the joined length
+-- the type count or the type that is named, and the exact size, the joined length or the place of the record that is named
 pub record Answer : Type 0 where
   pub number : ℕ
   pub inner : ℕ
   pub t : ℕ
   pub p : ℕ
 
+-- "a byte place beside the type number" (order 9)
+abbrev pub reportAt : ℕ → ℕ → ℕ → Answer
+reportAt number t p = record { number = number; inner = 0; t = t; p = p }
+
+-- "otherwise 0"
 abbrev pub report : ℕ → ℕ → Answer
-report number t = record { number = number; inner = 0; t = t; p = 0 }
+report number t = reportAt number t 0
 
 abbrev pub accepted : ℕ → Answer
 accepted n = report 0 n
@@ -37,16 +42,16 @@ reportAsPaper Opening = report 2 0
 reportAsPaper HeaderLength = report 3 0
 reportAsPaper Sections = report 4 0
 reportAsPaper Strings = report 5 0
-reportAsPaper (RecordCut t) = report 6 (t .0)
-reportAsPaper (UnknownKind t) = report 7 (t .0)
-reportAsPaper ManyTypes = report 8 (typeLimit + 1)
+reportAsPaper (RecordCut t p) = reportAt 6 (t .0) (p .0)
+reportAsPaper (UnknownKind t p) = reportAt 7 (t .0) (p .0)
+reportAsPaper (ManyTypes p) = reportAt 8 (typeLimit + 1) (p .0)
 reportAsPaper SlicesShort = report 9 0
-reportAsPaper (Head t) = report 10 (t .0)
-reportAsPaper (Named t) = report 11 (t .0)
-reportAsPaper (Tail t) = report 12 (t .0)
-reportAsPaper (Reference t) = report 13 (t .0)
-reportAsPaper (Endless t) = report 14 (t .0)
-reportAsPaper (Layout t) = report 15 (t .0)
+reportAsPaper (Head t p) = reportAt 10 (t .0) (p .0)
+reportAsPaper (Named t p) = reportAt 11 (t .0) (p .0)
+reportAsPaper (Tail t p) = reportAt 12 (t .0) (p .0)
+reportAsPaper (Reference t p) = reportAt 13 (t .0) (p .0)
+reportAsPaper (Endless t p) = reportAt 14 (t .0) (p .0)
+reportAsPaper (Layout t p) = reportAt 15 (t .0) (p .0)
 
 unfoldable pub checkedAsPaper : Checked → Answer
 checkedAsPaper (Accepted n) = accepted n

@@ -4,7 +4,7 @@ use Rattle.paper.specs.Word.{wordAt, putWord}
 use Rattle.paper.specs.Kind.{rows, rowOf}
 use Rattle.paper.specs.Table.{tailLength, tailRoles}
 use Rattle.paper.specs.Header.{orderOf, typeOff, typeLen, strOff, strLen, stringsIn, lengthBad, openingBad, headerLengthBad, sectionsBad, stringsBad, headerReport}
-use Rattle.paper.specs.Walk.{walkRecord, typeWords, walk, tableOf, bytesOf, placesOf}
+use Rattle.paper.specs.Walk.{walkRecord, typeWords, walk, tableOf, bytesOf, placesOf, placeAt}
 use Rattle.paper.specs.Reading.{recordIn, roled}
 use Rattle.paper.specs.Name.{nameIn, nameless, nameAt, isDigit, isLetter, isSectionName}
 use Rattle.paper.specs.Heads.{spareZero, headOk, headBad}
@@ -23,7 +23,7 @@ use Rattle.paper.specs.Join.{joinTables, joinedBytes, limitReport, joinR
 unfoldable pub computes : Unit {0}
 unfolding reportAsPaper checkedAsPaper sizedAsPaper joinedAsPaper wordAt putWord rows rowOf tailLength tailRoles orderOf typeOff typeLen strOff
     strLen stringsIn lengthBad openingBad headerLengthBad sectionsBad stringsBad headerReport walkRecord typeWords walk tableOf
-    bytesOf placesOf recordIn roled nameIn nameless nameAt isDigit isLetter isSectionName spareZero headOk headBad nameOk namesOk nameBad intWordOk
+    bytesOf placesOf placeAt recordIn roled nameIn nameless nameAt isDigit isLetter isSectionName spareZero headOk headBad nameOk namesOk nameBad intWordOk
     linkageWordOk isLast00 tailOk tailBad isPlain refOk refsOk refBad heldBy endless stepIn exactSize hasSize smallSize hasSmallSize
     stepAtPlace stepAt sizeAsked sizeOf baseOf isRegularWord isRegular wholeSpan plainSpan fieldSpan spanOf entryCovers sectionOk
     memberOk offsetsOk membersOk arrayOk functionOk partsOf tagOk layoutOk layoutBad phase1 phase2 shortSlices phase3 phase4 phase5

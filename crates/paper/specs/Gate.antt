@@ -5,7 +5,7 @@ use mathlib.Core.List.{List, [], _∷_, _++_}
 use mathlib.Core.Option.{Option, none, some}
 use lib.Dec.{ltb}
 use lib.ListN.{replicate}
-use Rattle.paper.specs.Answer.{Answer, report, accepted}
+use Rattle.paper.specs.Answer.{Answer, reportAt, accepted}
 use Rattle.paper.specs.Chain.{endless}
 use Rattle.paper.specs.Choice.{Rule, _when_, firstDue, orElse}
 use Rattle.paper.specs.Header.{headerReport}
@@ -15,19 +15,23 @@ use Rattle.paper.specs.Names.{nameBad}
 use Rattle.paper.specs.References.{refBad}
 use Rattle.paper.specs.Table.{Table, count}
 use Rattle.paper.specs.Tails.{tailBad}
-use Rattle.paper.specs.Walk.{Walked, records, stopped, walk, tableOf, placesOf}
+use Rattle.paper.specs.Walk.{Walked, records, stopped, walk, tableOf, placesOf, placeAt}
 
--- a report's number, at the type that it names
+-- a report's number, at the type that it names and the place of that type's record
+abbrev pub namingAt : ℕ → ℕ → Option ℕ → Option Answer
+namingAt t p none = none
+namingAt t p (some n) = some (reportAt n t p)
+
+-- and with no place
 abbrev pub naming : ℕ → Option ℕ → Option Answer
-naming t none = none
-naming t (some n) = some (report n t)
+naming t o = namingAt t 0 o
 
 unfoldable pub phase1 : List ℕ → Option Answer
 phase1 b = naming 0 (headerReport b)
 
 abbrev pub walkReport : Walked → Option Answer
 walkReport (records rs) = none
-walkReport (stopped n t) = some (report n t)
+walkReport (stopped n t p) = some (reportAt n t p)
 
 -- "in phase 2 the walk stops at its first fault"
 unfoldable pub phase2 : List ℕ → Option Answer
@@ -53,14 +57,14 @@ phase5 T t = 14 when endless T t ∷ []
 unfoldable pub phase6 : Table → ℕ → List Rule
 phase6 T t = 15 when layoutBad T t ∷ []
 
--- "the smallest type, then the smallest number", of so many types from t on
-abbrev pub firstOf : (ℕ → List Rule) → ℕ → ℕ → Option Answer
-firstOf rules zero t = none
-firstOf rules (suc left) t =
-    let later = firstOf rules left (suc t) in orElse (naming t (firstDue (rules t))) later
+-- "the smallest type, then the smallest number", of so many types from t on, which stand at these places
+abbrev pub firstOf : (ℕ → ℕ) → (ℕ → List Rule) → ℕ → ℕ → Option Answer
+firstOf place rules zero t = none
+firstOf place rules (suc left) t =
+    let later = firstOf place rules left (suc t) in orElse (namingAt t (place t) (firstDue (rules t))) later
 
 unfoldable pub overTypes : (Table → ℕ → List Rule) → Table → Option Answer
-overTypes phase T = firstOf (phase T) (count T) 1
+overTypes phase T = firstOf (placeAt T) (phase T) (count T) 1
 
 -- what phases 3 to 6 say of a table; "The earliest phase speaks"
 unfoldable pub tableReport : Table → Option Answer

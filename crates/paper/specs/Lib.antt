@@ -26,3 +26,4 @@ pub mod Computes
 pub mod Fit
 pub mod Good
 pub mod Smallest
+pub mod Where

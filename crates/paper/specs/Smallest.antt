@@ -8,6 +8,7 @@ use Rattle.paper.specs.Answer.{Answer}
 use Rattle.paper.specs.Choice.{Rule, _when_}
 use Rattle.paper.specs.Gate.{phase3, phase4, phase5, phase6}
 use Rattle.paper.specs.Table.{Table, count}
+use Rattle.paper.specs.Walk.{placeAt}
 
 -- none of some rules is due
 abbrev pub NoneDue : List Rule → Type 0
@@ -23,12 +24,14 @@ DueFirst n (m when due ∷ rules) = ((n ≡ m) × (due ≡ true)) ⊎ ((due ≡ 
 abbrev pub Silent : (Table → ℕ → List Rule) → Table → Type 0
 Silent phase T = (t : ℕ) → 1 ≤ t → t ≤ count T → NoneDue (phase T t)
 
--- in a phase the report's number is the smallest that is due at the type that it names, and no smaller type has a rule due
+-- in a phase the report's number is the smallest that is due at the type that it names, no smaller type has a rule due, and its
+-- place is that of the type's record
 pub record Smallest (phase : Table → ℕ → List Rule) (T : Table) (a : Answer) : Type 0 where
   pub low : 1 ≤ a .t
   pub high : a .t ≤ count T
   pub due : DueFirst (a .number) (phase T (a .t))
   pub smaller : (t : ℕ) → 1 ≤ t → t < a .t → NoneDue (phase T t)
+  pub placed : a .p ≡ placeAt T (a .t)
 
 -- which phase has spoken: every earlier one is silent
 pub data Spoken (T : Table) (a : Answer) : Type 0 where

@@ -16,23 +16,23 @@ pub struct Part {
     pub length: u32,
 }
 
-// The gate's reports 1 to 15, in the paper's order.
+// The gate's reports 1 to 15, in the paper's order: the type that each names, and where its record stands in the blob.
 pub enum Report {
     Length,
     Opening,
     HeaderLength,
     Sections,
     Strings,
-    RecordCut(TypeNo),
-    UnknownKind(TypeNo),
-    ManyTypes,
+    RecordCut(TypeNo, Place),
+    UnknownKind(TypeNo, Place),
+    ManyTypes(Place),
     SlicesShort,
-    Head(TypeNo),
-    Named(TypeNo),
-    Tail(TypeNo),
-    Reference(TypeNo),
-    Endless(TypeNo),
-    Layout(TypeNo),
+    Head(TypeNo, Place),
+    Named(TypeNo, Place),
+    Tail(TypeNo, Place),
+    Reference(TypeNo, Place),
+    Endless(TypeNo, Place),
+    Layout(TypeNo, Place),
 }
 
 // What a check answers: the count of types, or a report.

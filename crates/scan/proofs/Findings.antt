@@ -28,17 +28,17 @@ headerReport-section b silent e =
 -- a walk that counted has found as many records
 pub finding-records : (w : Walked) {n : ℕ} → findingOf w ≡ counted n → (w ≡ records (recordsIn w)) × (length (recordsIn w) ≡ n)
 finding-records (records rs) e = (refl, cc)
-finding-records (stopped n t) e = absurd (let z : _≡_ {A = ℕ} 0 1 = cc in omega arith)
+finding-records (stopped n t p) e = absurd (let z : _≡_ {A = ℕ} 0 1 = cc in omega arith)
 
 -- and there is nothing to report
 finding-silent : (w : Walked) {n : ℕ} → findingOf w ≡ counted n → walkReport w ≡ none
 finding-silent (records rs) e = refl
-finding-silent (stopped n t) e = absurd (let z : _≡_ {A = ℕ} 0 1 = cc in omega arith)
+finding-silent (stopped n t p) e = absurd (let z : _≡_ {A = ℕ} 0 1 = cc in omega arith)
 
 -- a walk that is refused has that report
 finding-report : (w : Walked) {a : Answer} → findingOf w ≡ refused a → walkReport w ≡ some a
 finding-report (records rs) e = absurd (let z : _≡_ {A = ℕ} 0 1 = cc in omega arith)
-finding-report (stopped n t) e = cc
+finding-report (stopped n t p) e = cc
 
 module _ (b : List ℕ) where
   pub counted-phase2 : {n : ℕ} → findingOf (walk b) ≡ counted n → phase2 b ≡ none

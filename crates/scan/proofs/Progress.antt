@@ -6,7 +6,7 @@ use mathlib.Core.List.{List}
 use native.Mathlib.Numerals.{add-one}
 use native.Mathlib.Omega.{arith}
 use lib.ListN.{length, drop}
-use Rattle.paper.specs.Answer.{report}
+use Rattle.paper.specs.Answer.{reportAt}
 use Rattle.paper.specs.Header.{headerLength}
 use Rattle.paper.specs.Limits.{typeLimit}
 use Rattle.paper.specs.Table.{Record, tailLength}
@@ -35,35 +35,35 @@ behind-behind j k (refused a) = refl
 
 findingOf-ahead : (r : Record) (w : Walked) → findingOf (ahead r w) ≡ behind 1 (findingOf w)
 findingOf-ahead r (records rs) = let same : suc (length rs) ≡ 1 + length rs = omega arith in ap counted same
-findingOf-ahead r (stopped n t) = refl
+findingOf-ahead r (stopped n t p) = refl
 
 -- ── one step ──
 
--- what a walk finds that has come to record k and has room for so many behind it, by how its step goes
-abbrev afterStep : List ℕ → ℕ → ℕ → ℕ → Step → Finding
-afterStep b end room k Cut = refused (report 6 k)
-afterStep b end room k Unknown = refused (report 7 k)
-afterStep b end room k (Next p) = behind 1 (findingOf (walkFrom room (suc k) (left b (p .0) end)))
+-- what a walk finds that has come to record k at a place and has room for so many behind it, by how its step goes
+abbrev afterStep : List ℕ → ℕ → ℕ → ℕ → ℕ → Step → Finding
+afterStep b end room k at Cut = refused (reportAt 6 k at)
+afterStep b end room k at Unknown = refused (reportAt 7 k at)
+afterStep b end room k at (Next p) = behind 1 (findingOf (walkFrom room (suc k) (p .0) (left b (p .0) end)))
 
 module _ (b : List ℕ) (end : ℕ) (inside : end ≤ length b) (room k at : ℕ) (more : at < end) (whole : (end - at) % 4 ≡ 0) where
-  walkFrom-step : {s : Step} → Way b at end s → findingOf (walkFrom (suc room) k (left b at end)) ≡ afterStep b end room k s
+  walkFrom-step : {s : Step} → Way b at end s → findingOf (walkFrom (suc room) k at (left b at end)) ≡ afterStep b end room k at s
   walkFrom-step (head-cut h) =
       let len = left-length b end inside at in
-      ap findingOf (walkFrom-short room k (left b at end) (omega arith) (omega arith))
+      ap findingOf (walkFrom-short room k at (left b at end) (omega arith) (omega arith))
   walkFrom-step (unknown h e) =
-      ap (λ (ws : List ℕ). findingOf (walkFrom (suc room) k ws)) (left-head b end inside at h)
-      ∙ ap findingOf (walkRecord-unknown _ k _ (wordAt lowFirst b (at + 4)) _ _ e)
+      ap (λ (ws : List ℕ). findingOf (walkFrom (suc room) k at ws)) (left-head b end inside at h)
+      ∙ ap findingOf (walkRecord-unknown _ k at _ (wordAt lowFirst b (at + 4)) _ _ e)
   walkFrom-step (tail-cut h e n) =
       let len = left-length b end inside (at + 12) in
-      ap (λ (ws : List ℕ). findingOf (walkFrom (suc room) k ws)) (left-head b end inside at h)
-      ∙ ap findingOf (walkRecord-cut _ k _ (wordAt lowFirst b (at + 4)) _ _ e (omega arith))
+      ap (λ (ws : List ℕ). findingOf (walkFrom (suc room) k at ws)) (left-head b end inside at h)
+      ∙ ap findingOf (walkRecord-cut _ k at _ (wordAt lowFirst b (at + 4)) _ _ e (omega arith))
   walkFrom-step (onward h e n) =
       let len = left-length b end inside (at + 12) in
       let tail = left b (at + 12) end in
-      let rest : List ℕ → Walked = λ ws. walkFrom room (suc k) ws in
       let words = tailLength (wordAt lowFirst b (at + 4)) in
-      ap (λ (ws : List ℕ). findingOf (walkFrom (suc room) k ws)) (left-head b end inside at h)
-      ∙ ap findingOf (walkRecord-onward rest k _ (wordAt lowFirst b (at + 4)) _ tail e (omega arith))
+      let rest : List ℕ → Walked = λ ws. walkFrom room (suc k) (at + 12 + 4 * words) ws in
+      ap (λ (ws : List ℕ). findingOf (walkFrom (suc room) k at ws)) (left-head b end inside at h)
+      ∙ ap findingOf (walkRecord-onward rest k at _ (wordAt lowFirst b (at + 4)) _ tail e (omega arith))
       ∙ findingOf-ahead (recordFrom (wordAt lowFirst b at) (wordAt lowFirst b (at + 4)) (wordAt lowFirst b (at + 8)) tail) (rest (drop words tail))
       ∙ ap (λ (ws : List ℕ). behind 1 (findingOf (rest ws))) (left-drop b end inside words (at + 12) n)
 
@@ -71,7 +71,7 @@ module _ (b : List ℕ) (end : ℕ) (inside : end ≤ length b) (room k at : ℕ
 
 -- what a walk finds that has counted so many records and stands at a place
 abbrev fromHere : List ℕ → ℕ → ℕ → ℕ → Finding
-fromHere b end count at = behind count (findingOf (walkFrom (typeLimit - count) (count + 1) (left b at end)))
+fromHere b end count at = behind count (findingOf (walkFrom (typeLimit - count) (count + 1) at (left b at end)))
 
 -- a walk that has counted so many records and stands at a place, with whole words left
 pub record Standing (b : List ℕ) (end count at : ℕ) : Type 0 where
@@ -91,9 +91,9 @@ standing-start b n s =
       whole = omega (arith, s .whole-words);
       few = omega arith;
       finds =
-          ap (λ (ws : List ℕ). findingOf (walkFrom typeLimit 1 ws)) (typeWords-left b)
-          ∙ ap (λ (m : ℕ). findingOf (walkFrom typeLimit 1 (left b headerLength (headerLength + m)))) (sym (s .is-type-len))
-          ∙ sym (behind-none (findingOf (walkFrom typeLimit 1 (left b headerLength (headerLength + n)))));
+          ap (λ (ws : List ℕ). findingOf (walkFrom typeLimit 1 headerLength ws)) (typeWords-left b)
+          ∙ ap (λ (m : ℕ). findingOf (walkFrom typeLimit 1 headerLength (left b headerLength (headerLength + m)))) (sym (s .is-type-len))
+          ∙ sym (behind-none (findingOf (walkFrom typeLimit 1 headerLength (left b headerLength (headerLength + n)))));
     }
 
 module _ (b : List ℕ) (end count at : ℕ) (st : Standing b end count at) where
@@ -104,30 +104,30 @@ module _ (b : List ℕ) (end count at : ℕ) (st : Standing b end count at) wher
       let same : count + 0 ≡ count = omega arith in
       st .finds
       ∙ ap (fromHere b end count) there
-      ∙ ap (λ (ws : List ℕ). behind count (findingOf (walkFrom (typeLimit - count) (count + 1) ws))) (left-end b end)
-      ∙ ap (λ (w : Walked). behind count (findingOf w)) (walkFrom-done (typeLimit - count) (count + 1))
+      ∙ ap (λ (ws : List ℕ). behind count (findingOf (walkFrom (typeLimit - count) (count + 1) end ws))) (left-end b end)
+      ∙ ap (λ (w : Walked). behind count (findingOf w)) (walkFrom-done (typeLimit - count) (count + 1) end)
       ∙ ap counted same
 
   -- 8: something is left behind the last record that may stand
-  pub standing-full : at < end → count ≡ typeLimit → findingOf (walk b) ≡ refused (report 8 (typeLimit + 1))
+  pub standing-full : at < end → count ≡ typeLimit → findingOf (walk b) ≡ refused (reportAt 8 (typeLimit + 1) at)
   standing-full more e =
       let some : 0 < length (left b at end) = omega (arith, left-length b end (st .inside) at, st .whole) in
       st .finds
       ∙ ap (λ (n : ℕ). fromHere b end n at) e
-      ∙ ap (λ (w : Walked). behind typeLimit (findingOf w)) (walkFrom-full (typeLimit + 1) (left b at end) some)
+      ∙ ap (λ (w : Walked). behind typeLimit (findingOf w)) (walkFrom-full (typeLimit + 1) at (left b at end) some)
 
 -- what a step from there tells: a report, or that the walk stands further on
 abbrev pub Told : List ℕ → ℕ → ℕ → ℕ → Step → Type 0
-Told b end count at Cut = findingOf (walk b) ≡ refused (report 6 (count + 1))
-Told b end count at Unknown = findingOf (walk b) ≡ refused (report 7 (count + 1))
+Told b end count at Cut = findingOf (walk b) ≡ refused (reportAt 6 (count + 1) at)
+Told b end count at Unknown = findingOf (walk b) ≡ refused (reportAt 7 (count + 1) at)
 Told b end count at (Next p) = (at < p .0) × Standing b end (count + 1) (p .0)
 
 module _ (b : List ℕ) (end count at : ℕ) (st : Standing b end count at) (more : at < end) (room : count ≡ typeLimit → ⊥) where
-  stepped : {s : Step} → Way b at end s → findingOf (walk b) ≡ behind count (afterStep b end (typeLimit - (count + 1)) (count + 1) s)
+  stepped : {s : Step} → Way b at end s → findingOf (walk b) ≡ behind count (afterStep b end (typeLimit - (count + 1)) (count + 1) at s)
   stepped way =
       let one : typeLimit - count ≡ suc (typeLimit - (count + 1)) = omega (arith, st .few) in
       st .finds
-      ∙ ap (λ (n : ℕ). behind count (findingOf (walkFrom n (count + 1) (left b at end)))) one
+      ∙ ap (λ (n : ℕ). behind count (findingOf (walkFrom n (count + 1) at (left b at end)))) one
       ∙ ap (behind count) (walkFrom-step b end (st .inside) (typeLimit - (count + 1)) (count + 1) at more (st .whole) way)
 
   told : {s : Step} → Way b at end s → Told b end count at s
@@ -135,7 +135,8 @@ module _ (b : List ℕ) (end count at : ℕ) (st : Standing b end count at) (mor
   told (unknown h e) = stepped (unknown h e)
   told (tail-cut h e n) = stepped (tail-cut h e n)
   told (onward h e n) =
-      let rest : ℕ → Finding = λ k. findingOf (walkFrom (typeLimit - (count + 1)) k (left b (at + 12 + 4 * tailLength (wordAt lowFirst b (at + 4))) end)) in (
+      let next = at + 12 + 4 * tailLength (wordAt lowFirst b (at + 4)) in
+      let rest : ℕ → Finding = λ k. findingOf (walkFrom (typeLimit - (count + 1)) k next (left b next end)) in (
         omega arith,
         record {
           inside = st .inside;

@@ -53,32 +53,32 @@ way-stepFrom (onward h k n) = simp (le-leb _ _ h, k, le-leb _ _ n)
 -- ── a step of the walk ──
 
 -- where no words are left, the walk is done
-pub walkFrom-done : (room k : ℕ) → walkFrom room k [] ≡ records []
-walkFrom-done zero k = refl
-walkFrom-done (suc room) k = refl
+pub walkFrom-done : (room k p : ℕ) → walkFrom room k p [] ≡ records []
+walkFrom-done zero k p = refl
+walkFrom-done (suc room) k p = refl
 
 -- words are left and there is no room for a record more
-pub walkFrom-full : (k : ℕ) (ws : List ℕ) → 0 < length ws → walkFrom 0 k ws ≡ stopped 8 k
-walkFrom-full k [] h = absurd (omega arith)
-walkFrom-full k (w ∷ ws) h = refl
+pub walkFrom-full : (k p : ℕ) (ws : List ℕ) → 0 < length ws → walkFrom 0 k p ws ≡ stopped 8 k p
+walkFrom-full k p [] h = absurd (omega arith)
+walkFrom-full k p (w ∷ ws) h = refl
 
 -- fewer words are left than a head has
-pub walkFrom-short : (room k : ℕ) (ws : List ℕ) → 0 < length ws → length ws < 3 → walkFrom (suc room) k ws ≡ stopped 6 k
-walkFrom-short room k [] h l = absurd (omega arith)
-walkFrom-short room k (n ∷ []) h l = refl
-walkFrom-short room k (n ∷ i ∷ []) h l = refl
-walkFrom-short room k (n ∷ i ∷ t ∷ ws) h l = absurd (omega arith)
+pub walkFrom-short : (room k p : ℕ) (ws : List ℕ) → 0 < length ws → length ws < 3 → walkFrom (suc room) k p ws ≡ stopped 6 k p
+walkFrom-short room k p [] h l = absurd (omega arith)
+walkFrom-short room k p (n ∷ []) h l = refl
+walkFrom-short room k p (n ∷ i ∷ []) h l = refl
+walkFrom-short room k p (n ∷ i ∷ t ∷ ws) h l = absurd (omega arith)
 
-module _ (rest : List ℕ → Walked) (k n i t : ℕ) (ws : List ℕ) where
-  pub walkRecord-unknown : known (kindIn i) ≡ false → walkRecord rest k n i t ws ≡ stopped 7 k
+module _ (rest : List ℕ → Walked) (k p n i t : ℕ) (ws : List ℕ) where
+  pub walkRecord-unknown : known (kindIn i) ≡ false → walkRecord rest k p n i t ws ≡ stopped 7 k p
   unfolding walkRecord
   walkRecord-unknown e = rw e
 
-  pub walkRecord-cut : known (kindIn i) ≡ true → length ws < tailLength i → walkRecord rest k n i t ws ≡ stopped 6 k
+  pub walkRecord-cut : known (kindIn i) ≡ true → length ws < tailLength i → walkRecord rest k p n i t ws ≡ stopped 6 k p
   unfolding walkRecord
   walkRecord-cut e h = rw (e, lt-leb _ _ h)
 
   pub walkRecord-onward : known (kindIn i) ≡ true → tailLength i ≤ length ws
-      → walkRecord rest k n i t ws ≡ ahead (recordFrom n i t ws) (rest (drop (tailLength i) ws))
+      → walkRecord rest k p n i t ws ≡ ahead (recordFrom n i t ws) (rest (drop (tailLength i) ws))
   unfolding walkRecord
   walkRecord-onward e h = rw (e, le-leb _ _ h)

@@ -5,7 +5,7 @@ use mathlib.Core.Bool.{cond}
 use mathlib.Core.List.{List}
 use lib.Dec.{leb}
 use lib.ListN.{length}
-use Rattle.paper.specs.Answer.{Answer, report, reportAsPaper}
+use Rattle.paper.specs.Answer.{Answer, reportAt, reportAsPaper}
 use Rattle.paper.specs.Header.{headerLength, typeLen}
 use Rattle.paper.specs.Limits.{byteLimit}
 use Rattle.paper.specs.Table.{kindIn, tailLength}
@@ -31,7 +31,7 @@ pub data Finding : Type 0 where
 
 abbrev pub findingOf : paper.Walked → Finding
 findingOf (records rs) = counted (length rs)
-findingOf (stopped n t) = refused (report n t)
+findingOf (stopped n t p) = refused (reportAt n t p)
 
 abbrev pub walkedAsPaper : Walked → Finding
 walkedAsPaper (Whole n) = counted n

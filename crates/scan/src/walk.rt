@@ -53,14 +53,14 @@ pub(crate) fn walk(b: &[u8], len: u32) -> Walked
     let mut count: u32 = 0;
     while at < end {
         if count == 4096 {
-            return Walked::Stopped(Report::ManyTypes);
-        }
-        match step_from(b, Place(at), Place(end)) {
-            Step::Next(next) => at = next.0,
-            Step::Cut => return Walked::Stopped(Report::RecordCut(TypeNo(count + 1))),
-            Step::Unknown => return Walked::Stopped(Report::UnknownKind(TypeNo(count + 1))),
+            return Walked::Stopped(Report::ManyTypes(Place(at)));
         }
         count += 1;
+        match step_from(b, Place(at), Place(end)) {
+            Step::Next(next) => at = next.0,
+            Step::Cut => return Walked::Stopped(Report::RecordCut(TypeNo(count), Place(at))),
+            Step::Unknown => return Walked::Stopped(Report::UnknownKind(TypeNo(count), Place(at))),
+        }
     }
     Walked::Whole(count)
 }

@@ -18,8 +18,8 @@ pub fn judged(m: &Make) -> Result<u32, Report> {
     gate(&m.blob())
 }
 
-pub fn refused(number: u32, type_number: u32) -> Result<u32, Report> {
-    Err(Report::new(number, type_number))
+pub fn refused(number: u32, type_number: u32, place: u32) -> Result<u32, Report> {
+    Err(Report::new(number, type_number, place))
 }
 
 /// The size of a type of an accepted table.

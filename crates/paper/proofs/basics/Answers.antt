@@ -22,9 +22,9 @@ module _ {A : Type 0} (f : A → Answer) (back : Answer → A) (undoes : (a : A)
 
 -- ── a check's answer ──
 
--- what number n and type t mean: 0 the count, else the report
-checkedOf : ℕ → ℕ → Checked
-checkedOf n t =
+-- what number n, type t and place p mean: 0 the count, else the report
+checkedOf : ℕ → ℕ → ℕ → Checked
+checkedOf n t p =
     getD
     (Accepted t
     ∷ Refused Length
@@ -32,21 +32,21 @@ checkedOf n t =
     ∷ Refused HeaderLength
     ∷ Refused Sections
     ∷ Refused Strings
-    ∷ Refused (RecordCut (record { 0 = t }))
-    ∷ Refused (UnknownKind (record { 0 = t }))
-    ∷ Refused ManyTypes
+    ∷ Refused (RecordCut (record { 0 = t }) (record { 0 = p }))
+    ∷ Refused (UnknownKind (record { 0 = t }) (record { 0 = p }))
+    ∷ Refused (ManyTypes (record { 0 = p }))
     ∷ Refused SlicesShort
-    ∷ Refused (Head (record { 0 = t }))
-    ∷ Refused (Named (record { 0 = t }))
-    ∷ Refused (Tail (record { 0 = t }))
-    ∷ Refused (Reference (record { 0 = t }))
-    ∷ Refused (Endless (record { 0 = t }))
-    ∷ Refused (Layout (record { 0 = t }))
+    ∷ Refused (Head (record { 0 = t }) (record { 0 = p }))
+    ∷ Refused (Named (record { 0 = t }) (record { 0 = p }))
+    ∷ Refused (Tail (record { 0 = t }) (record { 0 = p }))
+    ∷ Refused (Reference (record { 0 = t }) (record { 0 = p }))
+    ∷ Refused (Endless (record { 0 = t }) (record { 0 = p }))
+    ∷ Refused (Layout (record { 0 = t }) (record { 0 = p }))
     ∷ [])
     n (Accepted t)
 
 checkedBack : Answer → Checked
-checkedBack a = checkedOf (a .number) (a .t)
+checkedBack a = checkedOf (a .number) (a .t) (a .p)
 
 refused-back : (r : Report) → checkedBack (reportAsPaper r) ≡ Refused r
 unfolding reportAsPaper checkedBack checkedOf
@@ -55,16 +55,16 @@ refused-back Opening = refl
 refused-back HeaderLength = refl
 refused-back Sections = refl
 refused-back Strings = refl
-refused-back (RecordCut t) = refl
-refused-back (UnknownKind t) = refl
-refused-back ManyTypes = refl
+refused-back (RecordCut t p) = refl
+refused-back (UnknownKind t p) = refl
+refused-back (ManyTypes p) = refl
 refused-back SlicesShort = refl
-refused-back (Head t) = refl
-refused-back (Named t) = refl
-refused-back (Tail t) = refl
-refused-back (Reference t) = refl
-refused-back (Endless t) = refl
-refused-back (Layout t) = refl
+refused-back (Head t p) = refl
+refused-back (Named t p) = refl
+refused-back (Tail t p) = refl
+refused-back (Reference t p) = refl
+refused-back (Endless t p) = refl
+refused-back (Layout t p) = refl
 
 checked-back : (c : Checked) → checkedBack (checkedAsPaper c) ≡ c
 unfolding checkedAsPaper checkedBack checkedOf
@@ -76,7 +76,7 @@ pub report-number : (r : Report) → reportAsPaper r .number ≡ 0 → ⊥
 unfolding checkedBack checkedOf
 report-number r e =
     let a = reportAsPaper r in
-    let back : Accepted (a .t) ≡ Refused r = sym (ap (λ (n : ℕ). checkedOf n (a .t)) e) ∙ refused-back r in
+    let back : Accepted (a .t) ≡ Refused r = sym (ap (λ (n : ℕ). checkedOf n (a .t) (a .p)) e) ∙ refused-back r in
     let z : _≡_ {A = ℕ} 0 1 = cc in
     omega arith
 
@@ -108,9 +108,9 @@ sized-back TooFar = refl
 
 -- ── a join ──
 
--- the report inside, from the inner number and the type
+-- the report inside, from the inner number, the type and the place
 reportInside : Answer → Report
-reportInside a = reportIn (checkedOf (a .inner) (a .t))
+reportInside a = reportIn (checkedOf (a .inner) (a .t) (a .p))
 
 joinedBack : Answer → Joined
 joinedBack a =

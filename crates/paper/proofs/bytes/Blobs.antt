@@ -120,7 +120,7 @@ records-tableOf b e = ap recordsIn e
 -- what the walk of a blob has found
 pub tableOf-found : (b : List ℕ) (rs : List Record) → walk b ≡ records rs → WholeWalk typeLimit (typeWords b) (tableOf b .records)
 unfolding walk
-tableOf-found b rs e = rw (records-tableOf b e) (flat-walkFrom typeLimit 1 (typeWords b) rs e)
+tableOf-found b rs e = rw (records-tableOf b e) (flat-walkFrom typeLimit 1 headerLength (typeWords b) rs e)
 
 -- the headline: the blob of the table that a blob holds is that blob
 pub bytesOf-tableOf : (b : List ℕ) → Bytes b → headerReport b ≡ none → (rs : List Record) → walk b ≡ records rs → bytesOf (orderOf b) (tableOf b) ≡ b

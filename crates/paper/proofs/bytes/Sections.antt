@@ -17,10 +17,10 @@ use Rattle.paper.specs.Walk.{Walked, records, stopped, ahead, known, wal
 -- ── one step ──
 
 -- a whole record is found, whatever follows it
-pub walkRecord-whole : (rest : List ℕ → Walked) (k : ℕ) (r : Record) (ws : List ℕ) → Whole r
-    → walkRecord rest k (r .nameOff) (r .info) (r .third) (r .tail ++ ws) ≡ ahead r (rest ws)
+pub walkRecord-whole : (rest : List ℕ → Walked) (k p : ℕ) (r : Record) (ws : List ℕ) → Whole r
+    → walkRecord rest k p (r .nameOff) (r .info) (r .third) (r .tail ++ ws) ≡ ahead r (rest ws)
 unfolding walkRecord
-walkRecord-whole rest k r ws h =
+walkRecord-whole rest k p r ws h =
     let fits : tailLength (r .info) ≤ length (r .tail ++ ws) = omega (arith, length-append (r .tail) ws, h .whole-tail) in
     rw (h .known-kind, le-leb _ _ fits, take-at (r .tail) ws (tailLength (r .info)) (h .whole-tail), drop-at (r .tail) ws (tailLength (r .info)) (h .whole-tail)) refl
 
@@ -37,28 +37,28 @@ pub record Stepped (rest : List ℕ → Walked) (n i t : ℕ) (ws : List ℕ) (r
   pub all : rs ≡ recordFrom n i t ws ∷ later
 
 -- both tests of a step pass where it does not stop
-through : (a b : Bool) (w : Walked) (k : ℕ) (rs : List Record) → cond a (cond b w (stopped 6 k)) (stopped 7 k) ≡ records rs
+through : (a b : Bool) (w : Walked) (k p : ℕ) (rs : List Record) → cond a (cond b w (stopped 6 k p)) (stopped 7 k p) ≡ records rs
     → (a ≡ true) × (b ≡ true) × (w ≡ records rs)
-through true true w k rs e = (refl, refl, e)
-through true false w k rs e = absurd (let z : _≡_ {A = ℕ} 0 1 = cc in omega arith)
-through false b w k rs e = absurd (let z : _≡_ {A = ℕ} 0 1 = cc in omega arith)
+through true true w k p rs e = (refl, refl, e)
+through true false w k p rs e = absurd (let z : _≡_ {A = ℕ} 0 1 = cc in omega arith)
+through false b w k p rs e = absurd (let z : _≡_ {A = ℕ} 0 1 = cc in omega arith)
 
 -- a record ahead of a walk is the first of what is found
 ahead-records : (r : Record) (w : Walked) (rs : List Record) → ahead r w ≡ records rs → (later : List Record) × (w ≡ records later) × (rs ≡ r ∷ later)
 ahead-records r (records later) rs e = (later, refl, cc)
-ahead-records r (stopped n t) rs e = absurd (let z : _≡_ {A = ℕ} 0 1 = cc in omega arith)
+ahead-records r (stopped n t p) rs e = absurd (let z : _≡_ {A = ℕ} 0 1 = cc in omega arith)
 
 -- a step that does not stop has found its record and gone on
-pub walkRecord-stepped : (rest : List ℕ → Walked) (k n i t : ℕ) (ws : List ℕ) (rs : List Record)
-    → walkRecord rest k n i t ws ≡ records rs → Stepped rest n i t ws rs
+pub walkRecord-stepped : (rest : List ℕ → Walked) (k p n i t : ℕ) (ws : List ℕ) (rs : List Record)
+    → walkRecord rest k p n i t ws ≡ records rs → Stepped rest n i t ws rs
 unfolding walkRecord
-walkRecord-stepped rest k n i t ws rs e =
-    let p = through (known (kindIn i)) (leb (tailLength i) (length ws)) (ahead (recordFrom n i t ws) (rest (drop (tailLength i) ws))) k rs e in
-    let a = ahead-records (recordFrom n i t ws) (rest (drop (tailLength i) ws)) rs (p .2) in
+walkRecord-stepped rest k p n i t ws rs e =
+    let both = through (known (kindIn i)) (leb (tailLength i) (length ws)) (ahead (recordFrom n i t ws) (rest (drop (tailLength i) ws))) k p rs e in
+    let a = ahead-records (recordFrom n i t ws) (rest (drop (tailLength i) ws)) rs (both .2) in
     record {
       later = a .0;
-      known-kind = p .0;
-      tail-fits = leb-true (tailLength i) (length ws) (p .1);
+      known-kind = both .0;
+      tail-fits = leb-true (tailLength i) (length ws) (both .1);
       goes-on = a .1;
       all = a .2;
     }
@@ -66,13 +66,13 @@ walkRecord-stepped rest k n i t ws rs e =
 -- ── the whole walk ──
 
 -- whole records are found again in their words, where there is room for them
-pub walkFrom-flat : (room k : ℕ) (rs : List Record) → EveryWhole rs → length rs ≤ room → walkFrom room k (flat rs) ≡ records rs
-walkFrom-flat zero k [] h few = refl
-walkFrom-flat zero k (r ∷ rs) h few = absurd (omega arith)
-walkFrom-flat (suc room) k [] h few = refl
-walkFrom-flat (suc room) k (r ∷ rs) h few =
-    walkRecord-whole (λ (left : List ℕ). walkFrom room (suc k) left) k r (flat rs) (h .0)
-    ∙ ap (ahead r) (walkFrom-flat room (suc k) rs (h .1) (omega arith))
+pub walkFrom-flat : (room k p : ℕ) (rs : List Record) → EveryWhole rs → length rs ≤ room → walkFrom room k p (flat rs) ≡ records rs
+walkFrom-flat zero k p [] h few = refl
+walkFrom-flat zero k p (r ∷ rs) h few = absurd (omega arith)
+walkFrom-flat (suc room) k p [] h few = refl
+walkFrom-flat (suc room) k p (r ∷ rs) h few =
+    walkRecord-whole _ k p r (flat rs) (h .0)
+    ∙ ap (ahead r) (walkFrom-flat room (suc k) _ rs (h .1) (omega arith))
 
 -- no words, no records
 found-none : (room : ℕ) (rs : List Record) → rs ≡ [] → WholeWalk room [] rs
@@ -89,12 +89,12 @@ found-step room n i t ws rest rs s f =
     })
 
 -- where a walk goes through, it has found whole records, and the words of what it found are the words that it walked
-pub flat-walkFrom : (room k : ℕ) (ws : List ℕ) (rs : List Record) → walkFrom room k ws ≡ records rs → WholeWalk room ws rs
-flat-walkFrom zero k [] rs e = found-none zero rs (cc)
-flat-walkFrom zero k (n ∷ ws) rs e = absurd (let z : _≡_ {A = ℕ} 0 1 = cc in omega arith)
-flat-walkFrom (suc room) k [] rs e = found-none (suc room) rs (cc)
-flat-walkFrom (suc room) k (n ∷ []) rs e = absurd (let z : _≡_ {A = ℕ} 0 1 = cc in omega arith)
-flat-walkFrom (suc room) k (n ∷ i ∷ []) rs e = absurd (let z : _≡_ {A = ℕ} 0 1 = cc in omega arith)
-flat-walkFrom (suc room) k (n ∷ i ∷ t ∷ ws) rs e =
-    let s = walkRecord-stepped (λ (left : List ℕ). walkFrom room (suc k) left) k n i t ws rs e in
-    found-step room n i t ws (λ (left : List ℕ). walkFrom room (suc k) left) rs s (flat-walkFrom room (suc k) (drop (tailLength i) ws) (s .later) (s .goes-on))
+pub flat-walkFrom : (room k p : ℕ) (ws : List ℕ) (rs : List Record) → walkFrom room k p ws ≡ records rs → WholeWalk room ws rs
+flat-walkFrom zero k p [] rs e = found-none zero rs (cc)
+flat-walkFrom zero k p (n ∷ ws) rs e = absurd (let z : _≡_ {A = ℕ} 0 1 = cc in omega arith)
+flat-walkFrom (suc room) k p [] rs e = found-none (suc room) rs (cc)
+flat-walkFrom (suc room) k p (n ∷ []) rs e = absurd (let z : _≡_ {A = ℕ} 0 1 = cc in omega arith)
+flat-walkFrom (suc room) k p (n ∷ i ∷ []) rs e = absurd (let z : _≡_ {A = ℕ} 0 1 = cc in omega arith)
+flat-walkFrom (suc room) k p (n ∷ i ∷ t ∷ ws) rs e =
+    let s = walkRecord-stepped _ k p n i t ws rs e in
+    found-step room n i t ws _ rs s (flat-walkFrom room (suc k) _ (drop (tailLength i) ws) (s .later) (s .goes-on))

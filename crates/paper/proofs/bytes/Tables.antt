@@ -100,7 +100,7 @@ module _ (order : Order) (T : Table) where
     -- the walk of the blob finds the table's records
     pub walk-bytesOf : walk (bytesOf order T) ≡ records (T .records)
     unfolding walk
-    walk-bytesOf = ap (walkFrom typeLimit 1) typeWords-bytesOf ∙ walkFrom-flat typeLimit 1 (T .records) (h .whole) (h .types-fit)
+    walk-bytesOf = ap (walkFrom typeLimit 1 headerLength) typeWords-bytesOf ∙ walkFrom-flat typeLimit 1 headerLength (T .records) (h .whole) (h .types-fit)
 
     -- the blob of a table that fits holds that table
     pub tableOf-bytesOf : tableOf (bytesOf order T) ≡ T

@@ -17,7 +17,7 @@ use Rattle.paper.proofs.bytes.Tables.{length-bytesOf, walk-bytesOf, tab
 use Rattle.paper.specs.Fit.{Bytes, Fits}
 use Rattle.paper.specs.Gate.{naming, phase1, walkReport, phase2, sliceRules, shortSlices, refusal}
 use Rattle.paper.specs.Good.{Readable, Closed, Sound, Meets, Good}
-use Rattle.paper.specs.Header.{orderOf, stringsIn, headerReport}
+use Rattle.paper.specs.Header.{headerLength, orderOf, stringsIn, headerReport}
 use Rattle.paper.specs.Limits.{byteLimit, typeLimit}
 use Rattle.paper.specs.Table.{Table, count}
 use Rattle.paper.specs.Walk.{Walked, records, stopped, recordsIn, walkFrom, walk, tableOf, blobLength, bytesOf}
@@ -32,7 +32,7 @@ module _ (b : List ℕ) (places work : ℕ) where
     where
       go : (w : Walked) → walkReport w ≡ none → w ≡ records (recordsIn w)
       go (records rs) p = refl
-      go (stopped n t) p = absurd (some≢none p)
+      go (stopped n t at) p = absurd (some≢none p)
 
   pub silent-readable : phase1 b ≡ none → phase2 b ≡ none → shortSlices (count (tableOf b)) places work ≡ none → Readable b places work
   unfolding phase1 shortSlices
@@ -56,7 +56,7 @@ module _ (b : List ℕ) (places work : ℕ) where
     unfolding walk
     readable-walk =
         let s = r .section in
-        ap (walkFrom typeLimit 1) (sym (s .flat-found)) ∙ walkFrom-flat typeLimit 1 (tableOf b .records) (s .whole-found) (s .few-found)
+        ap (walkFrom typeLimit 1 headerLength) (sym (s .flat-found)) ∙ walkFrom-flat typeLimit 1 headerLength (tableOf b .records) (s .whole-found) (s .few-found)
 
     pub readable-phase2 : phase2 b ≡ none
     unfolding phase2

@@ -10,9 +10,9 @@ use native.Mathlib.Omega.{arith}
 use borrow.Author.Tests.{eqb-true, eqb-false, not-false}
 use lib.Dec.{eqb}
 use Rattle.paper.proofs.basics.Choices.{firstDue-none, none-firstDue, firstDue-some}
-use Rattle.paper.specs.Answer.{Answer, report}
+use Rattle.paper.specs.Answer.{Answer, reportAt}
 use Rattle.paper.specs.Choice.{Rule, firstDue, orElse}
-use Rattle.paper.specs.Gate.{naming, firstOf, overTypes, phase3, phase4, phase5, phase6, tableReport}
+use Rattle.paper.specs.Gate.{namingAt, naming, firstOf, overTypes, phase3, phase4, phase5, phase6, tableReport}
 use Rattle.paper.specs.Good.{Sound}
 use Rattle.paper.specs.Heads.{headBad}
 use Rattle.paper.specs.Join.{refusedInside}
@@ -22,6 +22,7 @@ use Rattle.paper.specs.References.{refBad}
 use Rattle.paper.specs.Smallest.{Silent, Smallest}
 use Rattle.paper.specs.Table.{Table, count}
 use Rattle.paper.specs.Tails.{tailBad}
+use Rattle.paper.specs.Walk.{placeAt}
 
 -- ── answers that may be missing ──
 
@@ -45,9 +46,12 @@ module _ {A : Type 0} where
   pub none-orElse : {a b : Option A} → a ≡ none → b ≡ none → orElse a b ≡ none
   none-orElse p q = ap₂ orElse p q
 
+namingAt-none : (t p : ℕ) (o : Option ℕ) → namingAt t p o ≡ none → o ≡ none
+namingAt-none t p none e = refl
+namingAt-none t p (some n) e = absurd (some≢none e)
+
 pub naming-none : (t : ℕ) (o : Option ℕ) → naming t o ≡ none → o ≡ none
-naming-none t none e = refl
-naming-none t (some n) e = absurd (some≢none e)
+naming-none t o e = namingAt-none t 0 o e
 
 pub refusedInside-none : (number : ℕ) (o : Option Answer) → refusedInside number o ≡ none → o ≡ none
 refusedInside-none number none e = refl
@@ -55,22 +59,22 @@ refusedInside-none number (some a) e = absurd (some≢none e)
 
 -- ── over types ──
 
-module _ (rules : ℕ → List Rule) where
-  firstOf-none : (left k : ℕ) → firstOf rules left k ≡ none → (t : ℕ) → k ≤ t → t < k + left → firstDue (rules t) ≡ none
+module _ (place : ℕ → ℕ) (rules : ℕ → List Rule) where
+  firstOf-none : (left k : ℕ) → firstOf place rules left k ≡ none → (t : ℕ) → k ≤ t → t < k + left → firstDue (rules t) ≡ none
   firstOf-none zero k e t low high = absurd (omega arith)
   firstOf-none (suc left) k e t low high =
-      let both = orElse-none (naming k (firstDue (rules k))) (firstOf rules left (suc k)) e in
-      go (naming-none k (firstDue (rules k)) (both .0)) (eqb t k) refl
+      let both = orElse-none (namingAt k (place k) (firstDue (rules k))) (firstOf place rules left (suc k)) e in
+      go (namingAt-none k (place k) (firstDue (rules k)) (both .0)) (eqb t k) refl
       (λ (p : suc k ≤ t). firstOf-none left (suc k) (both .1) t p (omega arith))
     where
       go : firstDue (rules k) ≡ none → (z : Bool) → eqb t k ≡ z → (suc k ≤ t → firstDue (rules t) ≡ none) → firstDue (rules t) ≡ none
       go here true x later = ap (λ (u : ℕ). firstDue (rules u)) (eqb-true t k x) ∙ here
       go here false x later = let ne = eqb-false t k x in later (omega arith)
 
-  none-firstOf : (left k : ℕ) → ((t : ℕ) → k ≤ t → t < k + left → firstDue (rules t) ≡ none) → firstOf rules left k ≡ none
+  none-firstOf : (left k : ℕ) → ((t : ℕ) → k ≤ t → t < k + left → firstDue (rules t) ≡ none) → firstOf place rules left k ≡ none
   none-firstOf zero k h = refl
   none-firstOf (suc left) k h =
-      none-orElse (ap (naming k) (h k (omega arith) (omega arith)))
+      none-orElse (ap (namingAt k (place k)) (h k (omega arith) (omega arith)))
       (none-firstOf left (suc k) (λ t low high. h t (omega arith) (omega arith)))
 
   -- a rule is due at a type from k on, of so many, at no smaller one, and the answer says which and where
@@ -79,8 +83,9 @@ module _ (rules : ℕ → List Rule) where
     high : a .t < k + left
     due : firstDue (rules (a .t)) ≡ some (a .number)
     smaller : (u : ℕ) → k ≤ u → u < a .t → firstDue (rules u) ≡ none
+    placed : a .p ≡ place (a .t)
 
-  firstOf-some : (left k : ℕ) (a : Answer) → firstOf rules left k ≡ some a → DueAt left k a
+  firstOf-some : (left k : ℕ) (a : Answer) → firstOf place rules left k ≡ some a → DueAt left k a
   firstOf-some zero k a e = absurd (some≢none (sym e))
   firstOf-some (suc left) k a e = go (firstDue (rules k)) refl e (firstOf-some left (suc k) a)
     where
@@ -88,13 +93,13 @@ module _ (rules : ℕ → List Rule) where
       at-k p u true x later low = ap (λ (v : ℕ). firstDue (rules v)) (eqb-true u k x) ∙ p
       at-k p u false x later low = let ne = eqb-false u k x in later (omega arith)
 
-      here : (n : ℕ) → firstDue (rules k) ≡ some n → report n k ≡ a → DueAt (suc left) k a
+      here : (n : ℕ) → firstDue (rules k) ≡ some n → reportAt n k (place k) ≡ a → DueAt (suc left) k a
       here n p q =
           subst (DueAt (suc left) k) q
-          (record { low = omega arith; high = omega arith; due = p; smaller = λ u low less. absurd (omega arith) })
+          (record { low = omega arith; high = omega arith; due = p; smaller = λ u low less. absurd (omega arith); placed = refl })
 
-      go : (o : Option ℕ) → firstDue (rules k) ≡ o → orElse (naming k o) (firstOf rules left (suc k)) ≡ some a
-          → (firstOf rules left (suc k) ≡ some a → DueAt left (suc k) a) → DueAt (suc left) k a
+      go : (o : Option ℕ) → firstDue (rules k) ≡ o → orElse (namingAt k (place k) o) (firstOf place rules left (suc k)) ≡ some a
+          → (firstOf place rules left (suc k) ≡ some a → DueAt left (suc k) a) → DueAt (suc left) k a
       go none p q later =
           let w = later q in
           record {
@@ -102,6 +107,7 @@ module _ (rules : ℕ → List Rule) where
             high = omega (arith, w .high);
             due = w .due;
             smaller = λ u low less. at-k p u (eqb u k) refl (λ more. w .smaller u more less) low;
+            placed = w .placed;
           }
       go (some n) p q later = here n p (cc)
 
@@ -110,18 +116,19 @@ module _ (rules : ℕ → List Rule) where
 module _ (T : Table) where
   overTypes-none : (phase : Table → ℕ → List Rule) → overTypes phase T ≡ none → (t : ℕ) → 1 ≤ t → t ≤ count T → firstDue (phase T t) ≡ none
   unfolding overTypes
-  overTypes-none phase e t low high = firstOf-none (phase T) (count T) 1 e t low (omega arith)
+  overTypes-none phase e t low high = firstOf-none (placeAt T) (phase T) (count T) 1 e t low (omega arith)
 
   -- a phase's report names the smallest type at which one of its rules is due, by the smallest number
   pub overTypes-some : (phase : Table → ℕ → List Rule) (a : Answer) → overTypes phase T ≡ some a → Smallest phase T a
   unfolding overTypes
   overTypes-some phase a e =
-      let d = firstOf-some (phase T) (count T) 1 a e in
+      let d = firstOf-some (placeAt T) (phase T) (count T) 1 a e in
       record {
         low = d .low;
         high = omega (arith, d .high);
         due = firstDue-some (phase T (a .t)) (a .number) (d .due);
         smaller = λ t low less. firstDue-none (phase T t) (d .smaller t low less);
+        placed = d .placed;
       }
 
   -- and where it has none, it is silent
@@ -130,7 +137,7 @@ module _ (T : Table) where
 
   none-overTypes : (phase : Table → ℕ → List Rule) → ((t : ℕ) → 1 ≤ t → t ≤ count T → firstDue (phase T t) ≡ none) → overTypes phase T ≡ none
   unfolding overTypes
-  none-overTypes phase h = none-firstOf (phase T) (count T) 1 (λ t low high. h t low (omega arith))
+  none-overTypes phase h = none-firstOf (placeAt T) (phase T) (count T) 1 (λ t low high. h t low (omega arith))
 
   pub tableReport-sound : tableReport T ≡ none → Sound T
   unfolding tableReport phase3 phase4 phase5 phase6 headBad nameBad tailBad refBad layoutBad

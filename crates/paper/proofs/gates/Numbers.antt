@@ -10,12 +10,12 @@ use lib.Dec.{leb}
 use lib.ListN.{length, take, drop}
 use Rattle.paper.specs.Answer.{Answer}
 use Rattle.paper.specs.Choice.{Rule, _when_, firstDue, orElse}
-use Rattle.paper.specs.Gate.{naming, phase1, walkReport, phase2, sliceRules, shortSlices, firstOf, phase3, phase4, phase5, phase6, overTypes, tableReport, refusal}
-use Rattle.paper.specs.Header.{headerRules, headerReport}
+use Rattle.paper.specs.Gate.{namingAt, naming, phase1, walkReport, phase2, sliceRules, shortSlices, firstOf, phase3, phase4, phase5, phase6, overTypes, tableReport, refusal}
+use Rattle.paper.specs.Header.{headerLength, headerRules, headerReport}
 use Rattle.paper.specs.Join.{refusedInside, limitRules, limitReport, joinRefusal}
 use Rattle.paper.specs.Limits.{typeLimit}
 use Rattle.paper.specs.Table.{Record, Table, count, kindIn, tailLength}
-use Rattle.paper.specs.Walk.{Walked, records, stopped, ahead, known, walkRecord, walkFrom, typeWords, walk, tableOf}
+use Rattle.paper.specs.Walk.{Walked, records, stopped, ahead, known, walkRecord, walkFrom, typeWords, walk, tableOf, placeAt}
 
 module _ (P : ℕ → Type 0) where
   -- the number of an answer, where there is one, has the property
@@ -32,19 +32,22 @@ module _ (P : ℕ → Type 0) where
   says-orElse none p h k = k
   says-orElse (some a) p h k = h
 
-  pub says-naming : (t : ℕ) (rules : List Rule) → Numbers rules → Says (naming t (firstDue rules))
-  says-naming t [] h = tt
-  says-naming t (n when true ∷ rules) h = h .0
-  says-naming t (n when false ∷ rules) h = says-naming t rules (h .1)
+  says-namingAt : (t p : ℕ) (rules : List Rule) → Numbers rules → Says (namingAt t p (firstDue rules))
+  says-namingAt t p [] h = tt
+  says-namingAt t p (n when true ∷ rules) h = h .0
+  says-namingAt t p (n when false ∷ rules) h = says-namingAt t p rules (h .1)
 
-  says-firstOf : (rules : ℕ → List Rule) → ((t : ℕ) → Numbers (rules t)) → (left k : ℕ) → Says (firstOf rules left k)
-  says-firstOf rules h zero k = tt
-  says-firstOf rules h (suc left) k =
-      says-orElse (naming k (firstDue (rules k))) (firstOf rules left (suc k)) (says-naming k (rules k) (h k)) (says-firstOf rules h left (suc k))
+  pub says-naming : (t : ℕ) (rules : List Rule) → Numbers rules → Says (naming t (firstDue rules))
+  says-naming t rules h = says-namingAt t 0 rules h
+
+  says-firstOf : (place : ℕ → ℕ) (rules : ℕ → List Rule) → ((t : ℕ) → Numbers (rules t)) → (left k : ℕ) → Says (firstOf place rules left k)
+  says-firstOf place rules h zero k = tt
+  says-firstOf place rules h (suc left) k =
+      says-orElse (namingAt k (place k) (firstDue (rules k))) (firstOf place rules left (suc k)) (says-namingAt k (place k) (rules k) (h k)) (says-firstOf place rules h left (suc k))
 
   pub says-overTypes : (phase : Table → ℕ → List Rule) (T : Table) → ((t : ℕ) → Numbers (phase T t)) → Says (overTypes phase T)
   unfolding overTypes
-  says-overTypes phase T h = says-firstOf (phase T) h (count T) 1
+  says-overTypes phase T h = says-firstOf (placeAt T) (phase T) h (count T) 1
 
   pub says-inside : (number : ℕ) → P number → (o : Option Answer) → Says (refusedInside number o)
   says-inside number h none = tt
@@ -55,41 +58,41 @@ module _ (P : ℕ → Type 0) where
   module _ (p6 : P 6) (p7 : P 7) (p8 : P 8) where
     abbrev WalkSays : Walked → Type 0
     WalkSays (records rs) = Unit {0}
-    WalkSays (stopped n t) = P n
+    WalkSays (stopped n t p) = P n
 
     says-ahead : (r : Record) (w : Walked) → WalkSays w → WalkSays (ahead r w)
     says-ahead r (records rs) h = tt
-    says-ahead r (stopped n t) h = h
+    says-ahead r (stopped n t p) h = h
 
-    says-either : (b c : Bool) (k : ℕ) (w : Walked) → WalkSays w → WalkSays (cond b (cond c w (stopped 6 k)) (stopped 7 k))
-    says-either true true k w h = h
-    says-either true false k w h = p6
-    says-either false c k w h = p7
+    says-either : (b c : Bool) (k p : ℕ) (w : Walked) → WalkSays w → WalkSays (cond b (cond c w (stopped 6 k p)) (stopped 7 k p))
+    says-either true true k p w h = h
+    says-either true false k p w h = p6
+    says-either false c k p w h = p7
 
-    says-walkRecord : (rest : List ℕ → Walked) (k n i t : ℕ) (ws : List ℕ) → ((left : List ℕ) → WalkSays (rest left))
-        → WalkSays (walkRecord rest k n i t ws)
+    says-walkRecord : (rest : List ℕ → Walked) (k p n i t : ℕ) (ws : List ℕ) → ((left : List ℕ) → WalkSays (rest left))
+        → WalkSays (walkRecord rest k p n i t ws)
     unfolding walkRecord
-    says-walkRecord rest k n i t ws h =
+    says-walkRecord rest k p n i t ws h =
         let r : Record = record { nameOff = n; info = i; third = t; tail = take (tailLength i) ws } in
         let w = rest (drop (tailLength i) ws) in
-        says-either (known (kindIn i)) (leb (tailLength i) (length ws)) k (ahead r w) (says-ahead r w (h (drop (tailLength i) ws)))
+        says-either (known (kindIn i)) (leb (tailLength i) (length ws)) k p (ahead r w) (says-ahead r w (h (drop (tailLength i) ws)))
 
-    says-walkFrom : (room k : ℕ) (ws : List ℕ) → WalkSays (walkFrom room k ws)
-    says-walkFrom zero k [] = tt
-    says-walkFrom zero k (n ∷ ws) = p8
-    says-walkFrom (suc room) k [] = tt
-    says-walkFrom (suc room) k (n ∷ []) = p6
-    says-walkFrom (suc room) k (n ∷ i ∷ []) = p6
-    says-walkFrom (suc room) k (n ∷ i ∷ t ∷ ws) =
-        says-walkRecord (λ (left : List ℕ). walkFrom room (suc k) left) k n i t ws (λ left. says-walkFrom room (suc k) left)
+    says-walkFrom : (room k p : ℕ) (ws : List ℕ) → WalkSays (walkFrom room k p ws)
+    says-walkFrom zero k p [] = tt
+    says-walkFrom zero k p (n ∷ ws) = p8
+    says-walkFrom (suc room) k p [] = tt
+    says-walkFrom (suc room) k p (n ∷ []) = p6
+    says-walkFrom (suc room) k p (n ∷ i ∷ []) = p6
+    says-walkFrom (suc room) k p (n ∷ i ∷ t ∷ ws) =
+        says-walkRecord _ k p n i t ws (λ left. says-walkFrom room (suc k) _ left)
 
     says-report : (w : Walked) → WalkSays w → Says (walkReport w)
     says-report (records rs) h = tt
-    says-report (stopped n t) h = h
+    says-report (stopped n t p) h = h
 
     pub says-phase2 : (b : List ℕ) → Says (phase2 b)
     unfolding phase2 walk
-    says-phase2 b = says-report (walk b) (says-walkFrom typeLimit 1 (typeWords b))
+    says-phase2 b = says-report (walk b) (says-walkFrom typeLimit 1 headerLength (typeWords b))
 
   -- ── the other phases ──
 

@@ -1,15 +1,17 @@
 -- "Joined unless": a join is made exactly where both tables are accepted and the limits and the room allow it; else 16 to 20, in that order.
 -- Assumes nothing.
 use Prim.Native.Nat.{ℕ, _+_, _≤_, _<_}
-use mathlib.Core.Path.{_≡_, refl, ap, ap₂, _∙_}
+use mathlib.Core.Path.{_≡_, refl, ap, ap₂, _∙_, subst}
 use mathlib.Core.Bool.{Bool, false}
 use mathlib.Core.List.{List, [], _∷_}
 use mathlib.Core.Option.{Option, none, some}
+use native.Mathlib.Omega.{arith}
 use borrow.Author.Tests.{ltb-false, le-ltb, lt-ltb}
 use lib.Dec.{ltb}
 use lib.ListN.{length}
 use Rattle.paper.proofs.basics.Choices.{firstDue-none, none-firstDue}
 use Rattle.paper.proofs.gates.Gates.{orElse-none, none-orElse, naming-none, refusedInside-none}
+use Rattle.paper.proofs.gates.Numbers.{Says, says-orElse, says-naming, says-inside}
 use Rattle.paper.specs.Answer.{Answer, report, inside}
 use Rattle.paper.specs.Choice.{_when_, firstDue, orElse}
 use Rattle.paper.specs.Gate.{naming, refusal}
@@ -87,3 +89,34 @@ module _ (a b : List ℕ) (places work room : ℕ) where
             joinRefusal-limits
             ∙ ap₂ (λ (x y : Bool). spoken x y (ltb room (length (joinedBytes a b)))) few-test (le-ltb _ _ short)
             ∙ ap (λ (z : Bool). spoken false false z) (lt-ltb _ _ h)
+
+-- ── the report inside is the refused table's own, with its type and its place ──
+
+module _ (a b : List ℕ) (places work room : ℕ) {y : Answer} (e : joinRefusal a b places work room ≡ some y) where
+  -- a refusal with one of two tables, or a later ground
+  within : (n : ℕ) (o rest : Option Answer) → orElse (refusedInside n o) rest ≡ some y → Says (λ (m : ℕ). n < m) rest → y .number ≡ n
+      → (x : Answer) × (o ≡ some x) × (y ≡ inside n x)
+  within n none rest q later is = absurd (let m = subst (Says (λ (m : ℕ). n < m)) q later in omega arith)
+  within n (some x) rest q later is = (x, refl, cc)
+
+  after-17 : Says (λ (m : ℕ). 17 < m) (limitReport a b room)
+  unfolding limitReport
+  after-17 = says-naming (λ (m : ℕ). 17 < m) 0 (limitRules a b room) (omega arith, (omega arith, (omega arith, tt)))
+
+  pub inside-16 : y .number ≡ 16 → (x : Answer) × (refusal a places work ≡ some x) × (y ≡ inside 16 x)
+  unfolding joinRefusal limitReport
+  inside-16 is =
+      let Later : ℕ → Type 0 = λ m. 16 < m in
+      within 16 (refusal a places work) _ e
+      (says-orElse Later (refusedInside 17 (refusal b places work)) _ (says-inside Later 17 (omega arith) (refusal b places work))
+      (says-naming Later 0 (limitRules a b room) (omega arith, (omega arith, (omega arith, tt))))) is
+
+  pub inside-17 : y .number ≡ 17 → (x : Answer) × (refusal b places work ≡ some x) × (y ≡ inside 17 x)
+  unfolding joinRefusal
+  inside-17 is =
+      within 17 (refusal b places work) (limitReport a b room) (past-16 (refusal a places work) e) after-17 is
+    where
+      past-16 : (o : Option Answer) → orElse (refusedInside 16 o) (orElse (refusedInside 17 (refusal b places work)) (limitReport a b room)) ≡ some y
+          → orElse (refusedInside 17 (refusal b places work)) (limitReport a b room) ≡ some y
+      past-16 none q = q
+      past-16 (some x) q = absurd (let n : 16 ≡ y .number = cc in omega arith)

@@ -7,8 +7,8 @@ use denote.Ref.{now}
 use Rattle.gate.proofs.Looks.{heads-due}
 use Rattle.paper.specs.Answer.{reportAsPaper}
 use Rattle.paper.specs.Choice.{firstDue}
-use Rattle.paper.specs.Gate.{naming, phase3}
-use Rattle.paper.specs.Walk.{tableOf}
+use Rattle.paper.specs.Gate.{namingAt, phase3}
+use Rattle.paper.specs.Walk.{placeAt, tableOf}
 use Rattle.rules.specs.Phase.{dueAsPaper}
 use Rattle.rules.specs.declared.phase.Due.{Due}
 use borrow.Author.Needs.{needs}
@@ -16,11 +16,16 @@ use Rattle.gate.proofs.phases.heads_at.Statement.{statement}
 use Rattle.gate.proofs.phases.heads_at.Tie as tie
 
 -- what phase 3 said of the record is what it says of the type
-due : (c : tie.After-phase3) (d : Due) → let a = c .before .before .before .before .before .args in c .phase3 .result ≡ d → naming (a .t .0) (dueAsPaper d) ≡ naming (a .t .0) (firstDue (phase3 (tableOf (now (a .b))) (a .t .0)))
+due : (c : tie.After-phase3) (d : Due) → let at = c .before .before .before in let a = at .before .before .before .args in let T = tableOf (now (a .b)) in
+    c .phase3 .result ≡ d → namingAt (a .t .0) (at .place-of .result .0) (dueAsPaper d) ≡ namingAt (a .t .0) (placeAt T (a .t .0)) (firstDue (phase3 T (a .t .0)))
 due c d e =
-    let a = c .before .before .before .before .before .args in
-    ap (λ (d : Due). naming (a .t .0) (dueAsPaper d)) (sym e)
-    ∙ heads-due (tableOf (now (a .b))) (a .t .0) (c .phase3 .result) (c .phase3 .ensures) (c .before .strings-of .ensures) (c .before .before .record-of .ensures)
+    let at = c .before .before .before in
+    let a = at .before .before .before .args in
+    ap (λ (d : Due). namingAt (a .t .0) (at .place-of .result .0) (dueAsPaper d)) (sym e)
+    ∙ heads-due (tableOf (now (a .b))) (a .t .0) (c .phase3 .result) (c .phase3 .ensures) (c .before .strings-of .ensures) (c .before .before .record-of .ensures) (at .place-of .ensures)
+
+place-of-requires : tie.Need-place-of-requires
+place-of-requires c κs = search needs
 
 record-of-requires : tie.Need-record-of-requires
 record-of-requires c κs = search needs
@@ -62,6 +67,7 @@ pub heads-at-spec : {M : Type 1} → statement M
 heads-at-spec =
     tie.close
     (tie.spec
+    place-of-requires
     record-of-requires
     strings-of-requires
     phase3-requires

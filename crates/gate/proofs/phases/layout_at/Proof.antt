@@ -1,30 +1,35 @@
 -- `gate::phases::layout_at` meets its contract: 15 where the layout of the type breaks a rule.
 -- Assumes nothing.
-use mathlib.Core.Path.{_≡_, sym, _∙_}
+use Prim.Native.Nat.{ℕ}
+use mathlib.Core.Path.{_≡_, refl, sym, _∙_}
 use mathlib.Core.Bool.{Bool, not}
 use mathlib.Core.List.{[], _∷_}
 use denote.Ref.{now}
 use Rattle.gate.proofs.LayoutKinds.{layout-due}
 use Rattle.paper.specs.Answer.{reportAsPaper}
 use Rattle.paper.specs.Choice.{_when_, firstDue}
-use Rattle.paper.specs.Gate.{naming, phase6}
-use Rattle.paper.specs.Walk.{tableOf}
+use Rattle.paper.specs.Gate.{namingAt, phase6}
+use Rattle.paper.specs.Walk.{placeAt, tableOf}
 use borrow.Author.Needs.{needs}
 use Rattle.gate.proofs.phases.layout_at.Statement.{statement}
 use Rattle.gate.proofs.phases.layout_at.Tie as tie
 
-due : (c : tie.After-layout-ok) {z : Bool} → let a = c .before .before .before .args in c .layout-ok .result ≡ z → naming (a .t .0) (firstDue (15 when not z ∷ [])) ≡ naming (a .t .0) (firstDue (phase6 (tableOf (now (a .b))) (a .t .0)))
-due c e = let a = c .before .before .before .args in layout-due (tableOf (now (a .b))) (a .t .0) (sym e ∙ c .layout-ok .ensures)
+due : (c : tie.After-layout-ok) {z : Bool} {p : ℕ} → let a = c .before .before .before .args in let T = tableOf (now (a .b)) in
+    c .layout-ok .result ≡ z → p ≡ placeAt T (a .t .0) → namingAt (a .t .0) p (firstDue (15 when not z ∷ [])) ≡ namingAt (a .t .0) (placeAt T (a .t .0)) (firstDue (phase6 T (a .t .0)))
+due c e at = let a = c .before .before .before .args in layout-due (tableOf (now (a .b))) (a .t .0) (sym e ∙ c .layout-ok .ensures) at
 
 layout-ok-requires : tie.Need-layout-ok-requires
 layout-ok-requires c κs = search needs
 
 returns : tie.Need-returns
-returns c = due (c .before) (c .if1 .taken)
+returns c = due (c .before) (c .if1 .taken) refl
+
+place-of-requires : tie.Need-place-of-requires
+place-of-requires c κs = c .before .before .before .before .pre .standing
 
 returns-2 : tie.Need-returns-2
 unfolding reportAsPaper
-returns-2 c = due (c .before) (c .if1 .left)
+returns-2 c = due (c .before .before) (c .before .if1 .left) (c .place-of .ensures)
 
 pub layout-at-spec : {M : Type 1} → statement M
-layout-at-spec = tie.close (tie.spec layout-ok-requires returns returns-2)
+layout-at-spec = tie.close (tie.spec layout-ok-requires returns place-of-requires returns-2)

@@ -1,31 +1,16 @@
--- `gate::types::place_of` meets its contract.
+-- `gate::types::place_of` meets its contract: a type's place in the index is that of its record.
 -- Assumes nothing.
-use native.Mathlib.Omega.{arith}
-use Rattle.gate.proofs.Stands.{placeIn-void, placeIn-above, placeIn-type}
+use mathlib.Core.Path.{_∙_}
+use Rattle.gate.proofs.Stands.{stands-place}
 use borrow.Author.Needs.{needs}
 use Rattle.gate.proofs.types.place_of.Statement.{statement}
 use Rattle.gate.proofs.types.place_of.Tie as tie
 
+place-in-requires : tie.Need-place-in-requires
+place-in-requires c κs = search needs
+
 returns : tie.Need-returns
-returns c = placeIn-void _ _ _ (c .if1 .taken)
-
-returns-2 : tie.Need-returns-2
-returns-2 c = placeIn-above _ _ _ (c .before .if1 .left) (c .if2 .taken)
-
-cast-result : tie.Need-cast-result
-cast-result c = search needs
-
-mul-result : tie.Need-mul-result
-mul-result c = search needs
-
-shared-slice-read-result : tie.Need-shared-slice-read-result
-shared-slice-read-result c = search needs
-
-cast-result-2 : tie.Need-cast-result-2
-cast-result-2 c = omega (arith, c .shared-slice-known .given (c .before .before .before .args .t .0))
-
-returns-3 : tie.Need-returns-3
-returns-3 c = placeIn-type _ _ _ (c .before .before .if1 .left) (c .before .if2 .left)
+returns c = let start = c .before .before .before in c .place-in .ensures ∙ stands-place (start .pre) (start .args .t .0)
 
 pub place-of-spec : {M : Type 1} → statement M
-place-of-spec = tie.close (tie.spec returns returns-2 cast-result mul-result shared-slice-read-result cast-result-2 returns-3)
+place-of-spec = tie.close (tie.spec place-in-requires returns)

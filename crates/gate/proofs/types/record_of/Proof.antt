@@ -14,11 +14,17 @@ use Rattle.gate.proofs.types.record_of.Statement.{statement}
 use Rattle.gate.proofs.types.record_of.Tie as tie
 
 -- the place that was asked for lies in the blob
-inside : (c : tie.After-place-of) → c .place-of .result ≤ length (now (c .before .before .before .args .b))
-inside c = let start = c .before .before .before in rw (c .place-of .ensures) (stands-inside (start .pre) (start .args .t .0))
+inside : (c : tie.After-place-in) → c .place-in .result ≤ length (now (c .before .before .before .args .b))
+inside c = let start = c .before .before .before in rw (c .place-in .ensures) (stands-inside (start .pre) (start .args .t .0))
 
-place-of-requires : tie.Need-place-of-requires
-place-of-requires c κs = search needs
+cast-place-in : tie.Need-cast-place-in
+cast-place-in c = omega (arith, c .before .before .pre .readable .header .short)
+
+place-in-requires : tie.Need-place-in-requires
+place-in-requires c κs = search needs
+
+cast-from : tie.Need-cast-from
+cast-from c = search needs
 
 sub-result : tie.Need-sub-result
 sub-result c = omega (arith, inside c)
@@ -32,8 +38,8 @@ part-result-end c = search needs
 returns : tie.Need-returns
 returns c =
     let start = c .before .before .before .before in
-    ap (recordIn lowFirst) (part-rest _ (c .before .place-of .result) ∙ ap (λ (p : ℕ). drop p (now (start .args .b))) (c .before .place-of .ensures))
+    ap (recordIn lowFirst) (part-rest _ (c .before .place-in .result) ∙ ap (λ (p : ℕ). drop p (now (start .args .b))) (c .before .place-in .ensures))
     ∙ stands-record (start .pre) (start .args .t .0)
 
 pub record-of-spec : {M : Type 1} → statement M
-record-of-spec = tie.close (tie.spec place-of-requires sub-result part-result-start part-result-end returns)
+record-of-spec = tie.close (tie.spec cast-place-in place-in-requires cast-from sub-result part-result-start part-result-end returns)

@@ -53,6 +53,12 @@ sixth-requires c κs =
 enum-known-t : tie.Need-enum-known-t
 enum-known-t c = search needs
 
+place-of-requires : tie.Need-place-of-requires
+place-of-requires c κs =
+    let w = c .before .before .before .before in
+    let h = w .before .before .before .before .before .before .before in
+    h .before .before .before .before .before .pre .standing
+
 same-length : tie.Need-same-length
 same-length c = search needs
 
@@ -71,12 +77,12 @@ same-length-2 c = search needs
 returns-4 : tie.Need-returns-4
 unfolding reportAsPaper
 returns-4 c =
-    let w = c .before .before .before .before .before in
+    let w = c .before .before .before .before .before .before in
     let n = w .before .before in
     let f = n .before .before in
     let h = f .before .before .before in
     judge-ring _ (h .third .result) (h .third .ensures) (f .before .enum-told .given .1) (f .fourth .result) (f .fourth .ensures) (n .enum-told3 .given .1)
-    (w .chains .result) (w .chains .ensures) (c .before .t .given .1)
+    (w .chains .result) (w .chains .ensures) (c .before .before .t .given .1) (c .place-of .ensures)
 
 pub judge-spec : {M : Type 1} → statement M
 judge-spec =
@@ -94,6 +100,7 @@ judge-spec =
     enum-told-5
     sixth-requires
     enum-known-t
+    place-of-requires
     same-length
     returns-3
     same-length-2

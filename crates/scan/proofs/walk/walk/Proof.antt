@@ -35,34 +35,14 @@ returns c =
     let l = c .before .before .loop in
     sym (standing-full _ _ (l .count) (l .at) (l .inv) (c .before .loop-test .taken) (c .if1 .taken))
 
+add-count : tie.Need-add-count Inv-loop μ-loop
+add-count c = search needs
+
 step-from-requires : tie.Need-step-from-requires Inv-loop μ-loop
 step-from-requires c κs = search needs
 
 enum-known-next : tie.Need-enum-known-next Inv-loop μ-loop
 enum-known-next c = search needs
-
-enum-told : tie.Need-enum-told Inv-loop μ-loop
-enum-told c = search needs
-
-add-t12 : tie.Need-add-t12 Inv-loop μ-loop
-add-t12 c = search needs
-
-returns-2 : tie.Need-returns-2 Inv-loop μ-loop
-unfolding reportAsPaper
-returns-2 c = sym (told (c .before .before) (c .enum-told .given .1))
-
-enum-told-2 : tie.Need-enum-told-2 Inv-loop μ-loop
-enum-told-2 c = search needs
-
-add-t15 : tie.Need-add-t15 Inv-loop μ-loop
-add-t15 c = search needs
-
-returns-3 : tie.Need-returns-3 Inv-loop μ-loop
-unfolding reportAsPaper
-returns-3 c = sym (told (c .before .before) (c .enum-told2 .given .1))
-
-add-count : tie.Need-add-count Inv-loop μ-loop
-add-count c = search needs
 
 loop-less : tie.Need-loop-less Inv-loop μ-loop
 loop-less c =
@@ -71,6 +51,20 @@ loop-less c =
 
 loop-again : tie.Need-loop-again Inv-loop μ-loop
 loop-again c = told (c .before .before .before) (c .before .next .given .1) .1
+
+enum-told : tie.Need-enum-told Inv-loop μ-loop
+enum-told c = search needs
+
+returns-2 : tie.Need-returns-2 Inv-loop μ-loop
+unfolding reportAsPaper
+returns-2 c = sym (told (c .before .before) (c .enum-told .given .1))
+
+enum-told-2 : tie.Need-enum-told-2 Inv-loop μ-loop
+enum-told-2 c = search needs
+
+returns-3 : tie.Need-returns-3 Inv-loop μ-loop
+unfolding reportAsPaper
+returns-3 c = sym (told (c .before .before) (c .enum-told2 .given .1))
 
 returns-4 : tie.Need-returns-4 Inv-loop μ-loop
 returns-4 c = let l = c .before .loop in sym (standing-done _ _ (l .count) (l .at) (l .inv) (c .loop-test .left))
@@ -84,15 +78,13 @@ walk-spec =
     add-end
     loop-holds
     returns
+    add-count
     step-from-requires
     enum-known-next
-    enum-told
-    add-t12
-    returns-2
-    enum-told-2
-    add-t15
-    returns-3
-    add-count
     loop-less
     loop-again
+    enum-told
+    returns-2
+    enum-told-2
+    returns-3
     returns-4)
