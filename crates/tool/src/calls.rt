@@ -131,24 +131,27 @@ fn ask_at(ask: Ask, i: usize) -> Status {
     ask_file(ask, start(&s, arg.n))
 }
 
-fn one_type(first: u32) -> Status {
-    match number_at(place(first, 2)) {
-        Number::Is(t) => ask_at(Ask::One(t), place(first, 1)),
-        Number::Not => wrong(b"scrieve: TYPE is a decimal number of 32 bits\n"),
+// What a verb asks of a table, with a number.
+fn ask_of(verb: Verb, n: u32) -> Ask {
+    match verb {
+        Verb::Size => Ask::Size(n),
+        Verb::Name => Ask::Name(n),
+        _ => Ask::One(n),
     }
 }
 
-fn one_size(first: u32) -> Status {
-    match number_at(place(first, 2)) {
-        Number::Is(t) => ask_at(Ask::Size(t), place(first, 1)),
-        Number::Not => wrong(b"scrieve: TYPE is a decimal number of 32 bits\n"),
+fn no_number(verb: Verb) -> Status {
+    match verb {
+        Verb::Name => wrong(b"scrieve: OFFSET is a decimal number of 32 bits\n"),
+        _ => wrong(b"scrieve: TYPE is a decimal number of 32 bits\n"),
     }
 }
 
-fn one_name(first: u32) -> Status {
+// A verb with a file and a number behind it.
+fn ask_numbered(verb: Verb, first: u32) -> Status {
     match number_at(place(first, 2)) {
-        Number::Is(at) => ask_at(Ask::Name(at), place(first, 1)),
-        Number::Not => wrong(b"scrieve: OFFSET is a decimal number of 32 bits\n"),
+        Number::Is(n) => ask_at(ask_of(verb, n), place(first, 1)),
+        Number::Not => no_number(verb),
     }
 }
 
@@ -201,17 +204,17 @@ fn call_by(verb: Verb, first: u32, behind: usize) -> Status {
                 return ask_at(Ask::All, place(first, 1));
             }
             if behind == 2 {
-                return one_type(first);
+                return ask_numbered(verb, first);
             }
         }
         Verb::Size => {
             if behind == 2 {
-                return one_size(first);
+                return ask_numbered(verb, first);
             }
         }
         Verb::Name => {
             if behind == 2 {
-                return one_name(first);
+                return ask_numbered(verb, first);
             }
         }
         Verb::Join => {
@@ -239,13 +242,12 @@ fn call(first: u32) -> Status {
 }
 
 // A program of this language has no exit status: one digit on a descriptor of the launcher's stands for it.
-fn tell(s: Status) {
+fn tell(s: Status) -> bool {
     match s {
         Status::Done => io::write_all(STATUS, b"0"),
         Status::Refused => io::write_all(STATUS, b"1"),
         Status::Failed => io::write_all(STATUS, b"2"),
     }
-    ;
 }
 
 fn is_told() -> bool {
