@@ -13,6 +13,7 @@ pub use out::flush;
 pub use out::lay;
 pub use out::put;
 pub use out::put_escaped;
+pub use out::put_hex;
 pub use out::put_number;
 pub use out::put_wide;
 pub use out::put_with;

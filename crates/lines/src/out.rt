@@ -123,6 +123,25 @@ pub fn put_with(buf: &mut [u8; ROOM], o: Out, text: &[u8], n: u64) -> Out {
     put_wide(buf, o, n)
 }
 
+// A byte in hexadecimal.
+fn put_byte(buf: &mut [u8; ROOM], o: Out, b: u8) -> Out {
+    let mut digits = [0u8; 16];
+    let k = io::hex(b as u64, 2, &mut digits);
+    put(buf, o, &digits[..k])
+}
+
+// Bytes in hexadecimal, a blank before each.
+pub fn put_hex(buf: &mut [u8; ROOM], o: Out, s: &[u8]) -> Out {
+    let mut o = o;
+    let mut i = 0;
+    while i < s.len() {
+        o = put(buf, o, b" ");
+        o = put_byte(buf, o, s[i]);
+        i += 1;
+    }
+    o
+}
+
 // A few bytes of a name, escaped.
 fn put_chunk(buf: &mut [u8; ROOM], o: Out, s: &[u8]) -> Out
     requires { ⌜ length (now s) ≤ 256 ⌝ }

@@ -14,7 +14,7 @@ use rows::is_known;
 use rows::kind_of;
 
 // The kind's name.
-fn put_kind(buf: &mut [u8; ROOM], o: Out, kind: u32) -> Out {
+pub(crate) fn put_kind(buf: &mut [u8; ROOM], o: Out, kind: u32) -> Out {
     let names = b"\n\
         INT\n\
         PTR\n\

@@ -2,12 +2,9 @@
 use paper::NameOff;
 use paper::Place;
 use rows::kind_of;
-use rows::tail_words;
-ghost use Prim.Native.Nat.{_≤_};
-ghost use lib.ListN.{length};
 
 // The bytes from a place on; none where the place is past the end.
-fn rest_from(s: &[u8], at: usize) -> &[u8] {
+pub(crate) fn rest_from(s: &[u8], at: usize) -> &[u8] {
     if s.len() < at {
         return &s[..0];
     }
@@ -80,42 +77,10 @@ pub(crate) fn base_of(blob: &[u8], index: &[u32], t: u32) -> u32 {
 }
 
 // The bytes before the strings, as far as there are so many.
-fn types_of(blob: &[u8]) -> &[u8] {
+pub(crate) fn types_of(blob: &[u8]) -> &[u8] {
     let end = 24 + words::read(blob, Place(12)) as usize;
     if blob.len() < end {
         return &blob[..0];
     }
     &blob[..end]
-}
-
-// Where the record behind the one at a place begins; the end where there is none.
-fn next_place(types: &[u8], at: usize) -> usize
-    ensures { λ r. ⌜ r ≤ length (now (types .entry)) ⌝ }
-{
-    let r = rest_from(types, at);
-    let size = 12 + 4 * (tail_words(info_of(r)) as usize);
-    if types.len() < size {
-        return types.len();
-    }
-    if types.len() - size < at {
-        return types.len();
-    }
-    at + size
-}
-
-// The bytes from a type's record on in a table that is refused, whose index is empty: by a walk from the first record. None
-// where the record's head is not there.
-pub(crate) fn record_by_walk(blob: &[u8], t: u32) -> &[u8] {
-    let types = types_of(blob);
-    let mut at = 24;
-    let mut k: u32 = 1;
-    while k < t {
-        at = next_place(types, at);
-        k += 1;
-    }
-    let r = rest_from(types, at);
-    if r.len() < 12 {
-        return &r[..0];
-    }
-    r
 }

@@ -1,12 +1,15 @@
-// What a report means, in words.
+// What a report means, in words, and the bytes that it is about.
+use crate::header::put_header;
 use crate::kinds::put_record;
-use crate::records::record_by_walk;
+use crate::marked::put_marked;
+use crate::records::rest_from;
+use crate::records::types_of;
 use answers::Numbers;
 use lines::Out;
 use lines::ROOM;
 use lines::line;
 use lines::put;
-use lines::put_number;
+use lines::put_with;
 
 fn put_meaning(buf: &mut [u8; ROOM], o: Out, number: u32) -> Out {
     let meanings = b"\n\
@@ -28,15 +31,9 @@ fn put_meaning(buf: &mut [u8; ROOM], o: Out, number: u32) -> Out {
     put(buf, o, line(meanings, number))
 }
 
-// The type that a report names, with its kind and name where it has them.
-fn put_named(buf: &mut [u8; ROOM], o: Out, blob: &[u8], t: u32) -> Out {
-    if t == 0 {
-        return o;
-    }
-    let o = put(buf, o, b", type ");
-    let o = put_number(buf, o, t);
-    let r = record_by_walk(blob, t);
-    if r.len() == 0 {
+// The kind and the name of a record whose head is there.
+fn put_titled(buf: &mut [u8; ROOM], o: Out, blob: &[u8], r: &[u8]) -> Out {
+    if r.len() < 12 {
         return o;
     }
     let o = put(buf, o, b" (");
@@ -44,11 +41,34 @@ fn put_named(buf: &mut [u8; ROOM], o: Out, blob: &[u8], t: u32) -> Out {
     put(buf, o, b")")
 }
 
-// "report R: what it means, type T (KIND name)".
+// The type that a report names, with its kind and name where it has them, and its place.
+fn put_named(buf: &mut [u8; ROOM], o: Out, blob: &[u8], told: Numbers) -> Out {
+    if told.t == 0 {
+        return o;
+    }
+    let o = put_with(buf, o, b", type ", told.t as u64);
+    let r = rest_from(types_of(blob), told.p as usize);
+    let o = put_titled(buf, o, blob, r);
+    put_with(buf, o, b", at byte ", told.p as u64)
+}
+
+// The bytes that a report is about; none for 9, which is about what was lent.
+fn put_about(buf: &mut [u8; ROOM], o: Out, blob: &[u8], told: Numbers) -> Out {
+    if told.t != 0 {
+        return put_marked(buf, o, blob, told.p, told.number);
+    }
+    if told.number <= 5 {
+        return put_header(buf, o, blob, told.number);
+    }
+    o
+}
+
+// "report R: what it means, type T (KIND name), at byte P", and below it the bytes.
 pub fn put_report(buf: &mut [u8; ROOM], o: Out, blob: &[u8], told: Numbers) -> Out {
-    let o = put(buf, o, b"report ");
-    let o = put_number(buf, o, told.number);
+    let o = put_with(buf, o, b"report ", told.number as u64);
     let o = put(buf, o, b": ");
     let o = put_meaning(buf, o, told.number);
-    put_named(buf, o, blob, told.t)
+    let o = put_named(buf, o, blob, told);
+    let o = put(buf, o, b"\n");
+    put_about(buf, o, blob, told)
 }

@@ -64,8 +64,7 @@ fn put_inner(
     let o = put(buf, o, which);
     let o = put_escaped(buf, o, file);
     let o = put(buf, o, b": ");
-    let o = put_report(buf, o, blob, told);
-    put(buf, o, b"\n")
+    put_report(buf, o, blob, told)
 }
 
 // A table that is refused by itself is told with its own report.

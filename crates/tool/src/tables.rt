@@ -123,8 +123,7 @@ fn put_answer(
 fn put_refused(buf: &mut [u8; ROOM], o: Out, file: &[u8], blob: &[u8], told: Numbers) -> Out {
     let o = put_escaped(buf, o, file);
     let o = put(buf, o, b": refused, ");
-    let o = put_report(buf, o, blob, told);
-    put(buf, o, b"\n")
+    put_report(buf, o, blob, told)
 }
 
 // A table is checked first, whatever is asked of it.
