@@ -14,7 +14,7 @@ use rows::is_known;
 use rows::kind_of;
 
 // The kind's name.
-pub(crate) fn put_kind(buf: &mut [u8; ROOM], o: Out, kind: u32) -> Out {
+pub fn put_kind(buf: &mut [u8; ROOM], o: Out, kind: u32) -> Out {
     let names = b"\n\
         INT\n\
         PTR\n\
@@ -39,7 +39,7 @@ pub(crate) fn put_kind(buf: &mut [u8; ROOM], o: Out, kind: u32) -> Out {
 }
 
 // A number, with the word for one or for several behind it.
-pub(crate) fn put_many(buf: &mut [u8; ROOM], o: Out, n: u64, one: &[u8], many: &[u8]) -> Out {
+pub fn put_many(buf: &mut [u8; ROOM], o: Out, n: u64, one: &[u8], many: &[u8]) -> Out {
     let o = put_wide(buf, o, n);
     if n == 1 {
         return put(buf, o, one);
@@ -68,7 +68,7 @@ pub(crate) fn put_entry_name(buf: &mut [u8; ROOM], o: Out, blob: &[u8], e: &[u8]
 }
 
 // The kind of a record and its name, if it has one.
-pub(crate) fn put_record(buf: &mut [u8; ROOM], o: Out, blob: &[u8], r: &[u8]) -> Out {
+pub fn put_record(buf: &mut [u8; ROOM], o: Out, blob: &[u8], r: &[u8]) -> Out {
     let kind = kind_of(info_of(r));
     if !is_known(kind) {
         let o = put(buf, o, b"kind ");

@@ -2,9 +2,14 @@
 use paper::NameOff;
 use paper::Place;
 use rows::kind_of;
+ghost use mathlib.Core.Path.{_≡_};
+ghost use lib.ListN.{drop};
+ghost use Rattle.paper.specs.Word.{lowFirst, wordAt};
 
 // The bytes from a place on; none where the place is past the end.
-pub(crate) fn rest_from(s: &[u8], at: usize) -> &[u8] {
+pub fn rest_from(s: &[u8], at: usize) -> &[u8]
+    ensures { λ r. ⌜ now r ≡ drop at (now (s .entry)) ⌝ }
+{
     if s.len() < at {
         return &s[..0];
     }
@@ -25,15 +30,21 @@ pub(crate) fn record_of<'a>(blob: &'a [u8], index: &[u32], t: u32) -> &'a [u8] {
     rest_from(blob, wide(index[k]))
 }
 
-pub(crate) fn name_of(r: &[u8]) -> NameOff {
+pub fn name_of(r: &[u8]) -> NameOff
+    ensures { λ n. ⌜ n .0 ≡ wordAt lowFirst (now (r .entry)) 0 ⌝ }
+{
     NameOff(words::read(r, Place(0)))
 }
 
-pub(crate) fn info_of(r: &[u8]) -> u32 {
+pub fn info_of(r: &[u8]) -> u32
+    ensures { λ w. ⌜ w ≡ wordAt lowFirst (now (r .entry)) 4 ⌝ }
+{
     words::read(r, Place(4))
 }
 
-pub(crate) fn third_of(r: &[u8]) -> u32 {
+pub fn third_of(r: &[u8]) -> u32
+    ensures { λ w. ⌜ w ≡ wordAt lowFirst (now (r .entry)) 8 ⌝ }
+{
     words::read(r, Place(8))
 }
 
@@ -74,13 +85,4 @@ pub(crate) fn base_of(blob: &[u8], index: &[u32], t: u32) -> u32 {
         left -= 1;
     }
     at
-}
-
-// The bytes before the strings, as far as there are so many.
-pub(crate) fn types_of(blob: &[u8]) -> &[u8] {
-    let end = 24 + words::read(blob, Place(12)) as usize;
-    if blob.len() < end {
-        return &blob[..0];
-    }
-    &blob[..end]
 }

@@ -13,8 +13,8 @@ use lines::line;
 use lines::put;
 use lines::put_escaped;
 use lines::put_with;
-use listing::put_report;
 use paper::Joined;
+use reports::put_report;
 use scan::Scanned;
 
 // How many types a joined table has.

@@ -12,7 +12,6 @@ use lines::flush;
 use lines::put;
 use lines::put_escaped;
 use lines::put_with;
-use listing::put_report;
 use listing::put_size;
 use listing::put_type;
 use listing::show_all;
@@ -20,6 +19,7 @@ use listing::show_one;
 use paper::Checked;
 use paper::NameOff;
 use paper::TypeNo;
+use reports::put_report;
 
 // How a call ends: as asked, with a refusal, or as a call that is wrong or whose files cannot be read or written.
 pub(crate) enum Status {

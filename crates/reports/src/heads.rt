@@ -1,15 +1,15 @@
 // A record's head in words: name offset, info word, third word.
 use crate::bytes::put_bytes;
-use crate::kinds::put_kind;
-use crate::kinds::put_many;
-use crate::records::info_of;
-use crate::records::name_of;
-use crate::records::third_of;
 use lines::Out;
 use lines::ROOM;
 use lines::put;
 use lines::put_escaped;
 use lines::put_with;
+use listing::info_of;
+use listing::name_of;
+use listing::put_kind;
+use listing::put_many;
+use listing::third_of;
 use paper::NameOff;
 use rows::entry_words;
 use rows::flag_of;

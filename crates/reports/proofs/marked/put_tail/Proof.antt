@@ -1,9 +1,9 @@
--- `listing::marked::put_tail` is safe and ends.
+-- `reports::marked::put_tail` is safe and ends.
 -- Assumes nothing.
 use Prim.Native.Nat.{_≤_, _-_}
 use borrow.Author.Needs.{needs}
-use Rattle.listing.proofs.marked.put_tail.Statement.{statement}
-use Rattle.listing.proofs.marked.put_tail.Tie as tie
+use Rattle.reports.proofs.marked.put_tail.Statement.{statement}
+use Rattle.reports.proofs.marked.put_tail.Tie as tie
 
 abbrev Inv-loop : tie.InvT-loop
 Inv-loop buf₀ blob r place number n o₀ i₀ left₀ more₀ buf o i left more = more ≤ i

@@ -1,8 +1,6 @@
 // What a report means, in words, and the bytes that it is about.
 use crate::header::put_header;
-use crate::kinds::put_record;
 use crate::marked::put_marked;
-use crate::records::rest_from;
 use crate::records::types_of;
 use answers::Numbers;
 use lines::Out;
@@ -10,6 +8,8 @@ use lines::ROOM;
 use lines::line;
 use lines::put;
 use lines::put_with;
+use listing::put_record;
+use listing::rest_from;
 
 fn put_meaning(buf: &mut [u8; ROOM], o: Out, number: u32) -> Out {
     let meanings = b"\n\

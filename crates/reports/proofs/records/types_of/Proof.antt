@@ -1,11 +1,11 @@
--- `listing::records::types_of` is safe and ends.
+-- `reports::records::types_of` is safe and ends.
 -- Assumes nothing.
 use mathlib.Core.Path.{sym}
 use lib.Seq.{length-take-le}
 use native.Mathlib.Omega.{arith}
 use borrow.Author.Needs.{needs}
-use Rattle.listing.proofs.records.types_of.Statement.{statement}
-use Rattle.listing.proofs.records.types_of.Tie as tie
+use Rattle.reports.proofs.records.types_of.Statement.{statement}
+use Rattle.reports.proofs.records.types_of.Tie as tie
 
 read-requires : tie.Need-read-requires
 read-requires c κs = search needs

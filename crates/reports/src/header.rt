@@ -1,12 +1,12 @@
 // The header's bytes, a line for each field: what reports 1 to 5 are about.
 use crate::bytes::put_bytes;
-use crate::kinds::put_many;
-use crate::records::rest_from;
 use lines::Out;
 use lines::ROOM;
 use lines::line;
 use lines::put;
 use lines::put_with;
+use listing::put_many;
+use listing::rest_from;
 use paper::Place;
 
 // What stands between so many bytes and their name: as much as makes four of them.
