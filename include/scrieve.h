@@ -38,7 +38,7 @@
  * The reports
  *    1 under 24 bytes or over 65,536                     12 a word after the head breaks a rule
  *    2 the first four bytes are not 9F EB 01 00          13 a reference above the count or to a forbidden kind
- *    3 the header length is not 24                       14 a type holds itself by value, or leads to one that does
+ *    3 the header length is not 24                       14 a type leads on without end, by value or by pointers
  *    4 the sections do not add up to the blob            15 a layout rule is broken
  *    5 strings empty, or not from zero byte to zero byte 16 the first table is refused
  *    6 a record does not fit the type section            17 the second table is refused

@@ -40,7 +40,7 @@ pub fn meaning(number: u32) -> &'static str {
         11 => "a name breaks a rule",
         12 => "a word after a record's head breaks a rule",
         13 => "a reference leads nowhere or to a forbidden kind",
-        14 => "a type holds itself by value, or leads to one that does",
+        14 => "a walk by value, or one along pointers and qualifiers, never ends",
         15 => "a layout rule is broken",
         16 => "the first table is refused",
         17 => "the second table is refused",

@@ -65,8 +65,9 @@ fn rings() {
     assert_eq!(gate(&m.blob()), refused(14, 1, 24));
     let mut m = Make::new();
     m.ptr(1);
-    assert_eq!(gate(&m.blob()), Ok(1));
-    assert_eq!(size_in(&m, 1), SizeAnswer::Exact(8));
+    assert_eq!(gate(&m.blob()), refused(14, 1, 24));
+    // The size question follows no pointer and trusts nobody.
+    assert_eq!(second::size(&m.blob(), &[0, 24], 1), SizeAnswer::Exact(8));
     let mut m = Make::new();
     let name = m.string("s");
     m.constant(2);

@@ -3,13 +3,13 @@
 mod common;
 
 use common::*;
-use second::chain::{by_value, report_14, report_14_by_the_letter};
+use second::chain::{report_14, report_14_by_the_letter, SORTS};
 use second::check::judge;
 use second::generate::edges::one_of;
 use second::generate::pieces::table_of;
 use second::generate::random::Random;
 use second::generate::{cases, damage_references, valid, Scale, Wanted};
-use second::table::{Kind, Table, ALL_KINDS};
+use second::table::{Kind, Record, Table, ALL_KINDS};
 use second::vectors::{file, run, sum, CHECK, JOIN};
 
 fn wanted(seed: u64, cases: usize) -> Wanted {
@@ -26,14 +26,18 @@ fn wanted(seed: u64, cases: usize) -> Wanted {
     }
 }
 
-/// Does some walk from a type come back to a type it has been at?
-fn reaches_ring(table: &Table, at: u32, path: &mut Vec<u32>) -> bool {
+type Step = fn(&Record) -> Vec<u32>;
+
+/// Does some walk of a sort from a type come back to a type it has been at?
+fn reaches_ring(table: &Table, step: Step, at: u32, path: &mut Vec<u32>) -> bool {
     if path.contains(&at) {
         return true;
     }
     path.push(at);
-    let ends = by_value(&table.records[at as usize - 1]);
-    let found = ends.into_iter().any(|end| reaches_ring(table, end, path));
+    let ends = step(&table.records[at as usize - 1]);
+    let found = ends
+        .into_iter()
+        .any(|end| reaches_ring(table, step, end, path));
     path.pop();
     found
 }
@@ -41,18 +45,23 @@ fn reaches_ring(table: &Table, at: u32, path: &mut Vec<u32>) -> bool {
 #[test]
 fn report_14_is_what_the_paper_says() {
     let mut r = Random::new(14);
-    let mut rings = 0;
+    let mut rings = [0; 2];
     for _ in 0..2_000 {
         let mut m = valid::table(&mut r, Scale::Small);
         damage_references::ring(&mut r, &mut m);
         let Some(table) = table_of(&m) else { continue };
         let found = report_14(&table);
         assert_eq!(found, report_14_by_the_letter(&table));
-        let by_search = (1..=table.count()).find(|at| reaches_ring(&table, *at, &mut Vec::new()));
-        assert_eq!(found, by_search);
-        rings += u32::from(found.is_some());
+        let smallest = SORTS.map(|step| {
+            (1..=table.count()).find(|at| reaches_ring(&table, step, *at, &mut Vec::new()))
+        });
+        assert_eq!(found, smallest.into_iter().flatten().min());
+        // Which sort decides, where the other does not name the same type.
+        for (sort, other) in [(0, 1), (1, 0)] {
+            rings[sort] += u32::from(found == smallest[sort] && found != smallest[other]);
+        }
     }
-    assert!(rings > 1_000);
+    assert!(rings[0] > 400 && rings[1] > 400, "{rings:?}");
 }
 
 #[test]

@@ -39,12 +39,29 @@ fn nest_of_structs() {
     assert_eq!(size_in(&nest(1_400), 1), SizeAnswer::Exact(4));
 }
 
-/// A pointer is no by-value reference, so type 1 does not lead to the ring;
-/// type 2 is the smallest that does.
+/// What a prototype returns is a step of neither sort, so type 1 does not lead
+/// to the ring; type 2 is the smallest that does.
 #[test]
 fn ring_behind_a_chain() {
     assert_eq!(judged(&ring_behind(4_000)), refused(14, 2, 36));
     assert_eq!(ring_behind(4_000).count(), 4_002);
+}
+
+#[test]
+fn chains_of_pointers() {
+    assert_eq!(judged(&pointers_up(4_000)), Ok(4_001));
+    assert_eq!(size_in(&pointers_up(4_000), 1), SizeAnswer::Exact(8));
+    assert_eq!(judged(&pointers_down(4_000)), Ok(4_001));
+    // Type 4,001 is a pointer again, as every fourth.
+    assert_eq!(size_in(&pointers_down(4_000), 4_001), SizeAnswer::Exact(8));
+}
+
+/// A ring of all types is named by the first. The struct, whose 24 bytes come
+/// first, only holds a type that leads to a ring.
+#[test]
+fn rings_of_pointers() {
+    assert_eq!(judged(&pointer_ring(4_096)), refused(14, 1, 24));
+    assert_eq!(judged(&pointer_ring_behind(4_000)), refused(14, 2, 48));
 }
 
 #[test]
@@ -99,10 +116,10 @@ fn cases_keep_the_limits_of_a_file() {
             .filter(|case| case.op == op && run(case).number == number)
             .count()
     };
-    assert_eq!(answers(CHECK, 0), 10);
+    assert_eq!(answers(CHECK, 0), 12);
     assert_eq!(answers(CHECK, 1), 1);
     assert_eq!(answers(CHECK, 8), 1);
-    assert_eq!(answers(CHECK, 14), 3);
+    assert_eq!(answers(CHECK, 14), 5);
     assert_eq!(answers(CHECK, 15), 4);
     // no size: a prototype, its function and its tag
     assert_eq!(answers(SIZE, 1), 3);

@@ -8,6 +8,7 @@ use native.Mathlib.Omega.{arith}
 use borrow.Author.Tests.{ne-eqb, lt-leb, not-true, not-false}
 use lib.Dec.{leb}
 use Rattle.gate.proofs.RecordWords.{kind-read, third-read}
+use Rattle.paper.specs.Chain.{isLink}
 use Rattle.paper.specs.Reading.{recordIn}
 use Rattle.paper.specs.Span.{isAlias, baseFrom, baseOf}
 use Rattle.paper.specs.Table.{Record, Table, count, recordAt, kindIn}
@@ -37,6 +38,14 @@ pub alias-rest : (k : ℕ) → (k ≡ 18 → ⊥) → 8 ≤ k → leb k 11 ≡ i
 alias-rest k n h =
     let e : 8 + (k - 8) ≡ k = omega arith in
     ap (λ (i : ℕ). leb i 11) (sym e) ∙ from-8 (k - 8) (λ z. n (sym e ∙ z)) ∙ ap isAlias e
+
+-- ── the kinds of a link: PTR, and those of an alias ──
+
+pub link-pointer : {k : ℕ} → k ≡ 2 → true ≡ isLink k
+link-pointer e = sym (ap isLink e)
+
+pub link-alias : {k : ℕ} {z : Bool} → (k ≡ 2 → ⊥) → z ≡ isAlias k → z ≡ isLink k
+link-alias {k} n e = e ∙ sym (rw (ne-eqb k 2 n) refl)
 
 -- ── the way to a base ──
 

@@ -3,6 +3,7 @@
 use Prim.Native.Nat.{ℕ, _*_, _%_, _≤_, _<_}
 use mathlib.Core.Path.{_≡_, refl, sym, ap, _∙_}
 use mathlib.Core.List.{List}
+use mathlib.Core.Logic.{_⊎_}
 use mathlib.Core.Option.{none, some}
 use native.Mathlib.Omega.{arith}
 use lib.ListN.{length, getD, take, drop}
@@ -16,7 +17,7 @@ use Rattle.paper.proofs.Outcomes.{gate-refused, gate-accepted, index-place, who
 use Rattle.paper.proofs.gates.Reports.{refusal-spoken, report-14}
 use Rattle.paper.proofs.gates.Wheres.{report-stands, report-inside, report-bytes}
 use Rattle.paper.specs.Answer.{Answer, reportAsPaper, checkedAsPaper, sizedAsPaper}
-use Rattle.paper.specs.Chain.{heldBy, Chain}
+use Rattle.paper.specs.Chain.{heldBy, pointedBy, Chain}
 use Rattle.paper.specs.Fit.{Bytes}
 use Rattle.paper.specs.Gate.{refusal, zeros, Outcome, gate}
 use Rattle.paper.specs.Good.{Readable, Meets}
@@ -65,8 +66,8 @@ module _ {c : Checked} {b : List ℕ} {places work : ℕ} {index left : List ℕ
     pub refused-bytes : Bytes b → 10 ≤ reportAsPaper r .number → let ws = wordsOf (recordAt (tableOf b) (reportAsPaper r .t)) in take (4 * length ws) (drop (reportAsPaper r .p) b) ≡ bytesOfWords (orderOf b) ws
     refused-bytes bytes late = report-bytes b places work (reportAsPaper r) refused-report bytes late
 
-    -- report 14 names a type from which a by-value chain can be followed for ever
-    pub refused-endless : reportAsPaper r .number ≡ 14 → Chain (heldBy (tableOf b)) (reportAsPaper r .t)
+    -- report 14 names a type from which a chain of one of the two sorts can be followed for ever
+    pub refused-endless : reportAsPaper r .number ≡ 14 → Chain (heldBy (tableOf b)) (reportAsPaper r .t) ⊎ Chain (pointedBy (tableOf b)) (reportAsPaper r .t)
     refused-endless e = report-14 b places work (reportAsPaper r) refused-report e
 
   -- ── an accepted one ──
@@ -82,8 +83,8 @@ module _ {c : Checked} {b : List ℕ} {places work : ℕ} {index left : List ℕ
     pub accepted-count : n ≡ count (tableOf b)
     accepted-count = told .1
 
-    -- no by-value chain can be followed for ever
-    pub accepted-finite : Bytes b → (t : ℕ) → Chain (heldBy (tableOf b)) t → ⊥
+    -- no chain can be followed for ever, by value or over pointers, typedefs, qualifiers and tags
+    pub accepted-finite : Bytes b → (t : ℕ) → Chain (heldBy (tableOf b)) t ⊎ Chain (pointedBy (tableOf b)) t → ⊥
     accepted-finite bytes = accepted-ends b bytes places work (told .0)
 
     -- the index gives every type's place: there stand the bytes of its record

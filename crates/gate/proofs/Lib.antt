@@ -7,6 +7,9 @@ pub mod Searches
 pub mod Weights
 pub mod Following
 pub mod Roots
+pub mod BothSorts
+pub mod Trails
+pub mod Pointing
 pub mod Looks
 pub mod Checks
 pub mod Demands

@@ -1,8 +1,8 @@
--- The roots of phase 5 in order: those passed have no endless walk, so what phase 5 says from here on is what it says at all.
+-- The roots of phase 5 in order: those passed have no endless walk, so what is said from here on is what is said at all. Over walks of either sort.
 -- Assumes nothing.
 use Prim.Native.Nat.{ℕ, zero, suc, _+_, _-_, _≤_, _<_}
 use mathlib.Core.Path.{_≡_, refl, sym, ap, _∙_}
-use mathlib.Core.Bool.{Bool, true, false}
+use mathlib.Core.Bool.{Bool, true, false, cond}
 use mathlib.Core.List.{List, [], _∷_}
 use mathlib.Core.Logic.{inl, ⊎-elim}
 use mathlib.Core.Option.{Option, none, some}
@@ -10,16 +10,16 @@ use native.Mathlib.Numerals.{add-one}
 use native.Mathlib.Omega.{arith}
 use lib.ListN.{length, getD}
 use Rattle.paper.specs.Answer.{Answer, reportAt}
-use Rattle.paper.specs.Chain.{heldBy, walks, endless}
+use Rattle.paper.specs.Chain.{heldBy, walks}
 use Rattle.paper.specs.Choice.{_when_, firstDue, orElse}
-use Rattle.paper.specs.Gate.{namingAt, firstOf, overTypes, phase5, zeros}
+use Rattle.paper.specs.Gate.{namingAt, firstOf, overTypes, zeros}
 use Rattle.paper.specs.Table.{Table, count}
 use Rattle.paper.specs.Walk.{placeAt, tableOf}
-use Rattle.gate.specs.Search.{Followable, Unsearched, AtRoot, Clean, Followed}
+use Rattle.gate.specs.Search.{Followable, Unsearched, AtRoot, Clean, Followed, ringsBy}
 
 -- ── marks between two roots ──
 
-getD-zeros : (k x : ℕ) → getD (zeros k) x 0 ≡ 0
+pub getD-zeros : (k x : ℕ) → getD (zeros k) x 0 ≡ 0
 getD-zeros zero x = refl
 getD-zeros (suc k) zero = refl
 getD-zeros (suc k) (suc x) = getD-zeros k x
@@ -31,79 +31,97 @@ clean-start held n k {work} e =
     new : (x : ℕ) → getD work x 0 ≡ 0
     new x = ap (λ (s : List ℕ). getD s x 0) e ∙ getD-zeros k x
 
+-- what is asked of a work slice is its length
+pub followable-sized : {b index work work′ : List ℕ} {n : ℕ} → Followable b index n work → length work′ ≡ length work → Followable b index n work′
+followable-sized f same = record { standing = f .standing; refs = f .refs; room = omega (arith, f .room) }
+
 -- a root that was seen before needs no search
 pub root-seen : {b index work : List ℕ} {n root : ℕ} → AtRoot b index n root work → (getD work root 0 ≡ 0 → ⊥) → Followed (heldBy (tableOf b)) n root work false
 root-seen {root = root} r seen =
     (r .clean .ended root (r .low) (r .high) (⊎-elim (λ z. absurd (seen z)) (λ d. d) (r .clean .marks root (r .low) (r .high))), r .clean)
 
--- ── what phase 5 says of a type and those behind it ──
+-- ── what is said of the types from a root on ──
 
-module _ (T : Table) (left t : ℕ) where
-  after : Bool → Option Answer
-  after b = orElse (namingAt t (placeAt T t) (firstDue (14 when b ∷ []))) (firstOf (placeAt T) (phase5 T) left (suc t))
+module _ (step : Table → ℕ → List ℕ) (T : Table) where
+  -- 14 by the walks of one sort, of so many types from t on
+  abbrev pub firstRing : ℕ → ℕ → Option Answer
+  firstRing left t = firstOf (placeAt T) (ringsBy step T) left t
 
-  first-after : firstOf (placeAt T) (phase5 T) (suc left) t ≡ after (endless T t)
-  unfolding phase5 after
-  first-after = refl
+  pub firstRing-next : (left t : ℕ) {z : Bool} → walks (step T) (count T) t ≡ z → firstRing (suc left) t ≡ cond z (some (reportAt 14 t (placeAt T t))) (firstRing left (suc t))
+  firstRing-next left t {z} e =
+      ap (λ (b : Bool). orElse (namingAt t (placeAt T t) (firstDue (14 when b ∷ []))) (firstRing left (suc t))) e ∙ go z
+    where
+      go : (b : Bool) → orElse (namingAt t (placeAt T t) (firstDue (14 when b ∷ []))) (firstRing left (suc t)) ≡ cond b (some (reportAt 14 t (placeAt T t))) (firstRing left (suc t))
+      go true = refl
+      go false = refl
 
-  first-endless : endless T t ≡ true → firstOf (placeAt T) (phase5 T) (suc left) t ≡ some (reportAt 14 t (placeAt T t))
-  unfolding after
-  first-endless e = first-after ∙ ap after e
+  -- the roots up to t have no endless walk: what is said from here on is what is said at all
+  pub record Left (n t : ℕ) : Type 0 where
+    pub counted : n ≡ count T
+    pub few : t ≤ n
+    pub rest : overTypes (ringsBy step) T ≡ firstRing (n - t) (t + 1)
 
-  first-ends : endless T t ≡ false → firstOf (placeAt T) (phase5 T) (suc left) t ≡ firstOf (placeAt T) (phase5 T) left (suc t)
-  unfolding after
-  first-ends e = first-after ∙ ap after e
+  pub left-start : {n : ℕ} → n ≡ count T → Left n 0
+  unfolding overTypes
+  left-start {n} e =
+      let all : count T ≡ n - 0 = omega arith in
+      record { counted = e; few = omega arith; rest = ap (λ (k : ℕ). firstRing k 1) all }
 
--- ── the roots passed ──
+  module _ {n t : ℕ} (l : Left n t) where
+    pub left-done : n ≤ t → none ≡ overTypes (ringsBy step) T
+    left-done h = let nothing : n - t ≡ 0 = omega arith in sym (l .rest ∙ ap (λ (k : ℕ). firstRing k (t + 1)) nothing)
+
+    module _ (more : t < n) {z : Bool} (e : walks (step T) n (t + 1) ≡ z) where
+      -- a walk of as many steps as there are types is an endless one
+      here : overTypes (ringsBy step) T ≡ cond z (some (reportAt 14 (t + 1) (placeAt T (t + 1)))) (firstRing (n - (t + 1)) (suc (t + 1)))
+      here =
+          let one : n - t ≡ suc (n - (t + 1)) = omega arith in
+          l .rest ∙ ap (λ (k : ℕ). firstRing k (t + 1)) one ∙ firstRing-next (n - (t + 1)) (t + 1) (ap (λ (k : ℕ). walks (step T) k (t + 1)) (sym (l .counted)) ∙ e)
+
+      pub left-ring : z ≡ true → some (reportAt 14 (t + 1) (placeAt T (t + 1))) ≡ overTypes (ringsBy step) T
+      left-ring is = sym (here ∙ ap (λ (b : Bool). cond b (some (reportAt 14 (t + 1) (placeAt T (t + 1)))) (firstRing (n - (t + 1)) (suc (t + 1)))) is)
+
+      pub left-next : z ≡ false → Left n (t + 1)
+      left-next is =
+          record {
+            counted = l .counted;
+            few = omega arith;
+            rest =
+                here
+                ∙ ap (λ (b : Bool). cond b (some (reportAt 14 (t + 1) (placeAt T (t + 1)))) (firstRing (n - (t + 1)) (suc (t + 1)))) is
+                ∙ ap (firstRing (n - (t + 1))) (sym (add-one (t + 1)));
+          }
+
+-- ── the roots passed, by value ──
 
 pub record Rooting (b index : List ℕ) (n size : ℕ) (work : List ℕ) (t : ℕ) : Type 0 where
   pub ready : Followable b index n work
   pub size-kept : length work ≡ size
   pub clean : Clean (heldBy (tableOf b)) n work
-  pub few : t ≤ n
-  pub left : overTypes phase5 (tableOf b) ≡ firstOf (placeAt (tableOf b)) (phase5 (tableOf b)) (n - t) (t + 1)
+  pub left : Left heldBy (tableOf b) n t
 
 pub rooting-start : {b index work : List ℕ} {n : ℕ} → Unsearched b index n work → Rooting b index n (length work) work 0
-unfolding overTypes
 rooting-start {b} {work = work} {n} s =
-    let all : count (tableOf b) ≡ n - 0 = omega (arith, s .ready .standing .counted) in
     record {
       ready = s .ready;
       size-kept = refl;
       clean = clean-start (heldBy (tableOf b)) n (length work) (s .unmarked);
-      few = omega arith;
-      left = ap (λ (k : ℕ). firstOf (placeAt (tableOf b)) (phase5 (tableOf b)) k 1) all;
+      left = left-start heldBy (tableOf b) (s .ready .standing .counted);
     }
 
 module _ {b index work : List ℕ} {n size t : ℕ} (r : Rooting b index n size work t) where
-  pub rooting-done : n ≤ t → none ≡ overTypes phase5 (tableOf b)
-  rooting-done h =
-      let nothing : n - t ≡ 0 = omega arith in
-      sym (r .left ∙ ap (λ (k : ℕ). firstOf (placeAt (tableOf b)) (phase5 (tableOf b)) k (t + 1)) nothing)
-
-  -- a walk of as many steps as there are types is an endless one
-  endless-here : (x : ℕ) {z : Bool} → walks (heldBy (tableOf b)) n x ≡ z → endless (tableOf b) x ≡ z
-  unfolding endless
-  endless-here x e = ap (λ (k : ℕ). walks (heldBy (tableOf b)) k x) (sym (r .ready .standing .counted)) ∙ e
+  pub rooting-done : n ≤ t → none ≡ overTypes (ringsBy heldBy) (tableOf b)
+  rooting-done h = left-done heldBy (tableOf b) (r .left) h
 
   module _ (more : t < n) where
-    one-more : overTypes phase5 (tableOf b) ≡ firstOf (placeAt (tableOf b)) (phase5 (tableOf b)) (suc (n - (t + 1))) (t + 1)
-    one-more =
-        let one : n - t ≡ suc (n - (t + 1)) = omega arith in
-        r .left ∙ ap (λ (k : ℕ). firstOf (placeAt (tableOf b)) (phase5 (tableOf b)) k (t + 1)) one
-
-    pub rooting-ring : walks (heldBy (tableOf b)) n (t + 1) ≡ true → some (reportAt 14 (t + 1) (placeAt (tableOf b) (t + 1))) ≡ overTypes phase5 (tableOf b)
-    rooting-ring e = sym (one-more ∙ first-endless (tableOf b) (n - (t + 1)) (t + 1) (endless-here (t + 1) e))
+    pub rooting-ring : walks (heldBy (tableOf b)) n (t + 1) ≡ true → some (reportAt 14 (t + 1) (placeAt (tableOf b) (t + 1))) ≡ overTypes (ringsBy heldBy) (tableOf b)
+    rooting-ring e = left-ring heldBy (tableOf b) (r .left) more e refl
 
     pub rooting-next : {work′ : List ℕ} → length work′ ≡ length work → Followed (heldBy (tableOf b)) n (t + 1) work′ false → Rooting b index n size work′ (t + 1)
     rooting-next same followed =
         record {
-          ready = record { standing = r .ready .standing; refs = r .ready .refs; room = omega (arith, r .ready .room) };
+          ready = followable-sized (r .ready) same;
           size-kept = same ∙ r .size-kept;
           clean = followed .1;
-          few = omega arith;
-          left =
-              one-more
-              ∙ first-ends (tableOf b) (n - (t + 1)) (t + 1) (endless-here (t + 1) (followed .0))
-              ∙ ap (firstOf (placeAt (tableOf b)) (phase5 (tableOf b)) (n - (t + 1))) (sym (add-one (t + 1)));
+          left = left-next heldBy (tableOf b) (r .left) more (followed .0) refl;
         }

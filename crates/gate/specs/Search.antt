@@ -1,10 +1,11 @@
 -- Phase 5 in the work slice: what a type's mark says, what one step of the search does, and what is known between two roots.
 use Prim.Native.Nat.{ℕ, _+_, _-_, _*_, _/_, _%_, _≤_, _<_}
 use mathlib.Core.Path.{_≡_}
-use mathlib.Core.Bool.{Bool, true, false}
-use mathlib.Core.List.{List, []}
+use mathlib.Core.Bool.{Bool, true, false, cond}
+use mathlib.Core.List.{List, [], _∷_}
 use mathlib.Core.Logic.{_⊎_}
 use mathlib.Core.Option.{Option, none, some}
+use lib.Dec.{ltb}
 use lib.ListN.{length, getD, set}
 use Rattle.gate.specs.declared.chains.Ring.{Ring}
 use Rattle.gate.specs.declared.chains.Ring.the-variants.{Nowhere, From}
@@ -14,9 +15,10 @@ use Rattle.gate.specs.Holding.{heldFrom, NextHeld}
 use Rattle.gate.specs.Standing.{Standing}
 use Rattle.paper.specs.Answer.{Answer, reportAt}
 use Rattle.paper.specs.Chain.{heldBy, walks}
+use Rattle.paper.specs.Choice.{Rule, _when_}
 use Rattle.paper.specs.Gate.{zeros}
 use Rattle.paper.specs.References.{refsOk}
-use Rattle.paper.specs.Table.{Record, Table, recordAt}
+use Rattle.paper.specs.Table.{Record, Table, count, recordAt}
 use Rattle.paper.specs.Walk.{placeAt, tableOf}
 
 -- ── marks: 0 is a type not yet seen ──
@@ -107,6 +109,16 @@ Followed held n root work true = walks held n root ≡ true
 Followed held n root work false = (walks held n root ≡ false) × Clean held n work
 
 -- ── the answer ──
+
+-- 14 by the walks of one sort
+abbrev pub ringsBy : (Table → ℕ → List ℕ) → Table → ℕ → List Rule
+ringsBy step T t = 14 when walks (step T) (count T) t ∷ []
+
+-- the smaller of two types, where there are two
+abbrev pub smallerOf : Ring → Ring → Ring
+smallerOf Nowhere b = b
+smallerOf (From t) Nowhere = From t
+smallerOf (From t) (From u) = cond (ltb (u .0) (t .0)) (From u) (From t)
 
 abbrev pub ringAsPaper : Table → Ring → Option Answer
 ringAsPaper T Nowhere = none

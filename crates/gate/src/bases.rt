@@ -11,7 +11,7 @@ ghost use Rattle.paper.specs.Walk.{tableOf};
 ghost use Rattle.paper.specs.Word.{lowFirst};
 
 // TYPEDEF, VOLATILE, CONST, RESTRICT or TYPE_TAG.
-fn is_alias(kind: u32) -> bool
+pub(crate) fn is_alias(kind: u32) -> bool
     ensures { λ r. ⌜ r ≡ isAlias kind ⌝ }
 {
     if kind == 18 {

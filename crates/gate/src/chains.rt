@@ -1,17 +1,17 @@
-// Phase 5, report 14: by-value references are followed depth first, each once, with a mark for each type in the work slice.
+// Phase 5, the first sort of walk: by-value references are followed depth first, each once, with a mark for each type in the work slice.
 use crate::held::Held;
 use crate::held::next_held;
 use crate::types::record_of;
 use paper::TypeNo;
 ghost use mathlib.Core.Path.{_≡_};
 ghost use lib.ListN.{getD};
-ghost use Rattle.gate.specs.Search.{AtRoot, Followable, Followed, OnWay, Stepped, Unsearched, ringAsPaper};
+ghost use Rattle.gate.specs.Search.{AtRoot, Followable, Followed, OnWay, Stepped, Unsearched, ringAsPaper, ringsBy};
 ghost use Rattle.paper.specs.Chain.{heldBy};
-ghost use Rattle.paper.specs.Gate.{overTypes, phase5};
+ghost use Rattle.paper.specs.Gate.{overTypes};
 ghost use Rattle.paper.specs.Table.{recordAt};
 ghost use Rattle.paper.specs.Walk.{tableOf};
 
-// The smallest type that leads to a ring, if there is one.
+// The smallest type that leads to a ring of some sort, if there is one.
 pub(crate) enum Ring {
     Nowhere,
     From(TypeNo),
@@ -92,10 +92,10 @@ fn visit(b: &[u8], index: &[u32], n: u32, root: TypeNo, work: &mut [u32]) -> boo
     follow(b, index, n, root, work)
 }
 
-// What phase 5 says. Roots are taken in order, so that the first with a ring is the smallest.
+// The smallest type that leads to a ring of this sort. Roots are taken in order, so that the first with a ring is the smallest.
 pub(crate) fn chains(b: &[u8], index: &[u32], n: u32, work: &mut [u32]) -> Ring
     requires { ⌜ Unsearched (now b) (now index) n (now work) ⌝ }
-    ensures { λ r. ⌜ ringAsPaper (tableOf (now (b .entry))) r ≡ overTypes phase5 (tableOf (now (b .entry))) ⌝ }
+    ensures { λ r. ⌜ ringAsPaper (tableOf (now (b .entry))) r ≡ overTypes (ringsBy heldBy) (tableOf (now (b .entry))) ⌝ }
 {
     let mut t: u32 = 0;
     while t < n {

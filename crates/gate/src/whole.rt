@@ -1,10 +1,10 @@
 // The check: phases 1 and 2 by `scan`, then 3 to 6, and what is left in both lent slices.
 use crate::chains::Ring;
-use crate::chains::chains;
 use crate::phases::Said;
 use crate::phases::fourth;
 use crate::phases::sixth;
 use crate::phases::third;
+use crate::rings::rings;
 use crate::types::place_of;
 use paper::Checked;
 use paper::Report;
@@ -33,7 +33,7 @@ fn judge(b: &[u8], index: &[u32], n: u32, work: &mut [u32]) -> Said
         Said::Nothing => {}
         Said::Says(_) => return refs,
     }
-    match chains(b, index, n, work) {
+    match rings(b, index, n, work) {
         Ring::Nowhere => sixth(b, index, n),
         Ring::From(t) => Said::Says(Report::Endless(t, place_of(b, index, n, t))),
     }

@@ -12,7 +12,7 @@ use Rattle.paper.specs.Computes.{computes}
 use Rattle.paper.specs.Gate.{gate, zeros}
 use Rattle.paper.specs.Header.{opening}
 use Rattle.paper.specs.Join.{join}
-use Rattle.paper.specs.KindNo.{INT, PTR, ARRAY, STRUCT, UNION, ENUM, CONST, FUNC, FUNC-PROTO, VAR, DECL-TAG}
+use Rattle.paper.specs.KindNo.{INT, PTR, ARRAY, STRUCT, UNION, ENUM, TYPEDEF, CONST, FUNC, FUNC-PROTO, VAR, DECL-TAG}
 use Rattle.paper.specs.Size.{sizeOf}
 use Rattle.paper.specs.Table.{Record}
 use Rattle.paper.specs.Walk.{bytesOf}
@@ -155,7 +155,7 @@ benches =
     ∷ refuses (set T 31 20) 7 1 24
     -- 9, 10: CONST to itself; PTR to itself
     ∷ refuses (blob (rec CONST 0 0 1 [] ∷ [])) 14 1 24
-    ∷ sizes (blob (rec PTR 0 0 1 [] ∷ [])) 1 1 (value 8)
+    ∷ refuses (blob (rec PTR 0 0 1 [] ∷ [])) 14 1 24
     -- 11: T joined to T
     ∷ joins T T TT
     -- 12, 13: 000's bit field, in 14 bytes and in 13
@@ -186,6 +186,21 @@ benches =
     ∷ gives (linked 1 0) (accepted 4) (0 ∷ 24 ∷ 40 ∷ 52 ∷ 64 ∷ zeros 3)
     ∷ refuses (linked 2 0) 10 3 52
     ∷ gives (linked 0 2) (accepted 4) (0 ∷ 24 ∷ 40 ∷ 52 ∷ 64 ∷ zeros 3)
+    -- order 6, 32 and 33: a struct with a pointer to itself; the same through CONST and TYPEDEF
+    ∷ gives (blob (struct 8 2 0 ∷ rec PTR 0 0 1 [] ∷ [])) (accepted 2) (0 ∷ 24 ∷ 48 ∷ zeros 5)
+    ∷ gives (blob (struct 8 2 0 ∷ rec PTR 0 0 3 [] ∷ rec CONST 0 0 4 [] ∷ rec TYPEDEF 0 1 1 [] ∷ [])) (accepted 4)
+    (0 ∷ 24 ∷ 48 ∷ 60 ∷ 72 ∷ zeros 3)
+    -- 34 to 37: a ring of PTR and CONST; a self-pointer behind a TYPEDEF, which is named, and behind a struct and a VAR, which are not
+    ∷ refuses (blob (rec PTR 0 0 2 [] ∷ rec CONST 0 0 1 [] ∷ [])) 14 1 24
+    ∷ refuses (blob (rec TYPEDEF 0 1 2 [] ∷ rec PTR 0 0 2 [] ∷ [])) 14 1 24
+    ∷ refuses (blob (struct 8 2 0 ∷ rec PTR 0 0 2 [] ∷ [])) 14 2 48
+    ∷ refuses (blob (rec VAR 0 1 2 (0 ∷ []) ∷ rec PTR 0 0 2 [] ∷ [])) 14 2 40
+    -- 38, 39: chains over all types of a table, of which one ends in a struct and one in void
+    ∷ gives (blob (rec PTR 0 0 2 [] ∷ rec CONST 0 0 3 [] ∷ rec PTR 0 0 4 [] ∷ rec STRUCT 0 1 0 [] ∷ [])) (accepted 4)
+    (0 ∷ 24 ∷ 36 ∷ 48 ∷ 60 ∷ zeros 3)
+    ∷ gives (blob (rec PTR 0 0 2 [] ∷ rec CONST 0 0 3 [] ∷ rec PTR 0 0 0 [] ∷ [])) (accepted 3) (0 ∷ 24 ∷ 36 ∷ 48 ∷ zeros 4)
+    -- 40: the size that bench 10 gave a pointer before order 6
+    ∷ sizes (blob (rec PTR 0 0 0 [] ∷ [])) 1 1 (value 8)
     ∷ []
 
 pub benches-hold : failing 1 benches ≡ []

@@ -3,6 +3,7 @@
 use Prim.Native.Nat.{ℕ, suc, _+_, _-_, _≤_, _<_}
 use mathlib.Core.Path.{_≡_, sym, ap, _∙_}
 use mathlib.Core.List.{List}
+use mathlib.Core.Logic.{_⊎_}
 use mathlib.Core.Option.{none}
 use native.Mathlib.Omega.{arith}
 use lib.ListN.{length, getD}
@@ -13,7 +14,7 @@ use Rattle.paper.proofs.joins.JoinFits.{good-join, fits-join}
 use Rattle.paper.proofs.joins.Joining.{size-rename, count-join, first-record, second-record, first-renaming, second-renaming}
 use Rattle.paper.proofs.gates.SizeAsked.{sizeOf-exact}
 use Rattle.paper.proofs.bytes.Tables.{length-bytesOf, bytes-bytesOf, tableOf-bytesOf}
-use Rattle.paper.specs.Chain.{heldBy, Chain}
+use Rattle.paper.specs.Chain.{heldBy, pointedBy, Chain}
 use Rattle.paper.specs.Fit.{Bytes, Fits}
 use Rattle.paper.specs.Gate.{refusal}
 use Rattle.paper.specs.Good.{Joinable, Good}
@@ -29,8 +30,8 @@ use Rattle.paper.specs.Walk.{tableOf, blobLength, placesOf}
 -- ── demand 2 ──
 
 module _ (b : List ℕ) (bytes : Bytes b) (places work : ℕ) (accepted : refusal b places work ≡ none) where
-  -- no by-value chain of an accepted table can be followed for ever
-  pub accepted-ends : (t : ℕ) → Chain (heldBy (tableOf b)) t → ⊥
+  -- no chain of an accepted table, by value or of the second sort, can be followed for ever
+  pub accepted-ends : (t : ℕ) → Chain (heldBy (tableOf b)) t ⊎ Chain (pointedBy (tableOf b)) t → ⊥
   accepted-ends = let s = accepted-good b places work accepted .sound in no-chain (tableOf b) (sound-refs s) (sound-ends s)
 
   -- (and report 14 names a type from which one can: `report-14`)

@@ -11,7 +11,7 @@ use Rattle.paper.specs.Heads.{spareZero, headOk, headBad}
 use Rattle.paper.specs.Names.{nameOk, namesOk, nameBad}
 use Rattle.paper.specs.Tails.{intWordOk, linkageWordOk, isLast00, tailOk, tailBad}
 use Rattle.paper.specs.References.{isPlain, refOk, refsOk, refBad}
-use Rattle.paper.specs.Chain.{heldBy, endless}
+use Rattle.paper.specs.Chain.{heldBy, pointedBy, endless}
 use Rattle.paper.specs.Size.{stepIn, exactSize, hasSize, smallSize, hasSmallSize, stepAtPlace, stepAt, sizeAsked, sizeOf}
 use Rattle.paper.specs.Span.{baseOf, isRegularWord, isRegular, wholeSpan, plainSpan, fieldSpan, spanOf}
 use Rattle.paper.specs.Section.{entryCovers, sectionOk}
@@ -24,7 +24,7 @@ unfoldable pub computes : Unit {0}
 unfolding reportAsPaper checkedAsPaper sizedAsPaper joinedAsPaper wordAt putWord rows rowOf tailLength tailRoles orderOf typeOff typeLen strOff
     strLen stringsIn lengthBad openingBad headerLengthBad sectionsBad stringsBad headerReport walkRecord typeWords walk tableOf
     bytesOf placesOf placeAt recordIn roled nameIn nameless nameAt isDigit isLetter isSectionName spareZero headOk headBad nameOk namesOk nameBad intWordOk
-    linkageWordOk isLast00 tailOk tailBad isPlain refOk refsOk refBad heldBy endless stepIn exactSize hasSize smallSize hasSmallSize
+    linkageWordOk isLast00 tailOk tailBad isPlain refOk refsOk refBad heldBy pointedBy endless stepIn exactSize hasSize smallSize hasSmallSize
     stepAtPlace stepAt sizeAsked sizeOf baseOf isRegularWord isRegular wholeSpan plainSpan fieldSpan spanOf entryCovers sectionOk
     memberOk offsetsOk membersOk arrayOk functionOk partsOf tagOk layoutOk layoutBad phase1 phase2 shortSlices phase3 phase4 phase5
     phase6 overTypes tableReport refusal indexOf gate rename joinTables joinedBytes limitReport joinRefusal join

@@ -29,8 +29,11 @@ pub record Span : Type 0 where
   pub size : ℕ
 
 -- "Follow TYPEDEF, qualifiers and TYPE_TAG to a base"
+abbrev pub aliases : List ℕ
+aliases = TYPEDEF ∷ VOLATILE ∷ CONST ∷ RESTRICT ∷ TYPE-TAG ∷ []
+
 abbrev pub isAlias : ℕ → Bool
-isAlias k = member k (TYPEDEF ∷ VOLATILE ∷ CONST ∷ RESTRICT ∷ TYPE-TAG ∷ [])
+isAlias k = member k aliases
 
 abbrev pub baseFrom : Table → ℕ → ℕ → ℕ
 baseFrom T zero t = t

@@ -26,7 +26,7 @@ fn put_meaning(buf: &mut [u8; ROOM], o: Out, number: u32) -> Out {
         a name is not allowed\n\
         a word behind the record's head is not allowed\n\
         it refers to a type that is not there, or of a kind that is not allowed\n\
-        it holds itself without end, or leads to a type that does\n\
+        what it holds, or what it points to, leads on without end\n\
         a size, a bit offset or a place breaks the layout\n";
     put(buf, o, line(meanings, number))
 }

@@ -1,5 +1,7 @@
-//! Damage for the reports 13 and 14: references and by-value rings.
+//! Damage for the reports 13 and 14: references and rings.
 
+use crate::chain::CHAIN_KINDS;
+use crate::generate::damage_layout::wrapped;
 use crate::generate::grow::grow;
 use crate::generate::pieces::*;
 use crate::generate::random::Random;
@@ -50,10 +52,44 @@ fn somewhere(r: &mut Random, m: &mut Make) -> u32 {
     }
 }
 
-/// Report 14: a ring of one to four types, perhaps with types that only lead
-/// to it. A pointer in the ring makes it harmless.
+/// Report 14: a ring, perhaps with types that only lead to it.
 pub fn ring(r: &mut Random, m: &mut Make) {
     let index = regular_int(r, m);
+    let mut ends = if r.one_in(3) {
+        closed_chain(r, m)
+    } else {
+        new_ring(r, m, index)
+    };
+    for _ in 0..r.below(3) {
+        let end = r.pick(&ends);
+        lead(r, m, end, index);
+        let last = m.count();
+        if kind_of(m, last).is_some_and(is_plain) {
+            ends.push(last);
+        }
+    }
+    if r.one_in(2) {
+        shuffle(r, m);
+    }
+}
+
+/// A ring of the second sort: the last of a chain turned back into it.
+fn closed_chain(r: &mut Random, m: &mut Make) -> Vec<u32> {
+    let kind = r.pick(&CHAIN_KINDS);
+    let mut first = some_of(r, m, kind);
+    for _ in 0..r.below(3) {
+        let of = wrapped(r, m, first);
+        first = m.ptr(of);
+    }
+    let chain = chain_from(m, first);
+    let last = chain[chain.len() - 1];
+    m.at(last).third = r.pick(&chain);
+    chain
+}
+
+/// One to four new types in a ring. A pointer among them makes it harmless,
+/// unless all others are typedefs, qualifiers and tags.
+fn new_ring(r: &mut Random, m: &mut Make, index: u32) -> Vec<u32> {
     let first = m.count() + 1;
     let length = r.between(1, 4);
     let harmless = r.one_in(6).then(|| r.below(length));
@@ -69,15 +105,7 @@ pub fn ring(r: &mut Random, m: &mut Make) {
             link(r, m, next, index);
         }
     }
-    for _ in 0..r.below(3) {
-        let end = r.between(first, m.count());
-        if kind_of(m, end).is_some_and(is_plain) {
-            lead(r, m, end, index);
-        }
-    }
-    if r.one_in(2) {
-        shuffle(r, m);
-    }
+    (first..first + length).collect()
 }
 
 /// One by-value step to a type, by any kind that can be in a ring.
@@ -110,10 +138,10 @@ fn link(r: &mut Random, m: &mut Make, to: u32, index: u32) -> u32 {
 }
 
 /// A type that leads to a ring without being of it. A tag or a section does
-/// so too, but not by value.
+/// so too, but by no step.
 fn lead(r: &mut Random, m: &mut Make, to: u32, index: u32) {
     let name = identifier(r, m);
-    match r.below(6) {
+    match r.below(7) {
         0 => {
             m.var(name, to);
         }
@@ -127,6 +155,9 @@ fn lead(r: &mut Random, m: &mut Make, to: u32, index: u32) {
         2 => {
             let var = m.var(name, to);
             m.section(name, 0, &[[var, 0, 0]]);
+        }
+        3 => {
+            m.ptr(to);
         }
         _ => {
             link(r, m, to, index);

@@ -1,7 +1,8 @@
 //! The rules one by one at their edges, without chance: every bit of an info
 //! word, every byte of a name, every reference to every kind.
 
-use crate::generate::{edges_joins, edges_layout, edges_names, edges_questions, edges_walks};
+use crate::generate::{edges_joins, edges_layout, edges_names};
+use crate::generate::{edges_pointers, edges_questions, edges_walks};
 use crate::make::{blob_of, info, int_word, put_word, Make};
 use crate::reference::references;
 use crate::table::{Kind, ALL_KINDS};
@@ -25,6 +26,7 @@ pub fn cases(thin: bool) -> Vec<Case> {
     int_tails(&mut found);
     linkages_and_parameters(&mut found);
     edges_walks::cases(&mut found);
+    edges_pointers::cases(&mut found);
     edges_layout::cases(&mut found, thin);
     edges_questions::cases(&mut found);
     edges_joins::cases(&mut found);

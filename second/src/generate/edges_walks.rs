@@ -1,4 +1,4 @@
-//! By-value rings and what leads to them, report 14, without chance.
+//! Rings of one type and what leads to them, report 14, without chance.
 
 use crate::generate::edges::add;
 use crate::make::{info, Make};
@@ -19,7 +19,8 @@ pub fn cases(found: &mut Vec<Case>) {
     }
 }
 
-/// Type 1 leads to type 3, by value or not, and type 2 is a VAR of it.
+/// Type 1 leads to type 3, by a step of either sort or by none, and type 2 is
+/// a VAR of it.
 fn add_lead(m: &mut Make, which: u32) {
     match which {
         0 => m.constant(3),
@@ -36,7 +37,7 @@ fn add_lead(m: &mut Make, which: u32) {
     m.var(1, 3);
 }
 
-/// Type 3 holds itself by value; the last one only by a pointer.
+/// Type 3 leads to itself: by value, or as a pointer by the second sort only.
 fn add_ring(m: &mut Make, which: u32) {
     match which {
         0 => m.typedef(1, 3),

@@ -35,17 +35,18 @@ pub fn around_byte_limit(r: &mut Random, m: &Make) -> Vec<u8> {
     padded(m, bytes)
 }
 
-/// A long by-value chain that ends in a size, in void or in a ring.
+/// A long chain that ends in a size, in void or in a ring, be it of pointers.
 pub fn chain(r: &mut Random) -> Make {
     let mut m = Make::new();
     let count = r.pick(&[1_000, 4_000, 4_095, 4_096]);
     for number in 1..count {
         m.constant(number + 1);
     }
-    match r.below(4) {
-        0 => m.ptr(1),
+    match r.below(5) {
+        0 => m.ptr(0),
         1 => m.constant(0),
         2 => m.constant(count),
+        3 => m.ptr(r.between(1, count)),
         _ => m.constant(r.between(1, count)),
     };
     m

@@ -25,6 +25,10 @@ pub fn cases(thin: bool) -> Vec<Case> {
         nest(1_400).blob(),
         ring_behind(4_000).blob(),
         ring_in_nest(1_400).blob(),
+        pointers_up(4_000).blob(),
+        pointers_down(4_000).blob(),
+        pointer_ring(4_096).blob(),
+        pointer_ring_behind(4_000).blob(),
         entries(5_000, 20_000).blob(),
         entries(5_000, 19_999).blob(),
         parameters(8_000, 8_000, 7_999).blob(),
@@ -96,24 +100,52 @@ pub fn full() -> Vec<u8> {
 
 /// So many typedefs, each of the next; the last is of an INT.
 pub fn chain_up(count: u32) -> Make {
+    up(count, add_typedef)
+}
+
+/// An INT, and so many typedefs, each of the one before.
+pub fn chain_down(count: u32) -> Make {
+    down(count, add_typedef)
+}
+
+/// The same of pointers and qualifiers.
+pub fn pointers_up(count: u32) -> Make {
+    up(count, add_pointer)
+}
+
+pub fn pointers_down(count: u32) -> Make {
+    down(count, add_pointer)
+}
+
+fn up(count: u32, add_link: fn(&mut Make, u32)) -> Make {
     let mut m = Make::new();
-    let name = m.string("t");
+    m.string("t");
     for number in 1..=count {
-        m.typedef(name, number + 1);
+        add_link(&mut m, number + 1);
     }
     m.int(4);
     m
 }
 
-/// An INT, and so many typedefs, each of the one before.
-pub fn chain_down(count: u32) -> Make {
+fn down(count: u32, add_link: fn(&mut Make, u32)) -> Make {
     let mut m = Make::new();
-    let name = m.string("t");
+    m.string("t");
     m.int(4);
     for number in 1..=count {
-        m.typedef(name, number);
+        add_link(&mut m, number);
     }
     m
+}
+
+fn add_typedef(m: &mut Make, to: u32) {
+    m.typedef(1, to);
+}
+
+/// A pointer or a qualifier, in turn.
+fn add_pointer(m: &mut Make, to: u32) {
+    let kinds = [Kind::Ptr, Kind::Const, Kind::Volatile, Kind::Restrict];
+    let turn = m.records.len() % kinds.len();
+    m.bare(kinds[turn], 0, to, &[]);
 }
 
 /// So many structs, each with the next as both of its members, so that there
@@ -129,10 +161,11 @@ pub fn nest(count: u32) -> Make {
     m
 }
 
-/// A pointer, then so many CONSTs, each of the next, then one of itself.
+/// A prototype, which has no steps, then so many CONSTs, each of the next, then
+/// one of itself.
 pub fn ring_behind(count: u32) -> Make {
     let mut m = Make::new();
-    m.ptr(2);
+    m.proto(2, &[]);
     for number in 2..count + 2 {
         m.constant(number + 1);
     }
@@ -145,6 +178,30 @@ pub fn ring_in_nest(count: u32) -> Make {
     let mut m = nest(count);
     let last = m.count();
     *m.at(last) = m.records[1].clone();
+    m
+}
+
+/// So many pointers and qualifiers, each of the one before, and the first of
+/// the last.
+pub fn pointer_ring(count: u32) -> Make {
+    let mut m = Make::new();
+    add_pointer(&mut m, count);
+    for number in 1..count {
+        add_pointer(&mut m, number);
+    }
+    m
+}
+
+/// A struct that holds the first of so many pointers and qualifiers, each of
+/// the next; the last is a pointer to itself.
+pub fn pointer_ring_behind(count: u32) -> Make {
+    let mut m = Make::new();
+    let name = m.string("m");
+    m.structure(8, false, &[[name, 2, 0]]);
+    for number in 2..count + 2 {
+        add_pointer(&mut m, number + 1);
+    }
+    m.ptr(count + 2);
     m
 }
 

@@ -3,7 +3,7 @@
 use crate::generate::edges_joins::{call, grouped, length, refused};
 use crate::generate::large::{padded, pointers};
 use crate::generate::large_fixed::{
-    chain_down, chain_up, entries, full, nest, of_bytes, parameters,
+    chain_down, chain_up, entries, full, nest, of_bytes, parameters, pointers_down, pointers_up,
 };
 use crate::make::Make;
 use crate::vectors::Case;
@@ -126,6 +126,8 @@ fn long_tables(found: &mut Vec<Case>) {
         chain_up(2_000).blob(),
         chain_down(2_000).blob(),
         nest(800).blob(),
+        pointers_up(2_000).blob(),
+        pointers_down(2_000).blob(),
         entries(2_500, 10_000).blob(),
         parameters(3_000, 3_000, 2_999).blob(),
         padded(&entries(2_000, 8_000), 32_780),

@@ -4,11 +4,12 @@
 use crate::generate::check_cases::damage;
 use crate::generate::edges_joins::{call, length};
 use crate::generate::large::padded;
-use crate::generate::pieces::table_of;
+use crate::generate::pieces::{kind_of, table_of};
 use crate::generate::random::Random;
 use crate::generate::{damage_bytes, valid, Scale};
 use crate::join::raised;
 use crate::make::{Make, Raw};
+use crate::table::Kind;
 use crate::vectors::{Case, CHECK};
 
 /// An accepted table of at most so many bytes, and nearly as many.
@@ -52,7 +53,8 @@ fn put_behind(m: &mut Make, part: &Make) {
 pub fn check(r: &mut Random) -> Case {
     let bytes = r.between(10_000, 65_536) as usize;
     let m = table(r, bytes);
-    let places = m.count() + 1;
+    // Damage may add types; then one place more than types is report 9.
+    let places = m.count() + r.pick(&[1, 40]);
     let a = if r.one_in(2) { m.blob() } else { damaged(r, m) };
     Case {
         op: CHECK,
@@ -134,9 +136,9 @@ fn around_type_limit(r: &mut Random) -> Case {
     let first = r.below(missing);
     for number in 0..missing {
         let m = if number < first { &mut a } else { &mut b };
-        m.ptr(0);
-        let ends = m.count();
-        m.at(ends).third = if r.one_in(2) { ends } else { 0 };
+        let last = m.count();
+        let is_pointer = kind_of(m, last) == Some(Kind::Ptr);
+        m.ptr(if is_pointer && r.one_in(2) { last } else { 0 });
     }
     lend(r, a.blob(), b.blob(), 0)
 }

@@ -10,6 +10,7 @@ pub mod edges;
 pub mod edges_joins;
 pub mod edges_layout;
 pub mod edges_names;
+pub mod edges_pointers;
 pub mod edges_questions;
 pub mod edges_walks;
 pub mod every_byte;

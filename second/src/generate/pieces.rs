@@ -1,5 +1,6 @@
 //! Names, types and sizes to choose from while a table grows.
 
+use crate::chain::CHAIN_KINDS;
 use crate::generate::grow::grow;
 use crate::generate::random::Random;
 use crate::header::phase_1;
@@ -52,6 +53,19 @@ pub fn base_of(m: &Make, type_number: u32) -> u32 {
         }
     }
     number
+}
+
+/// The types where the steps of the second sort of walk from a type start. A
+/// ring is gone round once.
+pub fn chain_from(m: &Make, type_number: u32) -> Vec<u32> {
+    let mut chain = Vec::new();
+    let mut number = type_number;
+    let is_link = |number| kind_of(m, number).is_some_and(|kind| CHAIN_KINDS.contains(&kind));
+    while is_link(number) && !chain.contains(&number) {
+        chain.push(number);
+        number = third_of(m, number);
+    }
+    chain
 }
 
 fn third_of(m: &Make, type_number: u32) -> u32 {

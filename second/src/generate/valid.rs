@@ -2,7 +2,7 @@
 
 use crate::check::judge;
 use crate::generate::grow::grow;
-use crate::generate::pieces::{kind_of, table_of, types_where};
+use crate::generate::pieces::{chain_from, kind_of, table_of, types_where};
 use crate::generate::random::Random;
 use crate::generate::Scale;
 use crate::make::Make;
@@ -42,12 +42,16 @@ fn grown(r: &mut Random, scale: Scale) -> Make {
     m
 }
 
-/// Pointers may lead anywhere plain: forward, back, to themselves.
+/// Pointers may lead anywhere plain, forward and back, but not along a chain
+/// to themselves.
 pub fn turn_pointers(r: &mut Random, m: &mut Make) {
     let ends = types_where(m, |number| kind_of(m, number).is_some_and(is_plain));
     for number in 1..=m.count() {
         if kind_of(m, number) == Some(Kind::Ptr) && r.one_in(2) {
-            m.at(number).third = r.pick(&ends);
+            let end = r.pick(&ends);
+            if !chain_from(m, end).contains(&number) {
+                m.at(number).third = end;
+            }
         }
     }
 }

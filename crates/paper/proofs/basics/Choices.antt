@@ -1,7 +1,7 @@
 -- Laws of `Choice`, and of the tests that rules are joined with.
 -- Assumes nothing.
 use Prim.Native.Nat.{ℕ, zero, suc}
-use mathlib.Core.Path.{_≡_, refl, sym, ap, ap₂, subst}
+use mathlib.Core.Path.{_≡_, refl, sym, ap, ap₂, subst, _∙_}
 use mathlib.Core.Bool.{Bool, true, false, not, cond, _&&_, _||_, false≢true}
 use mathlib.Core.List.{List, [], _∷_, map}
 use mathlib.Core.Logic.{inl, inr}
@@ -107,6 +107,13 @@ pub member-each : (P : ℕ → Type 0) (k : ℕ) (cs : List ℕ) → member k cs
 member-each P k [] e h = absurd (false≢true e)
 member-each P k (c ∷ cs) e h =
     or-cases (eqb k c) (member k cs) e (λ p. subst P (sym (eqb-true k c p)) (h .0)) (λ q. member-each P k cs q (h .1))
+
+-- and a test that each of some numbers passes is passed by a number among them
+pub member-every : (f : ℕ → Bool) (k : ℕ) (cs : List ℕ) → member k cs ≡ true → every f cs ≡ true → f k ≡ true
+member-every f k [] e h = absurd (false≢true e)
+member-every f k (c ∷ cs) e h =
+    or-cases (eqb k c) (member k cs) e (λ p. ap f (eqb-true k c p) ∙ and-left (f c) (every f cs) h)
+    (λ q. member-every f k cs q (and-right (f c) (every f cs) h))
 
 -- ── rules that are due ──
 

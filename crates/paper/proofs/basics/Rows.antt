@@ -5,10 +5,11 @@ use mathlib.Core.Path.{_≡_, refl, ap}
 use mathlib.Core.Bool.{Bool, true, false, _&&_, false≢true}
 use mathlib.Core.List.{_++_}
 use lib.ListN.{getD}
-use Rattle.paper.proofs.basics.Choices.{every-getD, and-left}
+use Rattle.paper.proofs.basics.Choices.{every-getD, and-left, member-every}
+use Rattle.paper.specs.Chain.{links, isLink}
 use Rattle.paper.specs.Choice.{every, times}
 use Rattle.paper.specs.Heads.{allowed}
-use Rattle.paper.specs.Kind.{Row, Role, names, refers, holds, number, Values, free, oneOf, SizeRule, eight, sizeWord, countTimes, referent, noSize, rows, rowOf}
+use Rattle.paper.specs.Kind.{Row, RefRule, Role, names, refers, holds, number, Values, free, oneOf, SizeRule, eight, sizeWord, countTimes, referent, noSize, rows, rowOf}
 use Rattle.paper.specs.Rename.{renameWord}
 
 -- the first row is that of a kind that is not known, so the test need not be asked of it again
@@ -30,6 +31,21 @@ isHeld (refers rule) = false
 isHeld (holds rule) = true
 isHeld number = false
 
+-- a reference, by value or not
+abbrev pub isReference : Role → Bool
+isReference (names rule) = false
+isReference (refers rule) = true
+isReference (holds rule) = true
+isReference number = false
+
+-- what is true of both sorts of reference is true of a role that is one
+pub each-reference : (P : Role → Type 0) → ((rule : RefRule) → P (refers rule)) → ((rule : RefRule) → P (holds rule))
+    → (ρ : Role) → isReference ρ ≡ true → P ρ
+each-reference P f g (names rule) e = absurd (false≢true e)
+each-reference P f g (refers rule) e = f rule
+each-reference P f g (holds rule) e = g rule
+each-reference P f g number e = absurd (false≢true e)
+
 module _ (type name : ℕ → ℕ) where
   pub number-kept : (ρ : Role) (w : ℕ) → isNumber ρ ≡ true → renameWord type name ρ w ≡ w
   number-kept (names rule) w h = absurd (false≢true h)
@@ -42,6 +58,9 @@ module _ (type name : ℕ → ℕ) where
   held-renamed (refers rule) w h = absurd (false≢true h)
   held-renamed (holds rule) w h = refl
   held-renamed number w h = absurd (false≢true h)
+
+  pub reference-renamed : (ρ : Role) (w : ℕ) → isReference ρ ≡ true → renameWord type name ρ w ≡ type w
+  reference-renamed ρ w = each-reference (λ (ρ : Role). renameWord type name ρ w ≡ type w) (λ rule. refl) (λ rule. refl) ρ
 
 -- ── a third word of which only some values are allowed is no reference ──
 
@@ -76,3 +95,9 @@ tailRole row v i = getD (row .once ++ times v (row .each)) i number
 pub rowOf-sizeRoles : (k v : ℕ) → sizeRoles (rowOf k .size) (rowOf k .thirdRole) (tailRole (rowOf k) v 0) (tailRole (rowOf k) v 2) ≡ true
 rowOf-sizeRoles k v =
     rowOf-every (λ (r : Row). sizeRoles (r .size) (r .thirdRole) (tailRole r v 0) (tailRole r v 2)) (unfold rows in refl) k
+
+-- ── the third word of a kind that the second sort of step starts at is a reference ──
+
+pub link-third : (k : ℕ) → isLink k ≡ true → isReference (rowOf k .thirdRole) ≡ true
+unfolding rowOf rows
+link-third k e = member-every (λ (k : ℕ). isReference (rowOf k .thirdRole)) k links e refl

@@ -3,7 +3,7 @@
 use Prim.Native.Nat.{ℕ, _≤_, _<_}
 use mathlib.Core.Path.{_≡_, refl, sym, ap, subst}
 use mathlib.Core.List.{List, [], _∷_}
-use mathlib.Core.Logic.{⊎-elim}
+use mathlib.Core.Logic.{_⊎_, ⊎-elim}
 use mathlib.Core.Option.{Option, none, some}
 use native.Mathlib.Omega.{arith}
 use borrow.Author.Tests.{not-false}
@@ -12,7 +12,7 @@ use Rattle.paper.proofs.gates.Gates.{orElse-some, overTypes-silent, ove
 use Rattle.paper.proofs.walks.Insides.{chain-at}
 use Rattle.paper.proofs.gates.Numbers.{Says, Numbers, says-phase1, says-phase2, says-shortSlices}
 use Rattle.paper.specs.Answer.{Answer}
-use Rattle.paper.specs.Chain.{heldBy, Chain, endless}
+use Rattle.paper.specs.Chain.{heldBy, pointedBy, Chain, endless}
 use Rattle.paper.specs.Choice.{Rule, _when_, orElse}
 use Rattle.paper.specs.Gate.{phase1, phase2, shortSlices, phase3, phase4, phase5, phase6, overTypes, tableReport, refusal}
 use Rattle.paper.specs.Good.{Readable}
@@ -69,7 +69,7 @@ abbrev Not14 : ℕ → Type 0
 Not14 n = n ≡ 14 → ⊥
 
 module _ (T : Table) (a : Answer) (n : a .number ≡ 14) where
-  spoken-chain : Spoken T a → Chain (heldBy T) (a .t)
+  spoken-chain : Spoken T a → Chain (heldBy T) (a .t) ⊎ Chain (pointedBy T) (a .t)
   unfolding phase3 phase4 phase5 phase6 refBad
   spoken-chain (third s) = absurd (due-number Not14 (a .number) (phase3 T (a .t)) (λ e. omega arith, (λ e. omega arith, (λ e. omega arith, tt))) (s .due) n)
   spoken-chain (fourth q s) = absurd (due-number Not14 (a .number) (phase4 T (a .t)) (λ e. omega arith, tt) (s .due) n)
@@ -78,6 +78,7 @@ module _ (T : Table) (a : Answer) (n : a .number ≡ 14) where
       (⊎-elim (λ p. p .1) (λ q. absurd (q .1)) (s .due))
   spoken-chain (sixth q r v s) = absurd (due-number Not14 (a .number) (phase6 T (a .t)) (λ e. omega arith, tt) (s .due) n)
 
--- report 14 names a type from which a by-value chain can be followed for ever
-pub report-14 : (b : List ℕ) (places work : ℕ) (a : Answer) → refusal b places work ≡ some a → a .number ≡ 14 → Chain (heldBy (tableOf b)) (a .t)
+-- report 14 names a type from which a by-value chain, or one of the second sort, can be followed for ever
+pub report-14 : (b : List ℕ) (places work : ℕ) (a : Answer) → refusal b places work ≡ some a → a .number ≡ 14
+    → Chain (heldBy (tableOf b)) (a .t) ⊎ Chain (pointedBy (tableOf b)) (a .t)
 report-14 b places work a e n = spoken-chain (tableOf b) a n (refusal-spoken b places work a e (omega arith) .1)

@@ -8,7 +8,7 @@ use native.Mathlib.Nat.{suc-add, add-comm}
 use native.Mathlib.Omega.{arith}
 use lib.ListN.{length, getD, drop, length-append, length-drop, length-map, List·getD-append, List·getD-map}
 use lib.Seq.{getD-append-add}
-use Rattle.paper.proofs.walks.Chains.{walks-rename, walks-longer}
+use Rattle.paper.proofs.walks.Chains.{endless-rename}
 use Rattle.paper.proofs.walks.Insides.{sound-refs, sound-ends, sound-inside}
 use Rattle.paper.proofs.renaming.Names.{nameIn-append, nameIn-behind, nameIn-zero}
 use Rattle.paper.proofs.renaming.Rename.{raise-eqb, rename-id, rename-nothing}
@@ -16,7 +16,6 @@ use Rattle.paper.proofs.renaming.Renaming.{Renaming, headOk-rename, nam
 use Rattle.paper.proofs.renaming.RenamingLayout.{layoutOk-rename}
 use Rattle.paper.proofs.renaming.RenamingSizes.{exactSize-rename}
 use Rattle.paper.proofs.renaming.RenamingTails.{tailOk-rename}
-use Rattle.paper.specs.Chain.{heldBy, endless}
 use Rattle.paper.specs.Fit.{Whole, EveryWhole}
 use Rattle.paper.specs.Good.{Closed, SoundAt, Good}
 use Rattle.paper.specs.Heads.{headOk}
@@ -43,7 +42,6 @@ good-whole T g (suc t) low high = whole-at (T .records) (g .whole) t high
 
 module _ {A B : Table} {type name : ℕ → ℕ} (R : Renaming A B type name) (g : Good A) where
   pub sound-rename : (t : ℕ) → 1 ≤ t → t ≤ count A → SoundAt B (type t)
-  unfolding endless
   sound-rename t low high =
       let s = g .sound in
       let r = recordAt A t in
@@ -54,7 +52,7 @@ module _ {A B : Table} {type name : ℕ → ℕ} (R : Renaming A B type name) (g
         names = ap (namesOk (B .strings)) e ∙ namesOk-rename R r (in-A t high) ∙ s t low high .names;
         tails = ap tailOk e ∙ tailOk-rename R r (good-whole A g t low high) ∙ s t low high .tails;
         refs = ap (refsOk B) e ∙ refsOk-rename R r (in-A t high) ∙ s t low high .refs;
-        ends = walks-rename R in-A (count B) t high ∙ walks-longer (heldBy A) t (R .fewer) (s t low high .ends);
+        ends = endless-rename R in-A t high (s t low high .ends);
         layouts = ap (layoutOk B) e ∙ layoutOk-rename R (sound-refs s) (sound-ends s) in-A (good-whole A g) r (s t low high .refs) (in-A t high) (good-whole A g t low high) ∙ s t low high .layouts;
       }
 

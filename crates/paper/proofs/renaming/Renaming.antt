@@ -8,7 +8,7 @@ use borrow.Author.Tests.{ltb-true, leb-true, lt-ltb}
 use lib.Dec.{eqb, leb, ltb}
 use lib.ListN.{length}
 use Rattle.paper.proofs.basics.Choices.{and-left, and-right}
-use Rattle.paper.proofs.basics.Rows.{allowed-third}
+use Rattle.paper.proofs.basics.Rows.{isReference, each-reference, allowed-third}
 use Rattle.paper.specs.Heads.{allowed, spareZero, headOk}
 use Rattle.paper.specs.Kind.{NameRule, offset0, anyName, offset0OrIdentifier, identifier, nonEmpty, sectionName, RefRule, Role, names, refers, holds, number}
 use Rattle.paper.specs.Name.{nameIn, isIdentifier}
@@ -35,6 +35,9 @@ inside A number w = true
 
 abbrev pub Inside : Table → Record → Type 0
 Inside A r = everyWord (inside A) r ≡ true
+
+pub reference-inside : (A : Table) (ρ : Role) (w : ℕ) → isReference ρ ≡ true → inside A ρ w ≡ true → w ≤ count A
+reference-inside A ρ w = each-reference (λ (ρ : Role). inside A ρ w ≡ true → w ≤ count A) (λ rule e. leb-true _ _ e) (λ rule e. leb-true _ _ e) ρ
 
 -- ── word by word ──
 

@@ -8,6 +8,7 @@ use native.Mathlib.Omega.{arith}
 use borrow.Author.Tests.{eqb-true, eqb-false}
 use lib.Dec.{eqb}
 use Rattle.paper.proofs.walks.Bases.{alias-held, third-held, baseFrom-void, baseFrom-add}
+use Rattle.paper.proofs.walks.Chains.{ends-held}
 use Rattle.paper.proofs.walks.Insides.{held-inside}
 use Rattle.paper.proofs.renaming.Renaming.{Renaming, kindAt-rename}
 use Rattle.paper.specs.Chain.{endless}
@@ -56,11 +57,10 @@ module _ {A B : Table} {type name : ℕ → ℕ} (R : Renaming A B type name) (r
 
   module _ (ends : (t : ℕ) → 1 ≤ t → t ≤ count A → endless A t ≡ false) where
     base-enough : (t : ℕ) → t ≤ count A → baseFrom A (count B) t ≡ baseFrom A (count A) t
-    unfolding endless
     base-enough zero h = baseFrom-void A (count B) ∙ sym (baseFrom-void A (count A))
     base-enough (suc t) h =
         ap (λ (k : ℕ). baseFrom A k (suc t)) (sym (sub-add-cancel (R .fewer)))
-        ∙ baseFrom-add A (count B - count A) (count A) (suc t) (ends (suc t) (omega arith) h)
+        ∙ baseFrom-add A (count B - count A) (count A) (suc t) (ends-held A (suc t) (ends (suc t) (omega arith) h))
 
     pub baseOf-rename : (t : ℕ) → t ≤ count A → baseOf B (type t) ≡ rename type name (baseOf A t)
     unfolding baseOf

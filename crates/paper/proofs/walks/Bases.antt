@@ -8,15 +8,14 @@ use native.Mathlib.Nat.{zero-add, suc-add}
 use native.Mathlib.Omega.{arith}
 use borrow.Author.Tests.{eqb-true, eqb-false}
 use lib.Dec.{eqb}
-use Rattle.paper.proofs.walks.Chains.{walks-longer}
+use Rattle.paper.proofs.walks.Chains.{walks-longer, ends-held}
 use Rattle.paper.proofs.basics.Choices.{member-each}
 use Rattle.paper.proofs.walks.Endless.{any-holds}
 use Rattle.paper.proofs.basics.Rows.{isHeld}
 use Rattle.paper.proofs.walks.Sizes.{heldIn-getD}
 use Rattle.paper.specs.Chain.{heldBy, walks, endless}
 use Rattle.paper.specs.Kind.{holds, voidOrPlain, rows, rowOf}
-use Rattle.paper.specs.KindNo.{TYPEDEF, VOLATILE, CONST, RESTRICT, TYPE-TAG}
-use Rattle.paper.specs.Span.{isAlias, baseFrom, baseOf}
+use Rattle.paper.specs.Span.{aliases, isAlias, baseFrom, baseOf}
 use Rattle.paper.specs.Table.{Table, count, recordAt, kindAt, kindOf, tailRoles, rolesOf, wordsOf}
 
 -- ── an alias holds what it stands for ──
@@ -24,7 +23,7 @@ use Rattle.paper.specs.Table.{Table, count, recordAt, kindAt, kindOf, ta
 pub alias-held : (k : ℕ) → isAlias k ≡ true → rowOf k .thirdRole ≡ holds voidOrPlain
 unfolding rowOf rows
 alias-held k e =
-    member-each (λ (k : ℕ). rowOf k .thirdRole ≡ holds voidOrPlain) k (TYPEDEF ∷ VOLATILE ∷ CONST ∷ RESTRICT ∷ TYPE-TAG ∷ []) e
+    member-each (λ (k : ℕ). rowOf k .thirdRole ≡ holds voidOrPlain) k aliases e
     (refl, (refl, (refl, (refl, (refl, tt)))))
 
 pub third-held : (T : Table) (t : ℕ) → isAlias (kindAt T t) ≡ true → (recordAt T t .third ≡ 0 → ⊥) → List·Memᴰ (recordAt T t .third) (heldBy T t)
@@ -81,10 +80,10 @@ alias-walks T (suc k) t e = go (isAlias (kindAt T t)) refl e (eqb u 0) refl (ali
 
 -- so in a table whose chains end the base of a type is none
 pub base-no-alias : (T : Table) → ((t : ℕ) → 1 ≤ t → t ≤ count T → endless T t ≡ false) → (t : ℕ) → t ≤ count T → isAlias (kindOf (baseOf T t)) ≡ false
-unfolding endless baseOf
+unfolding baseOf
 base-no-alias T ends zero h = ap (λ (v : ℕ). isAlias (kindAt T v)) (baseFrom-void T (count T))
 base-no-alias T ends (suc t) h = go (isAlias (kindAt T (baseFrom T (count T) (suc t)))) refl
   where
     go : (a : Bool) → isAlias (kindAt T (baseFrom T (count T) (suc t))) ≡ a → a ≡ false
-    go true x = absurd (false≢true (sym (ends (suc t) (omega arith) h) ∙ alias-walks T (count T) (suc t) x))
+    go true x = absurd (false≢true (sym (ends-held T (suc t) (ends (suc t) (omega arith) h)) ∙ alias-walks T (count T) (suc t) x))
     go false x = refl

@@ -4,21 +4,23 @@ use Prim.Native.Nat.{ℕ, zero, suc, _≤_, _<_}
 use mathlib.Core.Path.{_≡_, refl, sym, ap, _∙_, subst}
 use mathlib.Core.Bool.{Bool, true, false, cond, _&&_, false≢true}
 use mathlib.Core.List.{List, [], _∷_, List·Memᴰ, List·Memᴰ·cases-cons, List·Memᴰ·not-nil}
-use mathlib.Core.Logic.{⊎-elim}
+use mathlib.Core.Logic.{_⊎_, inl, inr, ⊎-elim}
 use native.Mathlib.Omega.{arith}
 use native.Mathlib.Nat.{le-of-suc-le-suc}
 use borrow.Author.Tests.{eqb-true, eqb-false, leb-true, leb-false, le-leb, lt-ltb}
 use lib.Dec.{eqb, leb, ltb}
 use lib.ListN.{length, List·getD-eq-default}
 use Rattle.paper.proofs.basics.Choices.{and-left, and-right, and-true, or-cases}
+use Rattle.paper.proofs.basics.Rows.{isReference, each-reference, link-third}
+use Rattle.paper.proofs.walks.Chains.{ends-held, ends-pointed, pointedBy-none, pointedBy-cases, third-word}
 use Rattle.paper.proofs.walks.Endless.{chain-walks, walks-chain}
 use Rattle.paper.proofs.renaming.Renaming.{inside, Inside}
-use Rattle.paper.specs.Chain.{heldWord, heldIn, heldBy, Chain, endless}
+use Rattle.paper.specs.Chain.{stepTo, heldWord, heldIn, heldBy, isLink, pointedBy, walks, Chain, endless}
 use Rattle.paper.specs.Good.{Sound}
 use Rattle.paper.specs.Kind.{RefRule, voidOrPlain, plain, anInt, aProto, aVar, taggable, Role, names, refers, holds, number, rowOf, rows}
 use Rattle.paper.specs.Names.{nameOk, nameWordOk, namesOk}
 use Rattle.paper.specs.References.{isPlain, mayBeVoid, mayBeKind, refOk, refWordOk, refsOk}
-use Rattle.paper.specs.Table.{Record, Table, count, nothing, recordAt, kindOf, kindAt, tailRoles, rolesOf, wordsOf, everyRoled}
+use Rattle.paper.specs.Table.{Record, Table, count, nothing, recordAt, kindOf, kindAt, rowIn, tailRoles, rolesOf, wordsOf, everyRoled}
 
 pub recordAt-outside : (T : Table) (t : ℕ) → count T < t → recordAt T t ≡ nothing
 recordAt-outside T zero h = absurd (omega arith)
@@ -83,19 +85,21 @@ module _ {T : Table} (s : Sound T) (some-strings : 1 ≤ length (T .strings)) wh
 abbrev IsType : Table → ℕ → Type 0
 IsType T u = (1 ≤ u) × (u ≤ count T)
 
-heldWord-inside : (T : Table) (ρ : Role) (w : ℕ) (us : List ℕ) (u : ℕ) → refWordOk T ρ w ≡ true → (List·Memᴰ u us → IsType T u)
-    → List·Memᴰ u (heldWord ρ w us) → IsType T u
-heldWord-inside T (names rule) w us u e h m = h m
-heldWord-inside T (refers rule) w us u e h m = h m
-heldWord-inside T number w us u e h m = h m
-heldWord-inside T (holds rule) w us u e h m = go (eqb w 0) refl m
+stepTo-inside : (T : Table) (w : ℕ) (us : List ℕ) (u : ℕ) → w ≤ count T → (List·Memᴰ u us → IsType T u) → List·Memᴰ u (stepTo w us) → IsType T u
+stepTo-inside T w us u le h m = go (eqb w 0) refl m
   where
     go : (z : Bool) → eqb w 0 ≡ z → List·Memᴰ u (cond z us (w ∷ us)) → IsType T u
     go true x m = h m
     go false x m =
         let ne = eqb-false w 0 x in
-        let le = leb-true w (count T) (refOk-inside T rule w e) in
         ⊎-elim (λ (p : u ≡ w). (omega arith, omega arith)) h (List·Memᴰ·cases-cons m)
+
+heldWord-inside : (T : Table) (ρ : Role) (w : ℕ) (us : List ℕ) (u : ℕ) → refWordOk T ρ w ≡ true → (List·Memᴰ u us → IsType T u)
+    → List·Memᴰ u (heldWord ρ w us) → IsType T u
+heldWord-inside T (names rule) w us u e h m = h m
+heldWord-inside T (refers rule) w us u e h m = h m
+heldWord-inside T number w us u e h m = h m
+heldWord-inside T (holds rule) w us u e h m = stepTo-inside T w us u (leb-true w (count T) (refOk-inside T rule w e)) h m
 
 heldIn-inside : (T : Table) (u : ℕ) (ρs : List Role) (ws : List ℕ) → everyRoled (refWordOk T) ρs ws ≡ true → List·Memᴰ u (heldIn ρs ws) → IsType T u
 heldIn-inside T u [] ws e m = absurd (List·Memᴰ·not-nil m)
@@ -104,34 +108,77 @@ heldIn-inside T u (ρ ∷ ρs) (w ∷ ws) e m =
     heldWord-inside T ρ w (heldIn ρs ws) u (and-left (refWordOk T ρ w) (everyRoled (refWordOk T) ρs ws) e)
     (heldIn-inside T u ρs ws (and-right (refWordOk T ρ w) (everyRoled (refWordOk T) ρs ws) e)) m
 
--- void, and what is above the count, holds nothing
+heldBy-types : (T : Table) (t u : ℕ) → refsOk T (recordAt T t) ≡ true → List·Memᴰ u (heldBy T t) → IsType T u
+unfolding refsOk heldBy
+heldBy-types T t u e m = let r = recordAt T t in heldIn-inside T u (rolesOf r) (wordsOf r) e m
+
+-- ── and what a step of the second sort leads to ──
+
+reference-type : (T : Table) (ρ : Role) (w : ℕ) → isReference ρ ≡ true → refWordOk T ρ w ≡ true → w ≤ count T
+reference-type T ρ w =
+    each-reference (λ (ρ : Role). refWordOk T ρ w ≡ true → w ≤ count T)
+    (λ rule e. leb-true _ _ (refOk-inside T rule w e)) (λ rule e. leb-true _ _ (refOk-inside T rule w e)) ρ
+
+link-type : (T : Table) (r : Record) → refsOk T r ≡ true → isLink (kindOf r) ≡ true → r .third ≤ count T
+unfolding refsOk
+link-type T r ok e = reference-type T (rowIn r .thirdRole) (r .third) (link-third (kindOf r) e) (third-word (refWordOk T) r ok)
+
+pointedBy-types : (T : Table) (t u : ℕ) → refsOk T (recordAt T t) ≡ true → List·Memᴰ u (pointedBy T t) → IsType T u
+pointedBy-types T t u ok =
+    pointedBy-cases T t (λ (us : List ℕ). List·Memᴰ u us → IsType T u)
+    (λ e m. stepTo-inside T (recordAt T t .third) [] u (link-type T (recordAt T t) ok e) (λ n. absurd (List·Memᴰ·not-nil n)) m)
+    (λ e m. absurd (List·Memᴰ·not-nil m))
+
+-- ── void, and what is above the count, leads nowhere ──
+
 heldBy-outside : (T : Table) (t : ℕ) → recordAt T t ≡ nothing → heldBy T t ≡ []
 unfolding heldBy tailRoles rowOf rows
 heldBy-outside T t e = ap (λ (r : Record). heldIn (rolesOf r) (wordsOf r)) e
 
+pointedBy-outside : (T : Table) (t : ℕ) → recordAt T t ≡ nothing → pointedBy T t ≡ []
+pointedBy-outside T t e = pointedBy-none T t (ap (λ (r : Record). isLink (kindOf r)) e)
+
 module _ (T : Table) (refs : (t : ℕ) → 1 ≤ t → t ≤ count T → refsOk T (recordAt T t) ≡ true) where
+  -- ── of any sort of step that leads nowhere from outside, and to a type of the table where 13 passes ──
+
+  module _ (step : ℕ → List ℕ) (outside : (t : ℕ) → recordAt T t ≡ nothing → step t ≡ [])
+      (types : (t u : ℕ) → refsOk T (recordAt T t) ≡ true → List·Memᴰ u (step t) → IsType T u) where
+    step-inside : (t u : ℕ) → List·Memᴰ u (step t) → (1 ≤ t) × (t ≤ count T) × IsType T u
+    step-inside zero u m = absurd (List·Memᴰ·not-nil (subst (List·Memᴰ u) (outside 0 refl) m))
+    step-inside (suc t) u m = go (leb (suc t) (count T)) refl
+      where
+        go : (b : Bool) → leb (suc t) (count T) ≡ b → (1 ≤ suc t) × (suc t ≤ count T) × IsType T u
+        go true x =
+            let high = leb-true (suc t) (count T) x in
+            (omega arith, high, types (suc t) u (refs (suc t) (omega arith) high) m)
+        go false x =
+            absurd (List·Memᴰ·not-nil (subst (List·Memᴰ u) (outside (suc t) (recordAt-outside T (suc t) (leb-false (suc t) (count T) x))) m))
+
+    no-chain-of : ((t : ℕ) → 1 ≤ t → t ≤ count T → walks step (count T) t ≡ false) → (t : ℕ) → Chain step t → ⊥
+    no-chain-of ends t c =
+        let h = step-inside (c .at 0) (c .at 1) (c .goes-on 0) in
+        let e = c .starts in
+        false≢true (sym (ends t (omega arith) (omega arith)) ∙ chain-walks c (count T))
+
+    chain-of : (t : ℕ) → 1 ≤ t → t ≤ count T → walks step (count T) t ≡ true → Chain step t
+    chain-of = walks-chain step (count T) (λ t u m. step-inside t u m .2)
+
   pub held-inside : (t u : ℕ) → List·Memᴰ u (heldBy T t) → (1 ≤ t) × (t ≤ count T) × IsType T u
-  unfolding refsOk heldBy
-  held-inside zero u m = absurd (List·Memᴰ·not-nil (subst (List·Memᴰ u) (heldBy-outside T 0 refl) m))
-  held-inside (suc t) u m = go (leb (suc t) (count T)) refl
-    where
-      go : (b : Bool) → leb (suc t) (count T) ≡ b → (1 ≤ suc t) × (suc t ≤ count T) × IsType T u
-      go true x =
-          let high = leb-true (suc t) (count T) x in
-          let r = recordAt T (suc t) in
-          (omega arith, high, heldIn-inside T u (rolesOf r) (wordsOf r) (refs (suc t) (omega arith) high) m)
-      go false x =
-          absurd (List·Memᴰ·not-nil (subst (List·Memᴰ u) (heldBy-outside T (suc t) (recordAt-outside T (suc t) (leb-false (suc t) (count T) x))) m))
+  held-inside = step-inside (heldBy T) (heldBy-outside T) (heldBy-types T)
 
-  -- ── demand 2: no by-value chain can be followed for ever, and 14 is given only where one can be ──
+  pub pointed-inside : (t u : ℕ) → List·Memᴰ u (pointedBy T t) → (1 ≤ t) × (t ≤ count T) × IsType T u
+  pointed-inside = step-inside (pointedBy T) (pointedBy-outside T) (pointedBy-types T)
 
-  pub no-chain : ((t : ℕ) → 1 ≤ t → t ≤ count T → endless T t ≡ false) → (t : ℕ) → Chain (heldBy T) t → ⊥
+  -- ── demand 2: no chain of either sort can be followed for ever, and 14 is given only where one can be ──
+
+  pub no-chain : ((t : ℕ) → 1 ≤ t → t ≤ count T → endless T t ≡ false) → (t : ℕ) → Chain (heldBy T) t ⊎ Chain (pointedBy T) t → ⊥
+  no-chain ends t =
+      ⊎-elim (no-chain-of (heldBy T) (heldBy-outside T) (heldBy-types T) (λ t low high. ends-held T t (ends t low high)) t)
+      (no-chain-of (pointedBy T) (pointedBy-outside T) (pointedBy-types T) (λ t low high. ends-pointed T t (ends t low high)) t)
+
+  pub chain-at : (t : ℕ) → 1 ≤ t → t ≤ count T → endless T t ≡ true → Chain (heldBy T) t ⊎ Chain (pointedBy T) t
   unfolding endless
-  no-chain ends t c =
-      let h = held-inside (c .at 0) (c .at 1) (c .goes-on 0) in
-      let e = c .starts in
-      false≢true (sym (ends t (omega arith) (omega arith)) ∙ chain-walks c (count T))
-
-  pub chain-at : (t : ℕ) → 1 ≤ t → t ≤ count T → endless T t ≡ true → Chain (heldBy T) t
-  unfolding endless
-  chain-at t low high e = walks-chain (heldBy T) (count T) (λ t u m. held-inside t u m .2) t low high e
+  chain-at t low high e =
+      or-cases (walks (heldBy T) (count T) t) (walks (pointedBy T) (count T) t) e
+      (λ p. inl (chain-of (heldBy T) (heldBy-outside T) (heldBy-types T) t low high p))
+      (λ q. inr (chain-of (pointedBy T) (pointedBy-outside T) (pointedBy-types T) t low high q))

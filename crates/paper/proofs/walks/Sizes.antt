@@ -10,6 +10,7 @@ use borrow.Author.Tests.{ne-eqb, eqb-true, eqb-false}
 use lib.Dec.{eqb}
 use lib.ListN.{getD}
 use Rattle.paper.proofs.basics.Choices.{and-left}
+use Rattle.paper.proofs.walks.Chains.{ends-held}
 use Rattle.paper.proofs.walks.Endless.{any-holds}
 use Rattle.paper.proofs.walks.Insides.{held-inside}
 use Rattle.paper.proofs.basics.Rows.{isHeld, isNumber, sizeRoles, rowOf-sizeRoles}
@@ -147,6 +148,5 @@ module _ (T : Table) (refs : (t : ℕ) → 1 ≤ t → t ≤ count T → refsOk 
 module _ (T : Table) (ends : (t : ℕ) → 1 ≤ t → t ≤ count T → endless T t ≡ false) where
   -- as many reads as there are types are enough
   pub never-far : (t : ℕ) → t ≤ count T → sizeBy (stepIn T) (count T) t ≡ tooFar → ⊥
-  unfolding endless
   never-far zero h x = let z = far (sym (sizeBy-void (stepIn T) (count T)) ∙ x) in omega arith
-  never-far (suc t) h x = false≢true (sym (ends (suc t) (omega arith) h) ∙ far-walks T (count T) (suc t) x)
+  never-far (suc t) h x = false≢true (sym (ends-held T (suc t) (ends (suc t) (omega arith) h)) ∙ far-walks T (count T) (suc t) x)

@@ -33,8 +33,8 @@ returns-2 c =
     let h = f .before .before .before in
     judge-fourth _ (h .third .result) (h .third .ensures) (f .before .enum-told .given .1) (f .fourth .result) (f .fourth .ensures) (c .enum-told4 .given .1)
 
-chains-requires : tie.Need-chains-requires
-chains-requires c κs =
+rings-requires : tie.Need-rings-requires
+rings-requires c κs =
     let f = c .before .before .before in
     let h = f .before .before .before in
     judge-chains (h .before .before .before .before .pre) (f .fourth .result) (f .fourth .ensures) (c .before .enum-told3 .given .1)
@@ -48,7 +48,7 @@ sixth-requires c κs =
     let n = w .before .before in
     let f = n .before .before in
     let h = f .before .before .before in
-    judge-layouts (h .before .before .before .before .pre) (f .fourth .result) (f .fourth .ensures) (n .enum-told3 .given .1) (w .chains .result) (w .chains .ensures) (c .enum-told5 .given .1)
+    judge-layouts (h .before .before .before .before .pre) (f .fourth .result) (f .fourth .ensures) (n .enum-told3 .given .1) (w .rings .result) (w .rings .ensures) (c .enum-told5 .given .1)
 
 enum-known-t : tie.Need-enum-known-t
 enum-known-t c = search needs
@@ -69,7 +69,7 @@ returns-3 c =
     let f = n .before .before in
     let h = f .before .before .before in
     judge-sixth _ (h .third .result) (h .third .ensures) (f .before .enum-told .given .1) (f .fourth .result) (f .fourth .ensures) (n .enum-told3 .given .1)
-    (w .chains .result) (w .chains .ensures) (c .before .enum-told5 .given .1) (c .sixth .ensures)
+    (w .rings .result) (w .rings .ensures) (c .before .enum-told5 .given .1) (c .sixth .ensures)
 
 same-length-2 : tie.Need-same-length-2
 same-length-2 c = search needs
@@ -82,7 +82,7 @@ returns-4 c =
     let f = n .before .before in
     let h = f .before .before .before in
     judge-ring _ (h .third .result) (h .third .ensures) (f .before .enum-told .given .1) (f .fourth .result) (f .fourth .ensures) (n .enum-told3 .given .1)
-    (w .chains .result) (w .chains .ensures) (c .before .before .t .given .1) (c .place-of .ensures)
+    (w .rings .result) (w .rings .ensures) (c .before .before .t .given .1) (c .place-of .ensures)
 
 pub judge-spec : {M : Type 1} → statement M
 judge-spec =
@@ -96,7 +96,7 @@ judge-spec =
     enum-told-3
     enum-told-4
     returns-2
-    chains-requires
+    rings-requires
     enum-told-5
     sixth-requires
     enum-known-t

@@ -1,0 +1,39 @@
+// Phase 5, report 14: "the smallest type from which a by-value walk, or a walk of this second sort, has n steps".
+use crate::chains::Ring;
+use crate::chains::chains;
+use crate::pointers::pointers;
+use paper::TypeNo;
+use scan::clear;
+ghost use mathlib.Core.Path.{_≡_};
+ghost use Rattle.gate.specs.Search.{Unsearched, ringAsPaper, smallerOf};
+ghost use Rattle.paper.specs.Gate.{overTypes, phase5};
+ghost use Rattle.paper.specs.Walk.{tableOf};
+
+// The smaller of two, where there are two.
+fn smaller(a: Ring, b: Ring) -> Ring
+    ensures { λ r. ⌜ r ≡ smallerOf a b ⌝ }
+{
+    match a {
+        Ring::Nowhere => b,
+        Ring::From(t) => match b {
+            Ring::Nowhere => a,
+            Ring::From(u) => {
+                if u.0 < t.0 {
+                    return b;
+                }
+                a
+            }
+        },
+    }
+}
+
+// What phase 5 says: the first of both sorts, each followed by itself over the whole table, so that the marks of one are nothing to
+// the other.
+pub(crate) fn rings(b: &[u8], index: &[u32], n: u32, work: &mut [u32]) -> Ring
+    requires { ⌜ Unsearched (now b) (now index) n (now work) ⌝ }
+    ensures { λ r. ⌜ ringAsPaper (tableOf (now (b .entry))) r ≡ overTypes phase5 (tableOf (now (b .entry))) ⌝ }
+{
+    let held = chains(b, index, n, work);
+    clear(work);
+    smaller(held, pointers(b, index, n, work))
+}
