@@ -6,14 +6,14 @@ use mathlib.Core.List.{List}
 use native.Mathlib.Nat.{suc-mul}
 use native.Mathlib.Omega.{arith}
 use lib.ListN.{length}
-use Rattle.join.specs.Put.{put}
 use Rattle.join.specs.Raising.{raisedFrom, GroupOf, GroupAsk, GroupPut, EntriesAsk, EntriesPut}
 use Rattle.join.specs.declared.groups.Group.{Group}
 use Rattle.join.specs.declared.groups.Shift.{Shift}
-use Rattle.join.proofs.Puts.{put-none, put-put}
+use Rattle.paper.proofs.bytes.Puts.{put-none, put-put}
 use Rattle.join.proofs.RaisedWords.{length-raisedFrom, raisedFrom-append}
 use Rattle.paper.specs.Choice.{times}
 use Rattle.paper.specs.Kind.{Role}
+use Rattle.paper.specs.Put.{put}
 
 -- so many entries are left, of v from a place on
 pub record Entering (by : Shift) (g : Group) (s : List ℕ) (v from at : ℕ) (before : List ℕ) (p q left : ℕ) (after : List ℕ) : Type 0 where

@@ -7,14 +7,13 @@ use native.Mathlib.Omega.{arith}
 use lib.ListN.{length, take, drop, length-append, length-drop}
 use lib.Seq.{drop-drop, drop-length, length-take-le}
 use Rattle.join.specs.Joins.{WriteAsk}
-use Rattle.join.specs.Put.{put}
 use Rattle.join.specs.Raising.{recordsBytes, RecordsAsk}
 use Rattle.join.specs.declared.groups.Shift.{Shift}
-use Rattle.join.proofs.Puts.{put-put}
 use Rattle.join.proofs.RaisedRecords.{length-recordsBytes}
 use Rattle.paper.proofs.bytes.Blobs.{header-first, stringsIn-length, typeWords-length, typeWords-bytes, strings-tableOf}
 use Rattle.paper.proofs.bytes.Bytes.{part-rest, bytesOfWords-append}
 use Rattle.paper.proofs.bytes.Places.{flat-append}
+use Rattle.paper.proofs.bytes.Puts.{put-put}
 use Rattle.paper.proofs.bytes.Tables.{headerOf, bytesOf-parts, length-bytesOf}
 use Rattle.paper.proofs.gates.Acceptance.{accepted-meets, accepted-closed}
 use Rattle.paper.proofs.joins.Grouping.{words-join}
@@ -23,6 +22,7 @@ use Rattle.paper.specs.Good.{Readable}
 use Rattle.paper.specs.Header.{orderOf, typeLen, strLen, stringsIn}
 use Rattle.paper.specs.Join.{raised, joinTables, joinedBytes}
 use Rattle.paper.specs.Limits.{byteLimit}
+use Rattle.paper.specs.Put.{put}
 use Rattle.paper.specs.Rename.{rename, raise}
 use Rattle.paper.specs.Walk.{tableOf, flat, typeLenOf}
 use Rattle.paper.specs.Word.{lowFirst, wordAt, bytesOfWords}

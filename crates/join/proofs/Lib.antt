@@ -1,4 +1,4 @@
-pub mod Puts
+pub mod PutWords
 pub mod RaisedWords
 pub mod Entries
 pub mod RaisedRecords

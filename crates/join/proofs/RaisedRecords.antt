@@ -7,21 +7,21 @@ use native.Mathlib.Nat.{mul-left-comm}
 use native.Mathlib.Omega.{arith}
 use lib.ListN.{length, getD, take, drop, length-append}
 use lib.Seq.{take-suc, take-all}
-use Rattle.join.specs.Put.{put}
 use Rattle.join.specs.Raising.{raisedFrom, headRoles, raisedRecord, recordBytes, recordsBytes, GroupOf, GroupAsk, GroupPut, EntriesAsk, EntriesPut, RecordPut, RecordAsk, RecordsAsk}
 use Rattle.join.specs.declared.groups.Group.{Group}
 use Rattle.join.specs.declared.groups.Shift.{Shift}
-use Rattle.join.proofs.Puts.{put-none, length-put, put-put}
 use Rattle.join.proofs.RaisedWords.{length-raisedFrom, recordBytes-parts}
 use Rattle.paper.proofs.bytes.Bytes.{length-bytesOfWords, bytesOfWords-append}
 use Rattle.paper.proofs.bytes.Headers.{facts-headerReport}
 use Rattle.paper.proofs.bytes.Places.{flat-append, placesOf-at, place-inside, blob-place-high}
+use Rattle.paper.proofs.bytes.Puts.{put-none, length-put, put-put}
 use Rattle.paper.proofs.bytes.Reading.{recordIn-place}
 use Rattle.paper.proofs.gates.Acceptance.{readable-walk}
 use Rattle.paper.proofs.joins.Grouping.{flat-rename}
 use Rattle.paper.specs.Choice.{times}
 use Rattle.paper.specs.Header.{orderOf}
 use Rattle.paper.specs.Kind.{rowOf}
+use Rattle.paper.specs.Put.{put}
 use Rattle.paper.specs.Reading.{recordIn, wordsFrom}
 use Rattle.paper.specs.Table.{Record, count, nothing, kindIn, vlenIn, tailLength, wordsOf}
 use Rattle.paper.specs.Walk.{tableOf, flat, typeLenOf, placesOf}

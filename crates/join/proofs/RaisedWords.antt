@@ -6,15 +6,16 @@ use mathlib.Core.List.{List, [], _∷_, _++_}
 use native.Mathlib.Omega.{arith}
 use lib.ListN.{length, getD, take, length-append}
 use lib.Seq.{length-take-le, take-suc, take-all}
-use Rattle.join.specs.Put.{put}
 use Rattle.join.specs.Raising.{raisedWord, raisedWords, raisedFrom, recordBytes, GroupOf, WordRaised, WordPut, GroupPut}
 use Rattle.join.specs.declared.groups.Group.{Group}
 use Rattle.join.specs.declared.groups.Shift.{Shift}
-use Rattle.join.proofs.Puts.{put-none, length-put, put-put, put-word, putWord-cut}
+use Rattle.join.proofs.PutWords.{put-word, putWord-cut}
+use Rattle.paper.proofs.bytes.Puts.{put-none, length-put, put-put}
 use Rattle.paper.proofs.bytes.Reading.{length-times}
 use Rattle.paper.specs.Choice.{times}
 use Rattle.paper.specs.Fit.{wordBound}
 use Rattle.paper.specs.Kind.{NameRule, offset0, anyName, offset0OrIdentifier, identifier, nonEmpty, sectionName, RefRule, voidOrPlain, plain, anInt, aProto, aVar, taggable, Role, names, refers, holds, number, rowOf}
+use Rattle.paper.specs.Put.{put}
 use Rattle.paper.specs.Reading.{recordIn, wordsFrom}
 use Rattle.paper.specs.Rename.{rename, raise}
 use Rattle.paper.specs.Table.{kindIn, vlenIn, tailLength, tailRoles}

@@ -5,11 +5,11 @@ use mathlib.Core.List.{List, [], _∷_, map}
 use lib.ListN.{length}
 use Rattle.join.specs.declared.groups.Group.{Group}
 use Rattle.join.specs.declared.groups.Shift.{Shift}
-use Rattle.join.specs.Put.{put}
 use Rattle.paper.specs.Choice.{times}
 use Rattle.paper.specs.Fit.{Bytes, wordBound}
 use Rattle.paper.specs.Good.{Readable}
 use Rattle.paper.specs.Kind.{Role, names, number, rowOf}
+use Rattle.paper.specs.Put.{put}
 use Rattle.paper.specs.Reading.{wordsFrom, recordIn}
 use Rattle.paper.specs.Rename.{renameWord, renameWords, rename, raise}
 use Rattle.paper.specs.Table.{Record, count, wordsOf}

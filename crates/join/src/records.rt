@@ -16,9 +16,9 @@ use rows::vlen_of;
 ghost use mathlib.Core.Path.{_≡_};
 ghost use Prim.Native.Nat.{_+_};
 ghost use lib.ListN.{length};
-ghost use Rattle.join.specs.Put.{put};
 ghost use Rattle.join.specs.Raising.{GroupOf, RecordAsk, RecordPut, RecordsAsk, headRoles, recordsBytes};
 ghost use Rattle.paper.specs.Kind.{rowOf};
+ghost use Rattle.paper.specs.Put.{put};
 ghost use Rattle.paper.specs.Walk.{tableOf};
 
 // The head of a record of a kind: its name, its info word, its third word.

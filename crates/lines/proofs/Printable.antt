@@ -11,28 +11,29 @@ use lib.Dec.{eqb, leb, ltb}
 use lib.ListN.{length, getD, take, set, length-append}
 use lib.Seq.{take-suc, take-length}
 use Rattle.paper.specs.Fit.{Bytes}
+use Rattle.paper.specs.Put.{put}
+use Rattle.paper.proofs.bytes.Puts.{put-none, put-put}
 use Rattle.lines.specs.Escape.{Appended, Escaped, EscapeOf, escaped, escapedByte, fits, hexDigit, isPrintable}
-use Rattle.lines.specs.Lay.{over}
-use Rattle.lines.proofs.Layers.{over-none, over-1, over-2, over-4, over-over}
+use Rattle.lines.proofs.Layers.{put-1, put-2, put-4}
 
 -- ── one byte ──
 
 pub appended-slash : (l : List ℕ) (p b : ℕ) → p + 4 ≤ length l → b ≡ 92 → Appended l p (escapedByte b) (p + 2) (set (set l p 92) (p + 1) 92)
 unfolding escapedByte
 appended-slash l p b h e =
-    rw (eq-eqb b 92 e) record { end = refl; room = omega arith; bytes = over-2 l p 92 92 (omega arith) }
+    rw (eq-eqb b 92 e) record { end = refl; room = omega arith; bytes = put-2 l p 92 92 (omega arith) }
 
 pub appended-plain : (l : List ℕ) (p b : ℕ) {t : Bool} → p + 4 ≤ length l → (b ≡ 92 → ⊥) → t ≡ isPrintable b → t ≡ true → Appended l p (escapedByte b) (p + 1) (set l p b)
 unfolding escapedByte
 appended-plain l p b h e u t =
-    rw (ne-eqb b 92 e, sym u ∙ t) record { end = refl; room = omega arith; bytes = over-1 l p b (omega arith) }
+    rw (ne-eqb b 92 e, sym u ∙ t) record { end = refl; room = omega arith; bytes = put-1 l p b (omega arith) }
 
 pub appended-hex : (l : List ℕ) (p b : ℕ) {t : Bool} {x y : ℕ} → p + 4 ≤ length l → (b ≡ 92 → ⊥) → t ≡ isPrintable b → t ≡ false → x ≡ hexDigit (b / 16) → y ≡ hexDigit (b % 16)
     → Appended l p (escapedByte b) (p + 4) (set (set (set (set l p 92) (p + 1) 120) (p + 2) x) (p + 3) y)
 unfolding escapedByte
 appended-hex l p b {x = x} {y = y} h e u t ex ey =
     rw (ne-eqb b 92 e, sym u ∙ t, sym ex, sym ey)
-    record { end = refl; room = omega arith; bytes = over-4 l p 92 120 x y (omega arith) }
+    record { end = refl; room = omega arith; bytes = put-4 l p 92 120 x y (omega arith) }
 
 -- ── all of them ──
 
@@ -52,11 +53,11 @@ pub record Escaping (s before out : List ℕ) (at : ℕ) (i : ℕ) : Type 0 wher
   pub kept : length out ≡ length before
   pub room : at ≤ 4 * i
   pub count : at ≡ length (escaped (take i s))
-  pub bytes : out ≡ over before 0 (escaped (take i s))
+  pub bytes : out ≡ put before 0 (escaped (take i s))
 
 pub escaping-start : (s out : List ℕ) → Escaping s out out 0 0
 unfolding escaped
-escaping-start s out = record { inside = omega arith; kept = refl; room = omega arith; count = refl; bytes = over-none out 0 }
+escaping-start s out = record { inside = omega arith; kept = refl; room = omega arith; count = refl; bytes = put-none out 0 }
 
 module _ {s before out after : List ℕ} {at i r : ℕ} (g : Escaping s before out at i) (h : i < length s) (space : 4 * length s ≤ length before) where
   pub escaping-next : Appended out at (escapedByte (getD s i 0)) r after → length after ≡ length out → Escaping s before after r (i + 1)
@@ -74,9 +75,9 @@ module _ {s before out after : List ℕ} {at i r : ℕ} (g : Escaping s before o
         count = a .end ∙ ap (λ (n : ℕ). n + length piece) (g .count) ∙ sym long ∙ ap length (sym more);
         bytes =
             a .bytes
-            ∙ ap (λ (o : List ℕ). over o at piece) (g .bytes)
-            ∙ over-over before 0 done (omega arith) here piece
-            ∙ ap (over before 0) (sym more);
+            ∙ ap (λ (o : List ℕ). put o at piece) (g .bytes)
+            ∙ put-put before 0 done (omega arith) here piece
+            ∙ ap (put before 0) (sym more);
       }
 
 module _ {s before out : List ℕ} {at i : ℕ} (g : Escaping s before out at i) (h : length s ≤ i) where
@@ -87,7 +88,7 @@ module _ {s before out : List ℕ} {at i : ℕ} (g : Escaping s before out at i)
       record {
         within = omega (arith, g .room);
         count = g .count ∙ ap length whole;
-        bytes = g .bytes ∙ ap (over before 0) whole;
+        bytes = g .bytes ∙ ap (put before 0) whole;
       }
 
 -- ── an output of any length ──

@@ -5,7 +5,7 @@ use mathlib.Core.List.{List, [], _∷_, _++_}
 use mathlib.Core.Path.{_≡_}
 use lib.Dec.{eqb, leb, ltb}
 use lib.ListN.{length}
-use Rattle.lines.specs.Lay.{over}
+use Rattle.paper.specs.Put.{put}
 
 -- 0 to 9, then a to f
 unfoldable pub hexDigit : ℕ → ℕ
@@ -27,13 +27,13 @@ escaped (b ∷ s) = escapedByte b ++ escaped s
 pub record Appended (before : List ℕ) (at : ℕ) (piece : List ℕ) (r : ℕ) (after : List ℕ) : Type 0 where
   pub end : r ≡ at + length piece
   pub room : r ≤ at + 4
-  pub bytes : after ≡ over before at piece
+  pub bytes : after ≡ put before at piece
 
 -- the output begins with the escaped bytes, and what is past them is as it was
 pub record Escaped (s before : List ℕ) (r : ℕ) (after : List ℕ) : Type 0 where
   pub within : r ≤ length before
   pub count : r ≡ length (escaped s)
-  pub bytes : after ≡ over before 0 (escaped s)
+  pub bytes : after ≡ put before 0 (escaped s)
 
 -- the output has four bytes for each, as many as any byte can take
 unfoldable pub fits : List ℕ → List ℕ → Bool
@@ -43,4 +43,4 @@ fits s out = leb (4 * length s) (length out)
 pub record EscapeOf (s before : List ℕ) (r : ℕ) (after : List ℕ) : Type 0 where
   pub within : r ≤ length before
   pub count : r ≡ cond (fits s before) (length (escaped s)) 0
-  pub bytes : after ≡ cond (fits s before) (over before 0 (escaped s)) before
+  pub bytes : after ≡ cond (fits s before) (put before 0 (escaped s)) before

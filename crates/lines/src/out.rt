@@ -5,7 +5,8 @@ ghost use mathlib.Core.Bool.{true};
 ghost use mathlib.Core.Path.{_≡_};
 ghost use Prim.Native.Nat.{_+_, _≤_, _<_};
 ghost use lib.ListN.{length};
-ghost use Rattle.lines.specs.Lay.{laid, over};
+ghost use Rattle.paper.specs.Put.{put};
+ghost use Rattle.lines.specs.Lay.{laid};
 
 // The bytes of the buffer. An array's length is known, so that no function need prove that it keeps it.
 pub const ROOM: usize = 65536;
@@ -60,7 +61,7 @@ pub fn flush(buf: &mut [u8; ROOM], o: Out) -> Out {
 // The piece is laid at a place of the buffer that has room for all of it.
 fn copy(buf: &mut [u8], at: usize, s: &[u8])
     requires { ⌜ at + length (now s) ≤ length (now buf) ⌝ }
-    ensures { λ r. ⌜ now (buf .exit) ≡ over (now (buf .entry)) at (now (s .entry)) ⌝ }
+    ensures { λ r. ⌜ now (buf .exit) ≡ put (now (buf .entry)) at (now (s .entry)) ⌝ }
 {
     let mut i = 0;
     while i < s.len() {

@@ -1,5 +1,6 @@
 -- Bytes, words, records and tables undo each other, and where in a blob a record stands. Leans on basics.
 pub mod Words
+pub mod Puts
 pub mod Bytes
 pub mod Headers
 pub mod Sections

@@ -2,6 +2,7 @@ pub mod Answer
 pub mod Choice
 pub mod Limits
 pub mod Word
+pub mod Put
 pub mod KindNo
 pub mod Kind
 pub mod Table

@@ -5,7 +5,7 @@ use native.Mathlib.Omega.{arith}
 use denote.Ref.{now}
 use lib.ListN.{take}
 use lib.Seq.{length-take-le}
-use Rattle.join.proofs.Puts.{put-three}
+use Rattle.join.proofs.PutWords.{put-three}
 use borrow.Author.Needs.{needs}
 use Rattle.join.proofs.blob.write_header.Statement.{statement}
 use Rattle.join.proofs.blob.write_header.Tie as tie

@@ -1,48 +1,17 @@
--- Laws of `put`: its length, one run put behind another, and a word or a copied run as what is put.
+-- Words as what is put: one, cut to its last 32 bits, and three behind a run.
 -- Assumes nothing.
 use Prim.Native.Nat.{ℕ, _+_, _*_, _/_, _%_, _≤_}
-use mathlib.Core.Path.{_≡_, sym, ap, ap₂, _∙_}
+use mathlib.Core.Path.{_≡_, sym, ap, _∙_}
 use mathlib.Core.List.{List, [], _∷_, _++_, append-assoc}
 use mathlib.Core.Bool.{cond}
 use native.Mathlib.Omega.{arith}
 use lib.Dec.{leb}
-use lib.ListN.{length, take, drop, length-append, length-drop}
-use lib.Seq.{length-take-le, take-at, drop-at, drop-drop, take-length, paste, paste-zero}
-use Rattle.join.specs.Put.{put}
-use Rattle.paper.proofs.bytes.Words.{putWord-inside}
+use lib.ListN.{length, take, drop, length-append}
 use Rattle.paper.specs.Fit.{wordBound}
+use Rattle.paper.specs.Put.{put}
 use Rattle.paper.specs.Word.{lowFirst, wordBytes, bytesOfWords, putWord}
-
--- nothing put changes nothing
-pub put-none : (out : List ℕ) (p : ℕ) → out ≡ put out p []
-unfolding put
-put-none out p = paste-zero out p []
-
-module _ (out : List ℕ) (p : ℕ) (s : List ℕ) (h : p + length s ≤ length out) where
-  head-length : length (take p out ++ s) ≡ p + length s
-  head-length = let l = length-take-le p out (omega arith) in length-append (take p out) s ∙ omega arith
-
-  pub length-put : length (put out p s) ≡ length out
-  unfolding put
-  length-put =
-      let l = head-length in
-      let r = length-drop (p + length s) out in
-      length-append (take p out ++ s) (drop (p + length s) out) ∙ omega arith
-
-  -- what is put behind what was put
-  pub put-put : {q : ℕ} → q ≡ p + length s → (t : List ℕ) → put (put out p s) q t ≡ put out p (s ++ t)
-  unfolding put
-  put-put {q} e t =
-      let head : List ℕ = take p out ++ s in
-      let rest : List ℕ = drop (p + length s) out in
-      let long : length head ≡ q = head-length ∙ sym e in
-      let far : q + length t ≡ p + length (s ++ t) = let l = length-append s t in omega arith in
-      ap₂ (λ (x y : List ℕ). x ++ t ++ y) (take-at head rest q long)
-      (sym (drop-drop (length t) q (head ++ rest))
-      ∙ ap (drop (length t)) (drop-at head rest q long)
-      ∙ ap (λ (n : ℕ). drop (length t) (drop n out)) (sym e)
-      ∙ drop-drop (length t) q out)
-      ∙ ap₂ (λ (x : List ℕ) (n : ℕ). x ++ drop n out) (append-assoc (take p out) s t) far
+use Rattle.paper.proofs.bytes.Words.{putWord-inside}
+use Rattle.paper.proofs.bytes.Puts.{length-put, put-put}
 
 -- a word that is wholly inside
 pub put-word : (out : List ℕ) (p w : ℕ) → p + 4 ≤ length out → putWord lowFirst out p w ≡ put out p (wordBytes lowFirst w)
@@ -83,11 +52,6 @@ wordBytes-cut w =
 pub putWord-cut : (out : List ℕ) (p w : ℕ) → putWord lowFirst out p (w % wordBound) ≡ putWord lowFirst out p w
 unfolding putWord
 putWord-cut out p w = ap (λ (s : List ℕ). cond (leb (p + 4) (length out)) (take p out ++ (s ++ drop (p + 4) out)) out) (wordBytes-cut w)
-
--- a run that was copied byte by byte
-pub put-copied : (out : List ℕ) (p : ℕ) (s : List ℕ) {n : ℕ} → n ≡ length s → paste out p s n ≡ put out p s
-unfolding put
-put-copied out p s e = ap (paste out p s) e ∙ ap (λ (t : List ℕ). take p out ++ t ++ drop (p + length s) out) (take-length s)
 
 -- three words behind a run
 pub put-three : (out s : List ℕ) (p x y z : ℕ) → p + (length s + 12) ≤ length out → {out₁ out₂ out₃ out₄ : List ℕ} {q₁ q₂ q₃ : ℕ}

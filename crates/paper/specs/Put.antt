@@ -1,4 +1,4 @@
--- Bytes put over others at a place: what a function that writes into a lent output leaves there.
+-- Bytes put over others at a place: what a function that writes into a lent slice leaves there.
 use Prim.Native.Nat.{ℕ, _+_}
 use mathlib.Core.List.{List, _++_}
 use lib.ListN.{length, take, drop}
