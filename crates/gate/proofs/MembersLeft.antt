@@ -10,6 +10,7 @@ use borrow.Author.Tests.{ne-eqb, not-true, not-false}
 use lib.Dec.{eqb, leb}
 use Rattle.gate.proofs.RecordWords.{tail-read}
 use Rattle.gate.specs.Spanned.{memberAt, withOffset, spanWith}
+pub use Rattle.paper.proofs.basics.Choices.{and-false}
 use Rattle.paper.specs.Choice.{every}
 use Rattle.paper.specs.KindNo.{UNION}
 use Rattle.paper.specs.Layout.{memberOk, notFalling, offsetsOk, membersOk}
@@ -76,10 +77,6 @@ module _ (s : List ℕ) where
       let third : p + 4 + 4 ≡ p + 8 = omega arith in
       let behind : p + 4 + 4 + 4 ≡ p + 12 = omega arith in
       λ i. record { name = wordAt lowFirst s p; type = wordAt lowFirst s (p + 4); offset = wordAt lowFirst s (third i) } ∷ membersFrom (behind i) n
-
-pub and-false : (a : Bool) → a && false ≡ false
-and-false true = refl
-and-false false = refl
 
 module _ (T : Table) (r : Record) where
   -- both rules of some members behind an offset

@@ -1,6 +1,6 @@
 -- The joined blob as its five parts, each a part of the two blobs, and the lengths of the sections.
 -- Assumes nothing.
-use Prim.Native.Nat.{ℕ, _+_, _-_, _*_, _≤_}
+use Prim.Native.Nat.{ℕ, _+_, _-_, _≤_}
 use mathlib.Core.Path.{_≡_, refl, sym, ap, ap₂, _∙_}
 use mathlib.Core.List.{List, [], _∷_, _++_, map, append-assoc, append-nil}
 use native.Mathlib.Omega.{arith}
@@ -10,7 +10,7 @@ use Rattle.join.specs.Joins.{WriteAsk}
 use Rattle.join.specs.Raising.{recordsBytes, RecordsAsk}
 use Rattle.join.specs.declared.groups.Shift.{Shift}
 use Rattle.join.proofs.RaisedRecords.{length-recordsBytes}
-use Rattle.paper.proofs.bytes.Blobs.{header-first, stringsIn-length, typeWords-length, typeWords-bytes, strings-tableOf}
+use Rattle.paper.proofs.bytes.Blobs.{header-first, typeWords-bytes, strings-tableOf, strings-length, types-length}
 use Rattle.paper.proofs.bytes.Bytes.{part-rest, bytesOfWords-append}
 use Rattle.paper.proofs.bytes.Places.{flat-append}
 use Rattle.paper.proofs.bytes.Puts.{put-put}
@@ -56,13 +56,6 @@ module _ {b : List ℕ} {places work : ℕ} (r : Readable b places work) where
   unfolding orderOf typeLen strLen
   readable-widths = let f = r .header in record { sum = f .sum; some-strings = f .some-strings; short = f .short }
 
-  -- the bytes of the records are those of the type section
-  types-length : typeLenOf (tableOf b .records) ≡ typeLen b
-  types-length = ap (λ (ws : List ℕ). 4 * length ws) (r .section .flat-found) ∙ typeWords-length b (r .header)
-
-  strings-length : length (tableOf b .strings) ≡ strLen b
-  strings-length = ap length (strings-tableOf b) ∙ stringsIn-length b (r .header)
-
 -- one run behind another, and all of an output
 pub put-next : (out : List ℕ) (s : List ℕ) {out₁ out₂ : List ℕ} {q : ℕ} (t : List ℕ) → length s ≤ length out → q ≡ length s
     → out₁ ≡ put out 0 s → out₂ ≡ put out₁ q t → out₂ ≡ put out 0 (s ++ t)
@@ -95,15 +88,15 @@ module _ {a b : List ℕ} {n m room : ℕ} (w : WriteAsk a b n m room) where
   unfolding orderOf typeLen
   joined-types =
       let j = words-join (tableOf a) (tableOf b) in
-      let f = types-length readable-first in
-      let s = types-length readable-second in
+      let f = types-length a (readable-first .header) (readable-first .section) in
+      let s = types-length b (readable-second .header) (readable-second .section) in
       omega arith
 
   joined-strings : length (joinTables (tableOf a) (tableOf b) .strings) ≡ wordAt lowFirst a 20 + (wordAt lowFirst b 20 - 1)
   unfolding orderOf strLen
   joined-strings =
-      let f = strings-length readable-first in
-      let s = strings-length readable-second in
+      let f = strings-length a (readable-first .header) in
+      let s = strings-length b (readable-second .header) in
       length-strings (tableOf a) (tableOf b) (accepted-closed a _ _ (w .both .first)) (accepted-closed b _ _ (w .both .second)) ∙ omega arith
 
   pub joined-room : room ≡ 24 + (wordAt lowFirst a 12 + wordAt lowFirst b 12) + (wordAt lowFirst a 20 + (wordAt lowFirst b 20 - 1))
@@ -128,7 +121,7 @@ module _ {a b : List ℕ} {n m room : ℕ} (w : WriteAsk a b n m room) where
   unfolding orderOf typeLen
   records-ask e same =
       let r = joined-room in
-      let s = types-length readable-second in
+      let s = types-length b (readable-second .header) (readable-second .section) in
       let short = w .short in
       let f = w .fits in
       record {
@@ -155,7 +148,7 @@ module _ {a b : List ℕ} {n m room : ℕ} (w : WriteAsk a b n m room) where
       → bytesOfWords lowFirst (flat (map (raised (tableOf a)) (tableOf b .records))) ≡ recordsBytes by (tableOf b .records)
   unfolding recordsBytes orderOf strLen
   raised-part by e f =
-      let s = strings-length readable-first in
+      let s = strings-length a (readable-first .header) in
       ap₂ (λ (x y : ℕ). bytesOfWords lowFirst (flat (map (rename (raise x) (raise y)) (tableOf b .records))))
       (sym (e ∙ w .both .first-count))
       (ap (λ (l : ℕ). l - 1) s ∙ sym f)
@@ -216,7 +209,7 @@ module _ {a b : List ℕ} {n m room : ℕ} (w : WriteAsk a b n m room) where
         let l₁ = length-append (take 12 a) (bytesOfWords lowFirst (types ∷ types ∷ strings ∷ [])) in
         let f = length-take-le (wordAt lowFirst a 12) (drop 24 a) (simp length-drop (omega arith)) in
         let l₂ = length-append header firsts in
-        let s = length-recordsBytes by (tableOf b .records) ∙ types-length readable-second in
+        let s = length-recordsBytes by (tableOf b .records) ∙ types-length b (readable-second .header) (readable-second .section) in
         let l₃ = length-append (header ++ firsts) seconds in
         let d₁ = length-drop (24 + wordAt lowFirst a 12) a in
         let l₄ = length-append (header ++ firsts ++ seconds) s₁ in

@@ -1,6 +1,6 @@
 -- A record put group by group, and the loop over the records of a blob.
 -- Assumes nothing.
-use Prim.Native.Nat.{ℕ, zero, suc, _+_, _-_, _*_, _≤_, _<_}
+use Prim.Native.Nat.{ℕ, suc, _+_, _-_, _*_, _≤_, _<_}
 use mathlib.Core.Path.{_≡_, refl, sym, ap, ap₂, _∙_}
 use mathlib.Core.List.{List, [], _∷_, _++_, map, map-append, append-nil}
 use native.Mathlib.Nat.{mul-left-comm}
@@ -15,29 +15,24 @@ use Rattle.paper.proofs.bytes.Bytes.{length-bytesOfWords, bytesOfWords-append}
 use Rattle.paper.proofs.bytes.Headers.{facts-headerReport}
 use Rattle.paper.proofs.bytes.Places.{flat-append, placesOf-at, place-inside, blob-place-high}
 use Rattle.paper.proofs.bytes.Puts.{put-none, length-put, put-put}
-use Rattle.paper.proofs.bytes.Reading.{recordIn-place}
+use Rattle.paper.proofs.bytes.Reading.{length-wordsFrom, recordIn-place}
 use Rattle.paper.proofs.gates.Acceptance.{readable-walk}
 use Rattle.paper.proofs.joins.Grouping.{flat-rename}
 use Rattle.paper.specs.Choice.{times}
 use Rattle.paper.specs.Header.{orderOf}
 use Rattle.paper.specs.Kind.{rowOf}
 use Rattle.paper.specs.Put.{put}
-use Rattle.paper.specs.Reading.{recordIn, wordsFrom}
+use Rattle.paper.specs.Reading.{recordIn}
 use Rattle.paper.specs.Table.{Record, count, nothing, kindIn, vlenIn, tailLength, wordsOf}
 use Rattle.paper.specs.Walk.{tableOf, flat, typeLenOf, placesOf}
 use Rattle.paper.specs.Word.{lowFirst, bytesOfWords, wordAt}
 
 -- ── a record ──
 
--- so many words from a place on
-length-wordsFrom : (s : List ℕ) (p n : ℕ) → length (wordsFrom lowFirst s p n) ≡ n
-length-wordsFrom s p zero = refl
-length-wordsFrom s p (suc n) = ap suc (length-wordsFrom s (p + 4) n)
-
 -- the words of the record that some bytes begin with
 pub length-recordIn : (s : List ℕ) → length (wordsOf (recordIn lowFirst s)) ≡ 3 + tailLength (wordAt lowFirst s 4)
 unfolding recordIn
-length-recordIn s = let l = length-wordsFrom s 12 (tailLength (wordAt lowFirst s 4)) in omega arith
+length-recordIn s = let l = length-wordsFrom lowFirst s 12 (tailLength (wordAt lowFirst s 4)) in omega arith
 
 -- the groups of its kind, and room for them
 module _ {s : List ℕ} {at room : ℕ} (a : RecordAsk s at room) {info kind : ℕ} (read : info ≡ wordAt lowFirst s 4) (kinded : kind ≡ kindIn info) where

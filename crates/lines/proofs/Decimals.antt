@@ -2,26 +2,23 @@
 -- Assumes nothing.
 use Prim.Native.Nat.{ℕ, _+_, _*_, _-_, _<_, _≤_}
 use mathlib.Core.Path.{_≡_, refl, sym, ap, _∙_}
-use mathlib.Core.Bool.{Bool, true, false, cond, not, _&&_}
+use mathlib.Core.Bool.{true, false}
 use mathlib.Core.List.{List, [], _∷_}
 use native.Mathlib.Numerals.{add-one}
 use native.Mathlib.Omega.{arith}
 use borrow.Author.Tests.{lt-ltb, le-ltb, le-leb, lt-leb}
-use lib.Dec.{leb, ltb}
 use lib.ListN.{length, getD, drop}
 use lib.Seq.{drop-cons, drop-length}
-use Rattle.lines.specs.Decimal.{isDigit, areDigits, valueFrom, isEmpty, numberOf}
+use Rattle.paper.proofs.basics.Choices.{and-false}
+use Rattle.paper.specs.Name.{isDigit}
+use Rattle.lines.specs.Decimal.{areDigits, valueFrom, numberOf}
 use Rattle.lines.specs.declared.numbers.Number.{Number}
 use Rattle.lines.specs.declared.numbers.Number.the-variants.{Is, Not}
-
-and-false : (t : Bool) → t && false ≡ false
-and-false true = refl
-and-false false = refl
 
 -- ── each way that a reading ends ──
 
 pub number-empty : (s : List ℕ) → length s ≡ 0 → Not ≡ numberOf s
-unfolding numberOf areDigits isEmpty
+unfolding numberOf areDigits
 number-empty [] e = refl
 number-empty (c ∷ s) e = absurd (omega (arith, e))
 
@@ -34,7 +31,7 @@ unfolding numberOf
 number-large s h = rw (le-ltb _ _ h, and-false) refl
 
 number-is : (s : List ℕ) → areDigits s ≡ true → 0 < length s → valueFrom 0 s < 4294967296 → Is (valueFrom 0 s) ≡ numberOf s
-unfolding numberOf isEmpty
+unfolding numberOf
 number-is [] e k h = absurd (omega arith)
 number-is (c ∷ s) e k h = rw (e, lt-ltb _ _ h) refl
 

@@ -3,7 +3,7 @@
 use Prim.Native.Nat.{ℕ, suc, _+_, _*_, _/_, _%_, _<_, _≤_}
 use mathlib.Core.Path.{_≡_, refl, sym, ap, _∙_}
 use mathlib.Core.Bool.{Bool, true, false, cond, _&&_}
-use mathlib.Core.List.{List, [], _∷_, _++_, append-assoc}
+use mathlib.Core.List.{List, [], _∷_, _++_, append-assoc, append-nil}
 use native.Mathlib.Numerals.{add-one}
 use native.Mathlib.Omega.{arith}
 use borrow.Author.Tests.{eq-eqb, ne-eqb, le-leb, lt-leb, ltb-true, leb-true}
@@ -12,6 +12,7 @@ use lib.ListN.{length, getD, take, set, length-append}
 use lib.Seq.{take-suc, take-length}
 use Rattle.paper.specs.Fit.{Bytes}
 use Rattle.paper.specs.Put.{put}
+use Rattle.paper.proofs.basics.Choices.{and-left, and-right}
 use Rattle.paper.proofs.bytes.Puts.{put-none, put-put}
 use Rattle.lines.specs.Escape.{Appended, Escaped, EscapeOf, escaped, escapedByte, fits, hexDigit, isPrintable}
 use Rattle.lines.proofs.Layers.{put-1, put-2, put-4}
@@ -40,11 +41,7 @@ appended-hex l p b {x = x} {y = y} h e u t ex ey =
 -- one byte more behind others
 escaped-more : (s : List ℕ) (b : ℕ) → escaped (s ++ (b ∷ [])) ≡ escaped s ++ escapedByte b
 unfolding escaped
-escaped-more [] b = nothing (escapedByte b)
-  where
-    nothing : (l : List ℕ) → l ++ [] ≡ l
-    nothing [] = refl
-    nothing (x ∷ l) = ap (λ (r : List ℕ). x ∷ r) (nothing l)
+escaped-more [] b = append-nil (escapedByte b)
 escaped-more (x ∷ s) b = ap (λ (r : List ℕ). escapedByte x ++ r) (escaped-more s b) ∙ sym (append-assoc (escapedByte x) (escaped s) (escapedByte b))
 
 -- so many bytes are escaped, in so many places of the output
@@ -116,12 +113,8 @@ printable-append none q = q
 printable-append (more l h p) q = more l h (printable-append p q)
 
 within : (x y b : ℕ) → leb x b && leb b y ≡ true → (x ≤ b) × (b ≤ y)
-within x y b h = go (leb x b) (leb b y) refl refl h
-  where
-    go : (t u : Bool) → leb x b ≡ t → leb b y ≡ u → t && u ≡ true → (x ≤ b) × (b ≤ y)
-    go true true e f k = (leb-true x b e, leb-true b y f)
-    go true false e f k = let z : _≡_ {A = ℕ} 0 1 = cc in absurd (omega arith)
-    go false u e f k = let z : _≡_ {A = ℕ} 0 1 = cc in absurd (omega arith)
+within x y b h =
+    (leb-true x b (and-left (leb x b) (leb b y) h), leb-true b y (and-right (leb x b) (leb b y) h))
 
 isPrintable-within : (b : ℕ) → isPrintable b ≡ true → (32 ≤ b) × (b ≤ 126)
 unfolding isPrintable

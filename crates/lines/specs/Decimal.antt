@@ -1,13 +1,12 @@
 -- Which number bytes spell in decimal: digits alone, at least one, and a value that 32 bits hold.
 use Prim.Native.Nat.{ℕ, _+_, _*_, _-_}
-use mathlib.Core.Bool.{Bool, true, false, cond, not, _&&_}
+use mathlib.Core.Bool.{Bool, true, cond, not, _&&_}
 use mathlib.Core.List.{List, [], _∷_}
-use lib.Dec.{leb, ltb}
+use lib.Dec.{ltb}
+use Rattle.paper.specs.Choice.{isEmpty}
+use Rattle.paper.specs.Name.{isDigit}
 use Rattle.lines.specs.declared.numbers.Number.{Number}
 use Rattle.lines.specs.declared.numbers.Number.the-variants.{Is, Not}
-
-unfoldable pub isDigit : ℕ → Bool
-isDigit c = leb 48 c && leb c 57
 
 unfoldable pub areDigits : List ℕ → Bool
 areDigits [] = true
@@ -17,10 +16,6 @@ areDigits (c ∷ s) = isDigit c && areDigits s
 unfoldable pub valueFrom : ℕ → List ℕ → ℕ
 valueFrom v [] = v
 valueFrom v (c ∷ s) = valueFrom (v * 10 + (c - 48)) s
-
-unfoldable pub isEmpty : List ℕ → Bool
-isEmpty [] = true
-isEmpty (c ∷ s) = false
 
 unfoldable pub numberOf : List ℕ → Number
 numberOf s = cond (areDigits s && not (isEmpty s) && ltb (valueFrom 0 s) 4294967296) (Is (valueFrom 0 s)) Not

@@ -10,7 +10,7 @@ use borrow.Author.Tests.{lt-ltb}
 use lib.Dec.{ltb}
 use lib.ListN.{length}
 use Rattle.paper.proofs.gates.Acceptance.{accepted-header, accepted-closed}
-use Rattle.paper.proofs.bytes.Blobs.{stringsIn-length, strings-tableOf}
+use Rattle.paper.proofs.bytes.Blobs.{strings-tableOf, strings-length}
 use Rattle.paper.proofs.Demands.{first-accepted, second-accepted, join-bytes, join-table, join-count, join-accepted, join-name-first, join-name-second, join-size-first, join-size-second}
 use Rattle.paper.proofs.bytes.Headers.{headerReport-facts}
 use Rattle.paper.proofs.joins.Joining.{first-renaming, second-renaming}
@@ -30,8 +30,8 @@ use Rattle.paper.specs.Walk.{tableOf}
 -- ── the name at an offset of an accepted blob is that of its table ──
 
 module _ (b : List ℕ) (places work : ℕ) (accepted : refusal b places work ≡ none) where
-  pub strings-length : length (tableOf b .strings) ≡ strLen b
-  strings-length = ap length (strings-tableOf b) ∙ stringsIn-length b (headerReport-facts b (accepted-header b places work accepted))
+  accepted-strings : length (tableOf b .strings) ≡ strLen b
+  accepted-strings = strings-length b (headerReport-facts b (accepted-header b places work accepted))
 
   pub named-accepted : (n : ℕ) → n < strLen b → nameAt b n ≡ nameIn (tableOf b .strings) n
   unfolding nameAt nameless
@@ -62,7 +62,7 @@ module _ (a b : List ℕ) (bytes-a : Bytes a) (bytes-b : Bytes b) (places work r
   inside-J : (n : ℕ) → n < length (joinTables (tableOf a) (tableOf b) .strings) → n < strLen J
   unfolding J
   inside-J n h =
-      let l = strings-length J enough enough accepted-J in
+      let l = accepted-strings J enough enough accepted-J in
       let e = ap (λ (T : Table). length (T .strings)) (join-table a b bytes-a bytes-b places work room made) in
       omega arith
 
@@ -76,7 +76,7 @@ module _ (a b : List ℕ) (bytes-a : Bytes a) (bytes-b : Bytes b) (places work r
   pub join-named-first : (n : ℕ) → n < strLen a → nameAt (joinedBytes a b) n ≡ nameAt a n
   unfolding J
   join-named-first n h =
-      let l = strings-length a places work first in
+      let l = accepted-strings a places work first in
       let in-a : n < length (tableOf a .strings) = omega arith in
       named-accepted J enough enough accepted-J n (inside-J n (first-renaming (tableOf a) (tableOf b) closed-a closed-b .name-inside n in-a))
       ∙ join-name-first a b bytes-a bytes-b places work room made n in-a
@@ -86,10 +86,10 @@ module _ (a b : List ℕ) (bytes-a : Bytes a) (bytes-b : Bytes b) (places work r
   pub join-named-second : (n : ℕ) → n < strLen b → nameAt (joinedBytes a b) (raise (strLen a - 1) n) ≡ nameAt b n
   unfolding J
   join-named-second n h =
-      let l = strings-length b places work second in
+      let l = accepted-strings b places work second in
       let in-b : n < length (tableOf b .strings) = omega arith in
       let up : ℕ → ℕ = λ (m : ℕ). raise (m - 1) n in
-      ap (λ (m : ℕ). nameAt J (up m)) (sym (strings-length a places work first))
+      ap (λ (m : ℕ). nameAt J (up m)) (sym (accepted-strings a places work first))
       ∙ named-accepted J enough enough accepted-J (up (length (tableOf a .strings)))
       (inside-J _ (second-renaming (tableOf a) (tableOf b) closed-a closed-b .name-inside n in-b))
       ∙ join-name-second a b bytes-a bytes-b places work room made n in-b

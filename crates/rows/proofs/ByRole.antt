@@ -12,13 +12,10 @@ use Rattle.paper.specs.Kind.{Role, names, number, rowOf}
 use Rattle.paper.specs.Reading.{recordIn, roled, tailRoled}
 use Rattle.paper.specs.Table.{kindIn, vlenIn, everyWord}
 use Rattle.paper.specs.Word.{Order, wordAt}
+use Rattle.paper.proofs.basics.Choices.{and-nothing}
 use Rattle.paper.proofs.bytes.Reading.{roled-append, everyWord-recordIn}
 use Rattle.rows.specs.Codes.{nameCode, roleCode, roleOf, roleAt}
 use Rattle.rows.proofs.RoleCodes.{roleOf-nameCode, roleOf-roleCode}
-
-and-nothing : (t : Bool) → t ≡ t && true
-and-nothing true = refl
-and-nothing false = refl
 
 module _ (order : Order) (f : Role → ℕ → Bool) (s : List ℕ) where
   abbrev at : ℕ → ℕ
@@ -41,7 +38,7 @@ module _ (order : Order) (f : Role → ℕ → Bool) (s : List ℕ) where
       three-third n third =
           let eight : p + 8 ≡ p + 4 + 4 = omega arith in
           rw (sym first ∙ not-false a ok, sym second ∙ not-false b n)
-          (third ∙ ap (λ (q : ℕ). f τ (at q)) eight ∙ and-nothing (f τ (at (p + 4 + 4))))
+          (third ∙ ap (λ (q : ℕ). f τ (at q)) eight ∙ sym (and-nothing (f τ (at (p + 4 + 4)))))
 
   -- ── at most three roles, where the test asks nothing of a plain number ──
 

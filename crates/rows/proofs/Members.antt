@@ -2,7 +2,7 @@
 -- Assumes nothing.
 use Prim.Native.Nat.{ℕ, zero, suc}
 use mathlib.Core.Path.{_≡_, refl, sym, ap, _∙_}
-use mathlib.Core.Bool.{Bool, true, false, _||_}
+use mathlib.Core.Bool.{true, false}
 use mathlib.Core.List.{List, [], _∷_, map}
 use mathlib.Core.Logic.{⊎-elim, inl, inr}
 use native.Mathlib.Omega.{arith}
@@ -12,7 +12,7 @@ use lib.Dec.{eqb, leb}
 use Rattle.paper.specs.Choice.{member}
 use Rattle.paper.specs.Heads.{allowed}
 use Rattle.paper.specs.Kind.{Row, Values, free, rows, rowOf}
-use Rattle.paper.proofs.basics.Choices.{or-left, or-right, false-or}
+use Rattle.paper.proofs.basics.Choices.{or-left, or-right, false-or, or-nothing}
 use Rattle.rows.specs.Codes.{valuesOf, valuesCode}
 use Rattle.rows.proofs.Columns.{rowOf-agree}
 
@@ -32,11 +32,7 @@ member-no-key w k (j ∷ ks) h =
 
 -- the one number
 pub member-single : (w k : ℕ) → eqb w k ≡ member w (k ∷ [])
-member-single w k = go (eqb w k)
-  where
-    go : (t : Bool) → t ≡ t || false
-    go true = refl
-    go false = refl
+member-single w k = sym (or-nothing (eqb w k))
 
 -- a FUNC's linkage is at most 1
 pub member-func-linkage : (w : ℕ) → leb w 1 ≡ member w (0 ∷ 1 ∷ [])

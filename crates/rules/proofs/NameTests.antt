@@ -10,11 +10,12 @@ use borrow.Author.Tests.{eq-eqb, ne-eqb, eqb-true, eqb-false, le-leb, lt-leb}
 use lib.Dec.{eqb, leb}
 use lib.ListN.{length, getD, drop, drop-of-length-le}
 use lib.Seq.{drop-cons}
+use Rattle.paper.proofs.basics.Choices.{or-nothing}
 use Rattle.paper.specs.Choice.{every, isEmpty, isSome}
 use Rattle.paper.specs.Name.{untilZero, nameIn, between, isDigit, isLetter, identifierLength, isSectionName}
 use Rattle.rules.specs.Parts.{runs, runLength}
 use Rattle.rules.proofs.Runs.{runLength-runs}
-use Rattle.rules.proofs.Sets.{wordBytes, between-past}
+use Rattle.rules.proofs.Sets.{identifierByte, between-past}
 
 and-swap : (a b : Bool) → a && b ≡ b && a
 and-swap true true = refl
@@ -22,23 +23,19 @@ and-swap true false = refl
 and-swap false true = refl
 and-swap false false = refl
 
-or-false : (a : Bool) → a || false ≡ a
-or-false true = refl
-or-false false = refl
-
 -- ── a first byte: the letters lie from 64 on, the digits below ──
 
 letter-low : (c : ℕ) → c < 64 → isLetter c ≡ false
 unfolding isLetter
 letter-low c h = rw (lt-leb 65 c (omega arith), lt-leb 97 c (omega arith)) (ne-eqb c 95 (λ e. omega arith))
 
-word-high : (c : ℕ) → 64 ≤ c → wordBytes c ≡ isLetter c
+word-high : (c : ℕ) → 64 ≤ c → identifierByte c ≡ isLetter c
 unfolding isDigit
-word-high c h = ap (λ (t : Bool). isLetter c || t) (between-past 48 57 c (omega arith)) ∙ or-false (isLetter c)
+word-high c h = ap (λ (t : Bool). isLetter c || t) (between-past 48 57 c (omega arith)) ∙ or-nothing (isLetter c)
 
 -- how long an identifier is, by the bytes behind its first and whether that is a letter
 abbrev lengthBy : List ℕ → Bool → Option ℕ
-lengthBy cs letter = cond (letter && every wordBytes cs && leb (suc (length cs)) 127) (some (suc (length cs))) none
+lengthBy cs letter = cond (letter && every identifierByte cs && leb (suc (length cs)) 127) (some (suc (length cs))) none
 
 -- ── a name ──
 
@@ -57,9 +54,9 @@ module _ (s : List ℕ) (off : ℕ) where
 
   module _ (inside : off < length s) where
     -- a zero byte names nothing
-    nameIn-zero : getD s off 0 ≡ 0 → nameIn s off ≡ []
+    nameIn-nothing : getD s off 0 ≡ 0 → nameIn s off ≡ []
     unfolding nameIn
-    nameIn-zero e = ap untilZero (drop-cons s off 0 inside) ∙ ap (λ (t : Bool). cond t [] (getD s off 0 ∷ untilZero (drop (suc off) s))) (eq-eqb _ 0 e)
+    nameIn-nothing e = ap untilZero (drop-cons s off 0 inside) ∙ ap (λ (t : Bool). cond t [] (getD s off 0 ∷ untilZero (drop (suc off) s))) (eq-eqb _ 0 e)
 
     -- any other is the first byte of the name
     nameIn-first : (getD s off 0 ≡ 0 → ⊥) → nameIn s off ≡ getD s off 0 ∷ untilZero (drop (suc off) s)
@@ -70,7 +67,7 @@ module _ (s : List ℕ) (off : ℕ) where
     nonEmpty-first = go (eqb (getD s off 0) 0) refl
       where
         go : (t : Bool) → eqb (getD s off 0) 0 ≡ t → not t ≡ not (isEmpty (nameIn s off))
-        go true e = sym (ap (λ (cs : List ℕ). not (isEmpty cs)) (nameIn-zero (eqb-true (getD s off 0) 0 e)))
+        go true e = sym (ap (λ (cs : List ℕ). not (isEmpty cs)) (nameIn-nothing (eqb-true (getD s off 0) 0 e)))
         go false e = sym (ap (λ (cs : List ℕ). not (isEmpty cs)) (nameIn-first (eqb-false (getD s off 0) 0 e)))
 
     -- an identifier's first byte is from 64 on
@@ -78,24 +75,24 @@ module _ (s : List ℕ) (off : ℕ) where
     identifier-bad h = go (eqb (getD s off 0) 0) refl
       where
         go : (z : Bool) → eqb (getD s off 0) 0 ≡ z → none ≡ identifierLength (nameIn s off)
-        go true z = sym (ap identifierLength (nameIn-zero (eqb-true (getD s off 0) 0 z)))
+        go true z = sym (ap identifierLength (nameIn-nothing (eqb-true (getD s off 0) 0 z)))
         go false z =
             sym (ap identifierLength (nameIn-first (eqb-false (getD s off 0) 0 z))
             ∙ ap (lengthBy (untilZero (drop (suc off) s))) (letter-low (getD s off 0) h))
 
-    pub identifier-run : 64 ≤ getD s off 0 → {o : Option ℕ} → o ≡ runLength wordBytes 127 (drop off s) → o ≡ identifierLength (nameIn s off)
+    pub identifier-run : 64 ≤ getD s off 0 → {o : Option ℕ} → o ≡ runLength identifierByte 127 (drop off s) → o ≡ identifierLength (nameIn s off)
     unfolding runs runLength nameIn
     identifier-run h d =
         let first = nameIn-first (λ z. omega arith) in
         d
-        ∙ ap (λ (cs : List ℕ). cond (every wordBytes cs && leb (length cs) 127) (some (length cs)) none) first
+        ∙ ap (λ (cs : List ℕ). cond (every identifierByte cs && leb (length cs) 127) (some (length cs)) none) first
         ∙ ap (lengthBy (untilZero (drop (suc off) s))) (word-high (getD s off 0) h)
         ∙ sym (ap identifierLength first)
 
     -- a section name has a first byte
     pub section-bad : getD s off 0 ≡ 0 → false ≡ isSectionName (nameIn s off)
     unfolding isSectionName
-    section-bad e = sym (ap isSectionName (nameIn-zero e))
+    section-bad e = sym (ap isSectionName (nameIn-nothing e))
 
     pub section-run : (getD s off 0 ≡ 0 → ⊥) → {o : Option ℕ} → o ≡ runLength (between 33 126) 127 (drop off s) → isSome o ≡ isSectionName (nameIn s off)
     unfolding runs isSectionName nameIn

@@ -1,12 +1,13 @@
 -- What is left of a prototype's parameters: the rule for those from here on is the rule for all, where the ones passed have a type.
 -- Assumes nothing.
 use Prim.Native.Nat.{ℕ, suc, _+_, _-_, _*_, _<_, _≤_}
-use mathlib.Core.Path.{_≡_, refl, sym, ap, _∙_}
+use mathlib.Core.Path.{_≡_, sym, ap, _∙_}
 use mathlib.Core.Bool.{Bool, true, false, not, _&&_, _||_}
 use mathlib.Core.List.{List}
 use native.Mathlib.Omega.{arith}
 use borrow.Author.Tests.{eq-eqb, ne-eqb}
 use lib.Dec.{eqb}
+use Rattle.paper.proofs.basics.Choices.{and-nothing}
 use Rattle.paper.specs.Choice.{isEmpty}
 use Rattle.paper.specs.Reading.{wordsFrom}
 use Rattle.paper.specs.Tails.{Parameter, parametersIn, isLast00, voidsLast}
@@ -47,10 +48,6 @@ module _ (s : List ℕ) where
   voids-last : (p : ℕ) → at (p + 4) ≡ 0 → voidsLastFrom s p 1 ≡ eqb (at p) 0
   unfolding voidsLastFrom
   voids-last p h = voids-void p 0 h ∙ and-nothing (eqb (at p) 0)
-    where
-      and-nothing : (t : Bool) → t && true ≡ t
-      and-nothing true = refl
-      and-nothing false = refl
 
   -- and where another follows it is refused
   voids-inner : (p n : ℕ) → at (p + 4) ≡ 0 → voidsLastFrom s p (suc (suc n)) ≡ false

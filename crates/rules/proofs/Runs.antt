@@ -11,6 +11,7 @@ use borrow.Author.Tests.{eq-eqb, ne-eqb, le-leb, lt-leb, leb-true, leb-false, no
 use lib.Dec.{leb}
 use lib.ListN.{length, getD, drop, drop-of-length-le}
 use lib.Seq.{drop-cons}
+use Rattle.paper.proofs.basics.Choices.{and-false}
 use Rattle.paper.specs.Choice.{every, isSome}
 use Rattle.paper.specs.Name.{untilZero}
 use Rattle.rules.specs.declared.idents.Spelt.{Spelt}
@@ -26,10 +27,6 @@ leb-suc m n = go (leb m n) refl
     go : (t : Bool) → leb m n ≡ t → leb (suc m) (suc n) ≡ t
     go true e = let l = leb-true m n e in le-leb (suc m) (suc n) (omega arith)
     go false e = let l = leb-false m n e in lt-leb (suc m) (suc n) (omega arith)
-
-pub and-false : (a : Bool) → a && false ≡ false
-and-false true = refl
-and-false false = refl
 
 -- ── one byte ──
 

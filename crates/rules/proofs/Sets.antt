@@ -10,26 +10,25 @@ use native.Mathlib.Omega.{arith}
 use borrow.Author.Tests.{ne-eqb, lt-leb, eqb-true, eqb-false, leb-true, leb-false}
 use lib.Dec.{eqb, leb}
 use lib.ListN.{length, List·getD-eq-default}
-use Rattle.paper.proofs.basics.Choices.{and-left, and-right}
+use Rattle.paper.proofs.basics.Choices.{and-left, and-right, and-false}
 use Rattle.paper.specs.Name.{between, isDigit, isLetter}
 use Rattle.rules.specs.Parts.{among, runLength}
-use Rattle.rules.proofs.Runs.{and-false}
 
--- the bytes of an identifier, as its definition says them
-abbrev pub wordBytes : ℕ → Bool
-wordBytes c = isLetter c || isDigit c
+-- a byte of an identifier, as its definition says it
+abbrev pub identifierByte : ℕ → Bool
+identifierByte c = isLetter c || isDigit c
 
 -- ── every byte ──
 
-abbrev same : Bool → Bool → Bool
-same true b = b
-same false b = not b
+abbrev agree : Bool → Bool → Bool
+agree true b = b
+agree false b = not b
 
-same-is : (a b : Bool) → same a b ≡ true → a ≡ b
-same-is true true e = refl
-same-is true false e = sym e
-same-is false true e = e
-same-is false false e = refl
+agree-is : (a b : Bool) → agree a b ≡ true → a ≡ b
+agree-is true true e = refl
+agree-is true false e = sym e
+agree-is false true e = e
+agree-is false false e = refl
 
 abbrev below : (ℕ → Bool) → ℕ → Bool
 below f zero = true
@@ -45,7 +44,7 @@ below-at f (suc n) e c h = go (eqb c n) refl (below-at f n (and-right (f n) (bel
 
 -- the four words have the bits of a test
 abbrev pub Bits : List ℕ → (ℕ → Bool) → Type 0
-Bits set f = leb (length set) 4 && below (λ (c : ℕ). same (among set c) (f c)) 256 ≡ true
+Bits set f = leb (length set) 4 && below (λ (c : ℕ). agree (among set c) (f c)) 256 ≡ true
 
 -- ── no number above a byte ──
 
@@ -61,7 +60,7 @@ among-past set c few h =
 pub between-past : (low high c : ℕ) → high < c → between low high c ≡ false
 between-past low high c h = ap (λ (t : Bool). leb low c && t) (lt-leb c high h) ∙ and-false (leb low c)
 
-word-past : (c : ℕ) → 256 ≤ c → wordBytes c ≡ false
+word-past : (c : ℕ) → 256 ≤ c → identifierByte c ≡ false
 unfolding isLetter isDigit
 word-past c h =
     rw (between-past 65 90 c (omega arith), between-past 97 122 c (omega arith), ne-eqb c 95 (λ e. omega arith))
@@ -76,17 +75,17 @@ among-is : (set : List ℕ) {f : ℕ → Bool} → ((c : ℕ) → 256 ≤ c → 
 among-is set {f} past e c = go (leb 256 c) refl
   where
     both : ℕ → Bool
-    both d = same (among set d) (f d)
+    both d = agree (among set d) (f d)
 
     go : (t : Bool) → leb 256 c ≡ t → among set c ≡ f c
     go true l =
         among-past set c (leb-true (length set) 4 (and-left (leb (length set) 4) (below both 256) e)) (leb-true 256 c l)
         ∙ sym (past c (leb-true 256 c l))
     go false l =
-        same-is (among set c) (f c) (below-at both 256 (and-right (leb (length set) 4) (below both 256) e) c (leb-false 256 c l))
+        agree-is (among set c) (f c) (below-at both 256 (and-right (leb (length set) 4) (below both 256) e) c (leb-false 256 c l))
 
 module _ (set : List ℕ) (most : ℕ) (cs : List ℕ) {o : Option ℕ} (d : o ≡ runLength (among set) most cs) where
-  pub runLength-word : Bits set wordBytes → o ≡ runLength wordBytes most cs
+  pub runLength-word : Bits set identifierByte → o ≡ runLength identifierByte most cs
   runLength-word e = d ∙ (λ i. runLength (λ (c : ℕ). among-is set word-past e c i) most cs)
 
   pub runLength-print : Bits set (between 33 126) → o ≡ runLength (between 33 126) most cs

@@ -8,6 +8,7 @@ use native.Mathlib.Omega.{arith}
 use borrow.Author.Tests.{eq-eqb, ne-eqb, le-leb, lt-leb, not-true, not-false}
 use lib.Dec.{eqb, leb}
 use lib.ListN.{length, getD}
+use Rattle.paper.proofs.basics.Choices.{and-nothing, or-nothing}
 use Rattle.paper.specs.Choice.{differ, member}
 use Rattle.paper.specs.Kind.{rows, rowOf}
 use Rattle.paper.specs.KindNo.{INT, VAR, FUNC-PROTO}
@@ -27,11 +28,7 @@ encoding-low (suc (suc (suc e))) h = absurd (omega arith)
 
 pub encoding-high : (e : ℕ) → 2 < e → eqb e 4 ≡ member e (0 ∷ 1 ∷ 2 ∷ 4 ∷ [])
 encoding-high e h =
-    rw (ne-eqb e 0 (λ z. omega arith), ne-eqb e 1 (λ z. omega arith), ne-eqb e 2 (λ z. omega arith)) (or-nothing (eqb e 4))
-  where
-    or-nothing : (t : Bool) → t ≡ t || false
-    or-nothing true = refl
-    or-nothing false = refl
+    rw (ne-eqb e 0 (λ z. omega arith), ne-eqb e 1 (λ z. omega arith), ne-eqb e 2 (λ z. omega arith)) (sym (or-nothing (eqb e 4)))
 
 -- ── the word of an INT ──
 
@@ -67,14 +64,6 @@ module _ (w size : ℕ) where
 -- the three rules, by what each asks of its kind
 abbrev byKind : ℕ → Bool → Bool → Bool → Bool
 byKind k int var proto = (differ k INT || int) && (differ k VAR || var) && (differ k FUNC-PROTO || proto)
-
-and-nothing : (t : Bool) → t && true && true ≡ t
-and-nothing true = refl
-and-nothing false = refl
-
-true-and : (t : Bool) → t && true ≡ t
-true-and true = refl
-true-and false = refl
 
 module _ (s : List ℕ) {info k : ℕ} (read : info ≡ wordAt lowFirst s 4) (kind : k ≡ kindIn info) where
   kind-here : k ≡ kindIn (wordAt lowFirst s 4)
@@ -114,7 +103,7 @@ module _ (s : List ℕ) {info k : ℕ} (read : info ≡ wordAt lowFirst s 4) (ki
       d
       ∙ (λ i. intWordOk (word i) (third i))
       ∙ ap (λ (x : ℕ). intWordOk x (wordAt lowFirst s 8)) (sym here)
-      ∙ sym (ap (λ (j : ℕ). byKind j int var proto) e ∙ and-nothing int)
+      ∙ sym (ap (λ (j : ℕ). byKind j int var proto) e ∙ and-nothing (int && true) ∙ and-nothing int)
       ∙ tailOk-kind
 
   pub tail-var : k ≡ VAR → {w : ℕ} → w ≡ wordAt lowFirst s 12 → {r : Bool} → r ≡ linkageWordOk w → r ≡ tailOk (recordIn lowFirst s)
@@ -123,7 +112,7 @@ module _ (s : List ℕ) {info k : ℕ} (read : info ≡ wordAt lowFirst s 4) (ki
       let here : getD tail 0 0 ≡ wordAt lowFirst s 12 = one-word (ap (λ (j : ℕ). length (rowOf j .once)) e) (ap (λ (j : ℕ). length (rowOf j .each)) e) in
       d
       ∙ ap linkageWordOk (word ∙ sym here)
-      ∙ sym (ap (λ (j : ℕ). byKind j int var proto) e ∙ true-and var)
+      ∙ sym (ap (λ (j : ℕ). byKind j int var proto) e ∙ and-nothing var)
       ∙ tailOk-kind
 
   pub tail-proto : k ≡ FUNC-PROTO → {v : ℕ} → v ≡ vlenIn info → {r : Bool} → r ≡ voidsLastFrom s 12 v → r ≡ tailOk (recordIn lowFirst s)

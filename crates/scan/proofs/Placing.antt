@@ -1,13 +1,13 @@
 -- What is left of writing the places: the words of the records to come, and their places.
 -- Assumes nothing.
-use Prim.Native.Nat.{ℕ, zero, suc, _+_, _*_, _≤_, _<_}
+use Prim.Native.Nat.{ℕ, suc, _+_, _*_, _≤_, _<_}
 use mathlib.Core.Path.{_≡_, refl, sym, ap, _∙_}
-use mathlib.Core.List.{List, [], _∷_, _++_}
+use mathlib.Core.List.{List, _∷_, _++_}
 use native.Mathlib.Numerals.{add-one}
 use native.Mathlib.Omega.{arith}
 use lib.ListN.{length, getD, drop, set, length-append, length-replicate}
 use lib.Seq.{drop-cons, drop-at}
-use Rattle.paper.specs.Fit.{Whole, EveryWhole}
+use Rattle.paper.specs.Fit.{Whole}
 use Rattle.paper.specs.Gate.{zeros, indexOf}
 use Rattle.paper.specs.Header.{headerLength, typeLen}
 use Rattle.paper.specs.Limits.{typeLimit, byteLimit}
@@ -16,6 +16,7 @@ use Rattle.paper.specs.Walk.{typeWords, walk, tableOf, flat, placesFrom, places
 use Rattle.paper.specs.Word.{lowFirst, wordAt}
 use Rattle.paper.proofs.bytes.Blobs.{tableOf-found}
 use Rattle.paper.proofs.bytes.Places.{length-placesOf}
+use Rattle.paper.proofs.bytes.Sections.{whole-at}
 use Rattle.paper.specs.Good.{WholeWalk}
 use Rattle.scan.specs.Phase2.{WalkDone}
 use Rattle.scan.proofs.Findings.{finding-records, counted-count}
@@ -23,11 +24,6 @@ use Rattle.scan.proofs.Left.{left, typeWords-left, left-length, left-he
 use Rattle.scan.proofs.Written.{written, written-none, written-length, written-more, written-all}
 
 -- ── a record whose words are the next that are left ──
-
-everyWhole-at : (rs : List Record) (k : ℕ) → EveryWhole rs → k < length rs → Whole (getD rs k nothing)
-everyWhole-at [] k h l = absurd (omega arith)
-everyWhole-at (r ∷ rs) zero h l = h .0
-everyWhole-at (r ∷ rs) (suc k) h l = everyWhole-at rs k (h .1) (omega arith)
 
 module _ (b : List ℕ) (end : ℕ) (inside : end ≤ length b) (at : ℕ) (r : Record) (ws : List ℕ) (next : left b at end ≡ wordsOf r ++ ws) where
   pub record-inside : at + 4 * length (wordsOf r) ≤ end
@@ -111,7 +107,7 @@ module _ {b : List ℕ} {n size k at : ℕ} {index : List ℕ} (p : Placing b n 
     -- its length is what its info word says
     length-here : at + (12 + 4 * tailLength (wordAt lowFirst b (at + 4))) ≡ at + 4 * length (wordsOf r)
     length-here =
-        let whole : Whole r = everyWhole-at rs k (found (p .done) .whole-found) (omega (arith, counts)) in
+        let whole : Whole r = whole-at rs (found (p .done) .whole-found) k (omega (arith, counts)) in
         omega (arith, ap tailLength (record-info b _ (p .done .section .inside) at r _ next), whole .whole-tail)
 
     -- it ends within the byte limit

@@ -13,6 +13,7 @@ use lib.ListN.{length, getD, take, drop, length-drop, List·getD-eq-default}
 use lib.Seq.{drop-drop, length-take-le}
 use Rattle.paper.proofs.basics.Choices.{or-false}
 use Rattle.paper.proofs.bytes.Headers.{headerReport-facts}
+use Rattle.paper.proofs.gates.Gates.{naming-none}
 use Rattle.scan.specs.Part.{Ending}
 use Rattle.scan.specs.Header.{HeaderOf, SectionsOf}
 use Rattle.scan.specs.declared.header.Header.{Header}
@@ -82,17 +83,13 @@ naming-some : {C : Type 0} (o : Option ℕ) {r : Answer} → naming 0 o ≡ some
 naming-some none e f = absurd (let z : _≡_ {A = ℕ} 0 1 = cc in omega arith)
 naming-some (some n) e f = f n refl
 
-naming-none : (o : Option ℕ) → naming 0 o ≡ none → o ≡ none
-naming-none none e = refl
-naming-none (some n) e = absurd (let z : _≡_ {A = ℕ} 0 1 = cc in omega arith)
-
 module _ (b : List ℕ) (off : ℕ) where
   -- what the header in code says decides
   pub nameless-good : {h : Header} {s : Sections} → HeaderOf h b → h ≡ Good s → not (ltb off (s .strings)) ≡ nameless b off
   unfolding phase1 nameless
   nameless-good {h} {s} e p =
       let good : SectionsOf s b = subst (λ (x : Header). HeaderOf x b) p e in
-      rw (good .strings, naming-none (headerReport b) (good .silent)) refl
+      rw (good .strings, naming-none 0 (headerReport b) (good .silent)) refl
 
   pub nameless-bad : {h : Header} {r : Report} → HeaderOf h b → h ≡ Bad r → true ≡ nameless b off
   unfolding phase1 nameless

@@ -31,6 +31,15 @@ pub and-cong : (a : Bool) {x y : Bool} → (a ≡ true → x ≡ y) → a && x �
 and-cong true h = h refl
 and-cong false h = refl
 
+-- a second test that no one passes, and one that asks nothing
+pub and-false : (a : Bool) → a && false ≡ false
+and-false true = refl
+and-false false = refl
+
+pub and-nothing : (a : Bool) → a && true ≡ a
+and-nothing true = refl
+and-nothing false = refl
+
 -- a choice by a test, whose first side matters only where it passes
 pub cond-cong : {A : Type 0} (b : Bool) {x y : A} (z : A) → (b ≡ true → x ≡ y) → cond b x z ≡ cond b y z
 cond-cong true z h = h refl
@@ -63,6 +72,11 @@ or-false false b e = (refl, e)
 -- and the other way
 pub false-or : {a b : Bool} → a ≡ false → b ≡ false → a || b ≡ false
 false-or p q = rw p q
+
+-- a second test that no one passes
+pub or-nothing : (a : Bool) → a || false ≡ a
+or-nothing true = refl
+or-nothing false = refl
 
 -- a test that is asked only where another passes
 pub if-same : (t : Bool) {x y : Bool} → (t ≡ true → x ≡ y) → not t || x ≡ not t || y

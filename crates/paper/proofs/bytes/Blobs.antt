@@ -112,6 +112,10 @@ pub strings-tableOf : (b : List ℕ) → tableOf b .strings ≡ stringsIn b
 unfolding tableOf
 strings-tableOf b = refl
 
+-- as many bytes as the header says
+pub strings-length : (b : List ℕ) → HeaderFacts b → length (tableOf b .strings) ≡ strLen b
+strings-length b f = ap length (strings-tableOf b) ∙ stringsIn-length b f
+
 -- its records are what the walk found
 pub records-tableOf : (b : List ℕ) {rs : List Record} → walk b ≡ records rs → tableOf b .records ≡ rs
 unfolding tableOf
@@ -121,6 +125,10 @@ records-tableOf b e = ap recordsIn e
 pub tableOf-found : (b : List ℕ) (rs : List Record) → walk b ≡ records rs → WholeWalk typeLimit (typeWords b) (tableOf b .records)
 unfolding walk
 tableOf-found b rs e = rw (records-tableOf b e) (flat-walkFrom typeLimit 1 headerLength (typeWords b) rs e)
+
+-- the bytes of its records are those of the type section
+pub types-length : (b : List ℕ) → HeaderFacts b → WholeWalk typeLimit (typeWords b) (tableOf b .records) → typeLenOf (tableOf b .records) ≡ typeLen b
+types-length b f found = ap (λ (ws : List ℕ). 4 * length ws) (found .flat-found) ∙ typeWords-length b f
 
 -- the headline: the blob of the table that a blob holds is that blob
 pub bytesOf-tableOf : (b : List ℕ) → Bytes b → headerReport b ≡ none → (rs : List Record) → walk b ≡ records rs → bytesOf (orderOf b) (tableOf b) ≡ b
@@ -132,8 +140,8 @@ pub tableOf-fits : (b : List ℕ) → Bytes b → headerReport b ≡ none → (r
 tableOf-fits b bytes silent rs e =
     let f = headerReport-facts b silent in
     let found = tableOf-found b rs e in
-    let types : typeLenOf (tableOf b .records) ≡ typeLen b = ap (λ (ws : List ℕ). 4 * length ws) (found .flat-found) ∙ typeWords-length b f in
-    let strings : length (tableOf b .strings) ≡ strLen b = ap length (strings-tableOf b) ∙ stringsIn-length b f in
+    let types = types-length b f found in
+    let strings = strings-length b f in
     record {
       whole = found .whole-found;
       words-fit = rw (found .flat-found) (typeWords-fit b bytes);

@@ -17,8 +17,8 @@ use Rattle.paper.specs.Table.{Record, count, nothing, kindIn, vlenIn, ta
 use Rattle.paper.specs.Walk.{records, walk, tableOf, placesOf}
 use Rattle.paper.specs.Word.{Order, wordAt}
 use Rattle.paper.proofs.bytes.Blobs.{tableOf-fits}
-use Rattle.paper.proofs.joins.Joining.{whole-at}
 use Rattle.paper.proofs.bytes.Places.{blob-place-word}
+use Rattle.paper.proofs.bytes.Sections.{whole-at}
 
 -- ── words and tests of them, in a byte order ──
 
@@ -32,6 +32,11 @@ module _ (order : Order) where
   pub wordAt-drop : (b : List ℕ) (p k : ℕ) → wordAt order (drop p b) k ≡ wordAt order b (p + k)
   unfolding wordAt
   wordAt-drop b p k = rw drop-drop refl
+
+  -- so many words from a place on
+  pub length-wordsFrom : (s : List ℕ) (p n : ℕ) → length (wordsFrom order s p n) ≡ n
+  length-wordsFrom s p zero = refl
+  length-wordsFrom s p (suc n) = ap suc (length-wordsFrom s (p + 4) n)
 
   -- the words from a place on are those of a list that stand there one after the other
   wordsFrom-are : (s : List ℕ) (p : ℕ) (ws : List ℕ) → ((j : ℕ) → j < length ws → wordAt order s (p + 4 * j) ≡ getD ws j 0)

@@ -1,18 +1,24 @@
 -- Laws of `Walk`: the walk of some words finds exactly the records whose words they are.
 -- Assumes nothing.
-use Prim.Native.Nat.{ℕ, zero, suc, _≤_}
+use Prim.Native.Nat.{ℕ, zero, suc, _≤_, _<_}
 use mathlib.Core.Path.{_≡_, refl, ap, _∙_}
 use mathlib.Core.Bool.{Bool, true, false, cond}
 use mathlib.Core.List.{List, [], _∷_, _++_}
 use native.Mathlib.Omega.{arith}
 use borrow.Author.Tests.{leb-true, le-leb}
 use lib.Dec.{leb}
-use lib.ListN.{length, take, drop, length-append, take-append-drop}
+use lib.ListN.{length, getD, take, drop, length-append, take-append-drop}
 use lib.Seq.{take-at, drop-at, length-take-le}
 use Rattle.paper.specs.Fit.{Whole, EveryWhole}
 use Rattle.paper.specs.Good.{WholeWalk}
-use Rattle.paper.specs.Table.{Record, kindIn, tailLength}
+use Rattle.paper.specs.Table.{Record, nothing, kindIn, tailLength}
 use Rattle.paper.specs.Walk.{Walked, records, stopped, ahead, known, walkRecord, walkFrom, flat}
+
+-- each of whole records is whole
+pub whole-at : (rs : List Record) → EveryWhole rs → (i : ℕ) → i < length rs → Whole (getD rs i nothing)
+whole-at [] h i l = absurd (omega arith)
+whole-at (r ∷ rs) h zero l = h .0
+whole-at (r ∷ rs) h (suc i) l = whole-at rs (h .1) i (omega arith)
 
 -- ── one step ──
 

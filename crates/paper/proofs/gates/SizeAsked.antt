@@ -10,8 +10,8 @@ use borrow.Author.Tests.{le-leb, lt-ltb, leb-true, eqb-true}
 use lib.Dec.{leb, eqb}
 use lib.ListN.{length, getD}
 use Rattle.paper.proofs.basics.Choices.{and-true}
-use Rattle.paper.proofs.joins.Joining.{whole-at}
 use Rattle.paper.proofs.bytes.Places.{place-low, place-high, place-word}
+use Rattle.paper.proofs.bytes.Sections.{whole-at}
 use Rattle.paper.proofs.basics.Rows.{rowOf-every}
 use Rattle.paper.proofs.bytes.Tables.{order-bytesOf}
 use Rattle.paper.proofs.walks.Sizes.{next, sizeBy-enough, next-inside, never-far}

@@ -3,11 +3,12 @@
 use Prim.Native.Nat.{ℕ, zero, suc, _+_, _-_, _≤_, _<_}
 use mathlib.Core.Path.{_≡_, refl, sym, ap, _∙_}
 use mathlib.Core.Bool.{Bool, true, false, false≢true}
-use mathlib.Core.List.{List, [], _∷_, _++_, map}
+use mathlib.Core.List.{List, _++_, map}
 use native.Mathlib.Nat.{suc-add, add-comm}
 use native.Mathlib.Omega.{arith}
 use lib.ListN.{length, getD, drop, length-append, length-drop, length-map, List·getD-append, List·getD-map}
 use lib.Seq.{getD-append-add}
+use Rattle.paper.proofs.bytes.Sections.{whole-at}
 use Rattle.paper.proofs.walks.Chains.{endless-rename}
 use Rattle.paper.proofs.walks.Insides.{sound-refs, sound-ends, sound-inside}
 use Rattle.paper.proofs.renaming.Names.{nameIn-append, nameIn-behind, nameIn-zero}
@@ -16,7 +17,7 @@ use Rattle.paper.proofs.renaming.Renaming.{Renaming, headOk-rename, nam
 use Rattle.paper.proofs.renaming.RenamingLayout.{layoutOk-rename}
 use Rattle.paper.proofs.renaming.RenamingSizes.{exactSize-rename}
 use Rattle.paper.proofs.renaming.RenamingTails.{tailOk-rename}
-use Rattle.paper.specs.Fit.{Whole, EveryWhole}
+use Rattle.paper.specs.Fit.{Whole}
 use Rattle.paper.specs.Good.{Closed, SoundAt, Good}
 use Rattle.paper.specs.Heads.{headOk}
 use Rattle.paper.specs.Join.{raised, joinTables}
@@ -26,13 +27,8 @@ use Rattle.paper.specs.Names.{namesOk}
 use Rattle.paper.specs.References.{refsOk}
 use Rattle.paper.specs.Rename.{raise}
 use Rattle.paper.specs.Size.{exactSize}
-use Rattle.paper.specs.Table.{Record, Table, count, nothing, recordAt}
+use Rattle.paper.specs.Table.{Table, count, nothing, recordAt}
 use Rattle.paper.specs.Tails.{tailOk}
-
-pub whole-at : (rs : List Record) → EveryWhole rs → (i : ℕ) → i < length rs → Whole (getD rs i nothing)
-whole-at [] h i l = absurd (omega arith)
-whole-at (r ∷ rs) h zero l = h .0
-whole-at (r ∷ rs) h (suc i) l = whole-at rs (h .1) i (omega arith)
 
 pub good-whole : (T : Table) → Good T → (t : ℕ) → 1 ≤ t → t ≤ count T → Whole (recordAt T t)
 good-whole T g zero low high = absurd (omega arith)
