@@ -41,7 +41,8 @@ returns-3 : tie.Need-returns-3 Inv-loop μ-loop
 returns-3 c =
     let a = c .before .before in
     let k = a .before .before in
-    running-full (k .before .loop .inv) (k .loop-test .taken) (a .is-among .ensures) (c .before .if1 .left) (c .if3 .taken)
+    running-full (k .before .loop .inv) (k .loop-test .taken) (a .is-among .ensures) (c .before .if1 .left)
+    (omega (arith, k .before .loop .inv .within))
 
 add-n : tie.Need-add-n Inv-loop μ-loop
 add-n c = omega (arith, c .before .before .before .before .before .loop .inv .within)
@@ -56,7 +57,7 @@ loop-again : tie.Need-loop-again Inv-loop μ-loop
 loop-again c =
     let a = c .before .before in
     let k = a .before .before in
-    running-next (k .before .loop .inv) (k .loop-test .taken) (a .is-among .ensures) (c .before .if1 .left) (c .if3 .left)
+    running-next (k .before .loop .inv) (k .loop-test .taken) (a .is-among .ensures) (c .before .if1 .left) (λ e. omega arith)
 
 returns-4 : tie.Need-returns-4 Inv-loop μ-loop
 returns-4 c = running-end (c .before .loop .inv) (c .loop-test .left)
