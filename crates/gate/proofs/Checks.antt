@@ -1,8 +1,7 @@
 -- Laws of the check: the phases one after the other are the table's report, and with `scan` before them the gate's answer and slices.
 -- Assumes nothing.
-use Prim.Native.Nat.{ℕ, suc, _≤_, _<_}
-use mathlib.Core.Path.{_≡_, refl, sym, ap, ap₂, _∙_, subst}
-use mathlib.Core.Bool.{true}
+use Prim.Native.Nat.{ℕ, suc, _<_}
+use mathlib.Core.Path.{_≡_, refl, sym, ap, _∙_, subst}
 use mathlib.Core.List.{List}
 use mathlib.Core.Option.{Option, none, some}
 use native.Mathlib.Omega.{arith}
@@ -20,14 +19,13 @@ use Rattle.gate.specs.declared.phases.Said.{Said}
 use Rattle.gate.specs.declared.phases.Said.the-variants.{Nothing, Says}
 use Rattle.paper.proofs.gates.Gates.{overTypes-silent}
 use Rattle.paper.proofs.Outcomes.{gate-refused, gate-accepted, length-indexOf, getD-indexOf}
-use Rattle.paper.specs.Answer.{Answer, report, reportAt, reportAsPaper, checkedAsPaper}
-use Rattle.paper.specs.Chain.{endless}
+use Rattle.paper.specs.Answer.{Answer, report, reportAt, checkedAsPaper}
 use Rattle.paper.specs.Choice.{orElse}
 use Rattle.paper.specs.Fit.{Bytes}
 use Rattle.paper.specs.Gate.{phase1, phase2, shortSlices, phase3, phase4, phase5, phase6, overTypes, tableReport, refusal, zeros, indexOf, Outcome, outcome, gate}
 use Rattle.paper.specs.References.{refsOk, refBad}
 use Rattle.paper.specs.Table.{Table, count, recordAt}
-use Rattle.paper.specs.Walk.{tableOf, placesOf, placeAt}
+use Rattle.paper.specs.Walk.{tableOf, placeAt}
 use Rattle.paper.specs.declared.Checked.the-variants.{Accepted, Refused}
 use Rattle.paper.specs.declared.Report.{Report}
 use Rattle.paper.specs.declared.TypeNo.{TypeNo}

@@ -1,7 +1,7 @@
 -- Demands 1 and 2 of the code: what it means that `check` has answered, in the person's words. Each from its contract alone.
 -- Assumes nothing.
 use Prim.Native.Nat.{ℕ, _*_, _%_, _≤_, _<_}
-use mathlib.Core.Path.{_≡_, refl, sym, ap, _∙_}
+use mathlib.Core.Path.{_≡_, sym, ap, _∙_}
 use mathlib.Core.List.{List}
 use mathlib.Core.Logic.{_⊎_}
 use mathlib.Core.Option.{none, some}
@@ -16,7 +16,7 @@ use Rattle.paper.proofs.Demands.{accepted-ends}
 use Rattle.paper.proofs.Outcomes.{gate-refused, gate-accepted, index-place, whole-size}
 use Rattle.paper.proofs.gates.Reports.{refusal-spoken, report-14}
 use Rattle.paper.proofs.gates.Wheres.{report-stands, report-inside, report-bytes}
-use Rattle.paper.specs.Answer.{Answer, reportAsPaper, checkedAsPaper, sizedAsPaper}
+use Rattle.paper.specs.Answer.{reportAsPaper, checkedAsPaper, sizedAsPaper}
 use Rattle.paper.specs.Chain.{heldBy, pointedBy, Chain}
 use Rattle.paper.specs.Fit.{Bytes}
 use Rattle.paper.specs.Gate.{refusal, zeros, Outcome, gate}

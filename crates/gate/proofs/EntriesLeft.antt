@@ -7,7 +7,7 @@ use mathlib.Core.List.{List, [], _∷_}
 use native.Mathlib.Omega.{arith}
 use borrow.Author.Tests.{eq-eqb, ne-eqb, le-leb, lt-leb, not-true, not-false}
 use lib.Dec.{eqb, leb}
-use Rattle.gate.proofs.MembersLeft.{and-false}
+use Rattle.paper.proofs.basics.Choices.{and-false}
 use Rattle.gate.proofs.RecordWords.{tail-read}
 use Rattle.paper.specs.Choice.{every}
 use Rattle.paper.specs.Reading.{wordsFrom, recordIn}

@@ -11,15 +11,16 @@ use borrow.Author.Tests.{ltb-true, ltb-false, eq-eqb, ne-eqb}
 use lib.Dec.{ltb}
 use lib.ListN.{length, getD, drop, length-append, List·getD-append, drop-of-length-le}
 use lib.Seq.{drop-cons, getD-append-add}
-use Rattle.paper.specs.Chain.{heldWord, heldIn}
+use Rattle.paper.specs.Chain.{stepTo, heldWord, heldIn}
 use Rattle.paper.specs.Choice.{times}
 use Rattle.paper.specs.Kind.{NameRule, offset0, anyName, offset0OrIdentifier, identifier, nonEmpty, sectionName, RefRule, voidOrPlain, plain, anInt, aProto, aVar, taggable, Role, names, refers, holds, number, rowOf}
 use Rattle.paper.specs.Reading.{wordsFrom, recordIn}
 use Rattle.paper.specs.Table.{Record, kindIn, vlenIn, tailLength, tailRoles, rolesOf, wordsOf}
 use Rattle.paper.specs.Word.{lowFirst, wordAt}
-use Rattle.paper.proofs.bytes.Reading.{length-times}
+use Rattle.paper.proofs.bytes.Reading.{length-times, length-wordsFrom}
+use Rattle.gate.proofs.RecordWords.{getD-wordsFrom}
 use Rattle.rows.specs.Codes.{nameCode, refCode, roleCode, roleAt}
-use Rattle.gate.specs.Holding.{tailRolesBy, rolesBy, heldFrom, heldAhead, NextHeld, WordOf}
+use Rattle.gate.specs.Holding.{tailRolesBy, rolesBy, heldFrom, NextHeld, WordOf}
 
 -- ── the role of a word by its number ──
 
@@ -148,24 +149,13 @@ heldWord-other (names rule) w us h = refl
 heldWord-other (refers rule) w us h = refl
 heldWord-other (holds rule) w us h = absurd (omega (arith, refCode-low rule))
 
-heldWord-held : (ρ : Role) (w : ℕ) (us : List ℕ) → 13 ≤ roleCode ρ → heldWord ρ w us ≡ heldAhead w us
+heldWord-held : (ρ : Role) (w : ℕ) (us : List ℕ) → 13 ≤ roleCode ρ → heldWord ρ w us ≡ stepTo w us
 heldWord-held number w us h = absurd (omega arith)
 heldWord-held (names rule) w us h = absurd (omega (arith, nameCode-low rule))
 heldWord-held (refers rule) w us h = absurd (omega (arith, refCode-low rule))
 heldWord-held (holds rule) w us h = refl
 
 -- ── the words of the record that some bytes begin with ──
-
-length-wordsFrom : (s : List ℕ) (p n : ℕ) → length (wordsFrom lowFirst s p n) ≡ n
-length-wordsFrom s p zero = refl
-length-wordsFrom s p (suc n) = ap suc (length-wordsFrom s (p + 4) n)
-
-getD-wordsFrom : (s : List ℕ) (p n i : ℕ) → i < n → getD (wordsFrom lowFirst s p n) i 0 ≡ wordAt lowFirst s (p + 4 * i)
-getD-wordsFrom s p zero i h = absurd (omega arith)
-getD-wordsFrom s p (suc n) zero h = let here : p ≡ p + 4 * 0 = omega arith in ap (wordAt lowFirst s) here
-getD-wordsFrom s p (suc n) (suc i) h =
-    let there : p + 4 + 4 * i ≡ p + 4 * suc i = omega arith in
-    getD-wordsFrom s (p + 4) n i (omega arith) ∙ ap (wordAt lowFirst s) there
 
 module _ (s : List ℕ) where
   abbrev rec : Record
@@ -182,8 +172,8 @@ module _ (s : List ℕ) where
   unfolding recordIn tailRoles rolesBy tailRolesBy
   roles-by = refl
 
-  pub length-words : length (wordsOf rec) ≡ 3 + tailLength infoOf
-  length-words = ap length words-from ∙ length-wordsFrom s 0 (suc (suc (suc (tailLength infoOf)))) ∙ omega arith
+  pub length-record : length (wordsOf rec) ≡ 3 + tailLength infoOf
+  length-record = ap length words-from ∙ length-wordsFrom lowFirst s 0 (suc (suc (suc (tailLength infoOf)))) ∙ omega arith
 
   length-roles : length (rolesOf rec) ≡ 3 + tailLength infoOf
   length-roles = ap length roles-by ∙ length-rolesBy infoOf
@@ -198,7 +188,7 @@ module _ (s : List ℕ) where
       let role : getD (rolesOf rec) i number ≡ getD (rolesBy infoOf) i number = ap (λ (ρs : List Role). getD ρs i number) roles-by in
       let word : getD (wordsOf rec) i 0 ≡ wordAt lowFirst s (4 * i) =
       ap (λ (ws : List ℕ). getD ws i 0) words-from ∙ getD-wordsFrom s 0 (suc (suc (suc (tailLength infoOf)))) i (omega arith) ∙ ap (wordAt lowFirst s) zero-more in
-      ap₂ heldIn (drop-cons (rolesOf rec) i number (omega (arith, length-roles))) (drop-cons (wordsOf rec) i 0 (omega (arith, length-words)))
+      ap₂ heldIn (drop-cons (rolesOf rec) i number (omega (arith, length-roles))) (drop-cons (wordsOf rec) i 0 (omega (arith, length-record)))
       ∙ (λ x. heldWord (role x) (word x) (heldIn (drop (next x) (rolesOf rec)) (drop (next x) (wordsOf rec))))
 
   heldFrom-end : (i : ℕ) → 3 + tailLength infoOf ≤ i → heldFrom rec i ≡ []
@@ -214,15 +204,15 @@ module _ (s : List ℕ) where
         heldFrom-step i within-here
         ∙ ap (λ (w : ℕ). heldWord (getD (rolesBy w) i number) (wordAt lowFirst s (4 * i)) (heldFrom rec (i + 1))) (sym (at .read))
 
-    pub held-not : {code : ℕ} → code ≡ roleAt (rolesBy info) i → code < 13 → heldFrom rec i ≡ heldAhead 0 (heldFrom rec (i + 1))
+    pub held-not : {code : ℕ} → code ≡ roleAt (rolesBy info) i → code < 13 → heldFrom rec i ≡ stepTo 0 (heldFrom rec (i + 1))
     held-not e h = step-here ∙ heldWord-other (getD (rolesBy info) i number) _ _ (omega arith)
 
     pub held-word : {code : ℕ} → code ≡ roleAt (rolesBy info) i → 13 ≤ code → {w : ℕ} → w ≡ wordAt lowFirst s (4 * i)
-        → heldFrom rec i ≡ heldAhead w (heldFrom rec (i + 1))
+        → heldFrom rec i ≡ stepTo w (heldFrom rec (i + 1))
     held-word e h d =
         step-here
         ∙ heldWord-held (getD (rolesBy info) i number) _ _ (omega arith)
-        ∙ ap (λ (w : ℕ). heldAhead w (heldFrom rec (i + 1))) (sym d)
+        ∙ ap (λ (w : ℕ). stepTo w (heldFrom rec (i + 1))) (sym d)
 
 -- ── a look along the words ──
 
@@ -234,7 +224,7 @@ pub record Looking (r : Record) (from i : ℕ) : Type 0 where
 pub looking-start : (r : Record) (from : ℕ) → Looking r from from
 looking-start r from = record { forward = omega arith; same = refl }
 
-module _ {r : Record} {from i : ℕ} (look : Looking r from i) {u : ℕ} (step : heldFrom r i ≡ heldAhead u (heldFrom r (i + 1))) where
+module _ {r : Record} {from i : ℕ} (look : Looking r from i) {u : ℕ} (step : heldFrom r i ≡ stepTo u (heldFrom r (i + 1))) where
   pub looking-next : u ≡ 0 → Looking r from (i + 1)
   looking-next e =
       record {

@@ -2,9 +2,10 @@
 -- Assumes nothing.
 use Prim.Native.Nat.{ℕ}
 use mathlib.Core.Path.{_≡_, refl, sym, ap, ap₂, _∙_}
-use mathlib.Core.Bool.{Bool, true, false, not, _&&_, _||_}
+use mathlib.Core.Bool.{Bool, true, not, _&&_, _||_}
 use mathlib.Core.List.{[], _∷_}
 use borrow.Author.Tests.{ne-eqb}
+use Rattle.paper.proofs.basics.Choices.{and-nothing}
 use Rattle.paper.specs.Choice.{_when_, firstDue, differ, member}
 use Rattle.paper.specs.Gate.{namingAt, phase6}
 use Rattle.paper.specs.KindNo.{ARRAY, STRUCT, UNION, FUNC, VAR, DATASEC, DECL-TAG}
@@ -25,10 +26,6 @@ byKind k members array variable function tag section =
     && (differ k DATASEC || section)
 
 -- a rule that does not speak of a kind lets it pass
-and-true : (t : Bool) → t && true ≡ t
-and-true true = refl
-and-true false = refl
-
 module _ (T : Table) (r : Record) {k : ℕ} (kind : k ≡ kindOf r) where
   abbrev by : ℕ → Bool
   by j = byKind j (membersOk T r) (arrayOk T r) (hasSmallSize T (r .third)) (functionOk T r) (tagOk T r) (sectionOk T r)
@@ -38,22 +35,22 @@ module _ (T : Table) (r : Record) {k : ℕ} (kind : k ≡ kindOf r) where
   by-kind = ap by kind
 
   pub layout-struct : k ≡ STRUCT → {x : Bool} → x ≡ membersOk T r → x ≡ layoutOk T r
-  layout-struct e d = d ∙ sym (ap by e ∙ simp and-true) ∙ by-kind
+  layout-struct e d = d ∙ sym (ap by e ∙ simp and-nothing) ∙ by-kind
 
   pub layout-union : k ≡ UNION → {x : Bool} → x ≡ membersOk T r → x ≡ layoutOk T r
-  layout-union e d = d ∙ sym (ap by e ∙ simp and-true) ∙ by-kind
+  layout-union e d = d ∙ sym (ap by e ∙ simp and-nothing) ∙ by-kind
 
   pub layout-array : k ≡ ARRAY → {x : Bool} → x ≡ arrayOk T r → x ≡ layoutOk T r
-  layout-array e d = d ∙ sym (ap by e ∙ simp and-true) ∙ by-kind
+  layout-array e d = d ∙ sym (ap by e ∙ simp and-nothing) ∙ by-kind
 
   pub layout-var : k ≡ VAR → {x : Bool} → x ≡ hasSmallSize T (r .third) → x ≡ layoutOk T r
-  layout-var e d = d ∙ sym (ap by e ∙ simp and-true) ∙ by-kind
+  layout-var e d = d ∙ sym (ap by e ∙ simp and-nothing) ∙ by-kind
 
   pub layout-func : k ≡ FUNC → {x : Bool} → x ≡ functionOk T r → x ≡ layoutOk T r
-  layout-func e d = d ∙ sym (ap by e ∙ simp and-true) ∙ by-kind
+  layout-func e d = d ∙ sym (ap by e ∙ simp and-nothing) ∙ by-kind
 
   pub layout-tag : k ≡ DECL-TAG → {x : Bool} → x ≡ tagOk T r → x ≡ layoutOk T r
-  layout-tag e d = d ∙ sym (ap by e ∙ simp and-true) ∙ by-kind
+  layout-tag e d = d ∙ sym (ap by e ∙ simp and-nothing) ∙ by-kind
 
   pub layout-section : k ≡ DATASEC → {x : Bool} → x ≡ sectionOk T r → x ≡ layoutOk T r
   layout-section e d = d ∙ sym (ap by e) ∙ by-kind

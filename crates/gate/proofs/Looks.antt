@@ -1,16 +1,15 @@
 -- A phase over the types in order: what it says from here on is what it says at all, since it said nothing of the types passed.
 -- Assumes nothing.
-use Prim.Native.Nat.{ℕ, zero, suc, _+_, _-_, _≤_, _<_}
-use mathlib.Core.Path.{_≡_, refl, sym, ap, ap₂, _∙_}
-use mathlib.Core.Bool.{Bool, true, false, not}
+use Prim.Native.Nat.{ℕ, suc, _+_, _-_, _≤_, _<_}
+use mathlib.Core.Path.{_≡_, sym, ap, ap₂, _∙_}
+use mathlib.Core.Bool.{Bool, not}
 use mathlib.Core.List.{List, [], _∷_}
-use mathlib.Core.Option.{Option, none, some}
-use native.Mathlib.Numerals.{add-one}
+use mathlib.Core.Option.{Option, none}
 use native.Mathlib.Omega.{arith}
 use Rattle.gate.specs.Said.{saidAsPaper}
 use Rattle.gate.specs.declared.phases.Said.{Said}
 use Rattle.gate.specs.declared.phases.Said.the-variants.{Nothing, Says}
-use Rattle.paper.specs.Answer.{Answer, report, reportAsPaper}
+use Rattle.paper.specs.Answer.{Answer}
 use Rattle.paper.specs.Choice.{Rule, _when_, firstDue, orElse}
 use Rattle.paper.specs.Gate.{namingAt, firstOf, overTypes, phase3, phase4}
 use Rattle.paper.specs.Heads.{headBad}

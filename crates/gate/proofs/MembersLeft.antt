@@ -10,7 +10,7 @@ use borrow.Author.Tests.{ne-eqb, not-true, not-false}
 use lib.Dec.{eqb, leb}
 use Rattle.gate.proofs.RecordWords.{tail-read}
 use Rattle.gate.specs.Spanned.{memberAt, withOffset, spanWith}
-pub use Rattle.paper.proofs.basics.Choices.{and-false}
+use Rattle.paper.proofs.basics.Choices.{and-false}
 use Rattle.paper.specs.Choice.{every}
 use Rattle.paper.specs.KindNo.{UNION}
 use Rattle.paper.specs.Layout.{memberOk, notFalling, offsetsOk, membersOk}

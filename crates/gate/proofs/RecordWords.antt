@@ -30,7 +30,7 @@ module _ (s : List ℕ) {r : Record} (is : recordIn lowFirst s ≡ r) where
   flag-read e d = d ∙ ap flagIn (info-read e)
 
 module _ (s : List ℕ) where
-  getD-wordsFrom : (p n j : ℕ) → j < n → getD (wordsFrom lowFirst s p n) j 0 ≡ wordAt lowFirst s (p + 4 * j)
+  pub getD-wordsFrom : (p n j : ℕ) → j < n → getD (wordsFrom lowFirst s p n) j 0 ≡ wordAt lowFirst s (p + 4 * j)
   getD-wordsFrom p zero j h = absurd (omega arith)
   getD-wordsFrom p (suc n) zero h = let here : p ≡ p + 4 * 0 = omega arith in ap (wordAt lowFirst s) here
   getD-wordsFrom p (suc n) (suc j) h =

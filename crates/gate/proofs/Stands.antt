@@ -4,10 +4,9 @@ use Prim.Native.Nat.{ℕ, zero, suc, _+_, _≤_, _<_}
 use mathlib.Core.Path.{_≡_, refl, sym, ap, _∙_}
 use mathlib.Core.Bool.{Bool, true, false}
 use mathlib.Core.List.{List, []}
-use mathlib.Core.Option.{none}
 use native.Mathlib.Omega.{arith}
 use borrow.Author.Tests.{eq-eqb, ne-eqb, lt-ltb, le-ltb, ltb-true, ltb-false}
-use lib.Dec.{eqb, ltb}
+use lib.Dec.{ltb}
 use lib.ListN.{length, getD, drop, List·getD-eq-default}
 use lib.Seq.{drop-length}
 use Rattle.gate.specs.Standing.{Standing, placeIn}
@@ -20,7 +19,7 @@ use Rattle.paper.proofs.bytes.Reading.{recordIn-place}
 use Rattle.paper.specs.Header.{orderOf, typeLen, stringsIn}
 use Rattle.paper.specs.Kind.{rows, rowOf}
 use Rattle.paper.specs.Reading.{recordIn}
-use Rattle.paper.specs.Table.{Record, nothing, recordAt, tailLength}
+use Rattle.paper.specs.Table.{nothing, recordAt, tailLength}
 use Rattle.paper.specs.Walk.{tableOf, placesOf, placeAt}
 use Rattle.paper.specs.Word.{lowFirst, wordAt}
 

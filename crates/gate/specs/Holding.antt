@@ -2,8 +2,6 @@
 use Prim.Native.Nat.{ℕ, _<_, _≤_}
 use mathlib.Core.Path.{_≡_}
 use mathlib.Core.List.{List, [], _∷_, _++_}
-use mathlib.Core.Bool.{cond}
-use lib.Dec.{eqb}
 use lib.ListN.{length, drop}
 use Rattle.gate.specs.declared.held.Held.{Held}
 use Rattle.gate.specs.declared.held.Held.the-variants.{Found, Nothing}
@@ -23,10 +21,6 @@ rolesBy info = names (rowOf (kindIn info) .name) ∷ number ∷ rowOf (kindIn in
 -- the types held from word j on
 unfoldable pub heldFrom : Record → ℕ → List ℕ
 heldFrom r j = heldIn (drop j (rolesOf r)) (drop j (wordsOf r))
-
--- one word's type in front of the others; 0 is none
-abbrev pub heldAhead : ℕ → List ℕ → List ℕ
-heldAhead u us = cond (eqb u 0) us (u ∷ us)
 
 -- a word of the record that some bytes begin with
 pub record WordOf (s : List ℕ) (info i : ℕ) : Type 0 where

@@ -12,7 +12,8 @@ use rows::third_role;
 ghost use mathlib.Core.Path.{_≡_};
 ghost use Prim.Native.Nat.{_+_, _<_};
 ghost use lib.ListN.{length};
-ghost use Rattle.gate.specs.Holding.{HeldIs, WordOf, heldAhead, heldFrom, rolesBy, tailRolesBy};
+ghost use Rattle.gate.specs.Holding.{HeldIs, WordOf, heldFrom, rolesBy, tailRolesBy};
+ghost use Rattle.paper.specs.Chain.{stepTo};
 ghost use Rattle.paper.specs.Reading.{recordIn};
 ghost use Rattle.paper.specs.Word.{lowFirst};
 ghost use Rattle.rows.specs.Codes.{roleAt};
@@ -52,7 +53,7 @@ fn role_of(info: u32, i: u32) -> u32
 // The type that a word holds by value: 0 for none and for a word of another role. Codes from 13 on are those of by-value references.
 fn held_at(bytes: &[u8], info: u32, i: u32) -> u32
     requires { ⌜ WordOf (now bytes) info i ⌝ }
-    ensures { λ r. ⌜ heldFrom (recordIn lowFirst (now (bytes .entry))) i ≡ heldAhead r (heldFrom (recordIn lowFirst (now (bytes .entry))) (i + 1)) ⌝ }
+    ensures { λ r. ⌜ heldFrom (recordIn lowFirst (now (bytes .entry))) i ≡ stepTo r (heldFrom (recordIn lowFirst (now (bytes .entry))) (i + 1)) ⌝ }
 {
     if role_of(info, i) < 13 {
         return 0;

@@ -12,7 +12,6 @@ use lib.Seq.{drop-cons, drop-length}
 use Rattle.paper.proofs.basics.Choices.{and-false}
 use Rattle.paper.specs.Name.{isDigit}
 use Rattle.lines.specs.Decimal.{areDigits, valueFrom, numberOf}
-use Rattle.lines.specs.declared.numbers.Number.{Number}
 use Rattle.lines.specs.declared.numbers.Number.the-variants.{Is, Not}
 
 -- ── each way that a reading ends ──

@@ -7,7 +7,6 @@ use mathlib.Core.List.{List, []}
 use mathlib.Core.Option.{Option, none}
 use native.Mathlib.Omega.{arith}
 use borrow.Author.Tests.{lt-ltb}
-use lib.Dec.{ltb}
 use lib.ListN.{length}
 use Rattle.paper.proofs.gates.Acceptance.{accepted-header, accepted-closed}
 use Rattle.paper.proofs.bytes.Blobs.{strings-tableOf, strings-length}
@@ -19,7 +18,7 @@ use Rattle.paper.specs.Choice.{isSome}
 use Rattle.paper.specs.Fit.{Bytes}
 use Rattle.paper.specs.Gate.{refusal, gate}
 use Rattle.paper.specs.Good.{Closed}
-use Rattle.paper.specs.Header.{strLen, stringsIn, headerReport}
+use Rattle.paper.specs.Header.{strLen, stringsIn}
 use Rattle.paper.specs.Join.{joinTables, joinedBytes, joinRefusal}
 use Rattle.paper.specs.Name.{nameIn, nameless, nameAt}
 use Rattle.paper.specs.Rename.{raise}

@@ -4,7 +4,6 @@ use Prim.Native.Nat.{ℕ, zero, suc, _+_, _*_, _≤_, _<_}
 use mathlib.Core.Path.{_≡_, refl, ap, ap₂, _∙_}
 use mathlib.Core.Bool.{Bool, true, false, not, cond, _&&_, _||_}
 use mathlib.Core.List.{List}
-use mathlib.Core.Option.{Option, none, some}
 use native.Mathlib.Omega.{arith}
 use borrow.Author.Tests.{le-leb, lt-ltb, leb-true, eqb-true}
 use lib.Dec.{leb, eqb}
@@ -15,13 +14,11 @@ use Rattle.paper.proofs.bytes.Sections.{whole-at}
 use Rattle.paper.proofs.basics.Rows.{rowOf-every}
 use Rattle.paper.proofs.bytes.Tables.{order-bytesOf}
 use Rattle.paper.proofs.walks.Sizes.{next, sizeBy-enough, next-inside, never-far}
-use Rattle.paper.specs.Answer.{Answer, report, value}
 use Rattle.paper.specs.Chain.{endless}
 use Rattle.paper.specs.Fit.{Fits}
 use Rattle.paper.specs.Header.{headerLength, orderOf}
 use Rattle.paper.specs.Kind.{Row, SizeRule, eight, sizeWord, countTimes, referent, noSize, rows, rowOf}
 use Rattle.paper.specs.KindNo.{ARRAY}
-use Rattle.paper.specs.Limits.{sizeLimit}
 use Rattle.paper.specs.References.{refsOk}
 use Rattle.paper.specs.Size.{Step, is, manyOf, sizeless, lost, Found, exactly, noneAt, lostAt, tooFar, stepBy, scale, goOn, sizeBy, stepIn, sizeFound, exactSize, answerOf, stepAtPlace, stepAt, sizeAsked, sizeAnswer, sizeOf}
 use Rattle.paper.specs.Table.{Record, Table, count, recordAt, kindIn, kindOf, tailLength, wordsOf}

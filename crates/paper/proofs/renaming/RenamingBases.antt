@@ -1,6 +1,6 @@
 -- The renaming law for bases: following TYPEDEF, qualifiers and TYPE_TAG comes to the renamed base.
 -- Assumes nothing.
-use Prim.Native.Nat.{ℕ, zero, suc, _+_, _-_, _≤_}
+use Prim.Native.Nat.{ℕ, zero, suc, _-_, _≤_}
 use mathlib.Core.Path.{_≡_, refl, sym, ap, _∙_}
 use mathlib.Core.Bool.{Bool, true, false, cond}
 use native.Mathlib.Nat.{sub-add-cancel}
@@ -16,7 +16,7 @@ use Rattle.paper.specs.Kind.{Role}
 use Rattle.paper.specs.References.{refsOk}
 use Rattle.paper.specs.Rename.{renameWord, rename}
 use Rattle.paper.specs.Span.{isAlias, baseFrom, baseOf}
-use Rattle.paper.specs.Table.{Record, Table, count, recordAt, kindAt, kindOf}
+use Rattle.paper.specs.Table.{Record, Table, count, recordAt, kindAt}
 
 -- ── renaming ──
 

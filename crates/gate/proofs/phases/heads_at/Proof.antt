@@ -1,8 +1,6 @@
 -- `gate::phases::heads_at` meets its contract: the number that is due of the type's record.
 -- Assumes nothing.
-use Prim.Native.Nat.{ℕ}
 use mathlib.Core.Path.{_≡_, sym, ap, _∙_}
-use mathlib.Core.Option.{Option}
 use denote.Ref.{now}
 use Rattle.gate.proofs.Looks.{heads-due}
 use Rattle.paper.specs.Answer.{reportAsPaper}

@@ -1,7 +1,7 @@
 -- `gate::phases::refs_at` meets its contract: 13 where the references of the type's record are not good.
 -- Assumes nothing.
 use Prim.Native.Nat.{ℕ}
-use mathlib.Core.Path.{_≡_, refl, sym, ap, _∙_}
+use mathlib.Core.Path.{_≡_, refl, sym, _∙_}
 use mathlib.Core.Bool.{Bool, not}
 use mathlib.Core.List.{[], _∷_}
 use denote.Ref.{now}

@@ -1,6 +1,5 @@
 -- `gate::rings::rings` meets its contract: the first of each sort give the first of both.
 -- Assumes nothing.
-use mathlib.Core.Path.{_∙_}
 use Rattle.gate.proofs.BothSorts.{rings-either}
 use Rattle.gate.proofs.Pointing.{unsearched-cleared}
 use borrow.Author.Needs.{needs}

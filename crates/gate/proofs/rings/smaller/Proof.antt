@@ -1,6 +1,5 @@
 -- `gate::rings::smaller` meets its contract.
 -- Assumes nothing.
-use mathlib.Core.Path.{sym, ap}
 use Rattle.gate.proofs.BothSorts.{smaller-alone, smaller-second, smaller-first}
 use borrow.Author.Needs.{needs}
 use Rattle.gate.proofs.rings.smaller.Statement.{statement}

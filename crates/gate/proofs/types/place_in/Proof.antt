@@ -1,6 +1,5 @@
 -- `gate::types::place_in` meets its contract.
 -- Assumes nothing.
-use native.Mathlib.Omega.{arith}
 use Rattle.gate.proofs.Stands.{placeIn-void, placeIn-above, placeIn-type}
 use borrow.Author.Needs.{needs}
 use Rattle.gate.proofs.types.place_in.Statement.{statement}
