@@ -9,7 +9,7 @@ use Rattle.paper.specs.References.{refsOk}
 use Rattle.paper.specs.Table.{count, recordAt}
 use Rattle.paper.specs.Walk.{tableOf}
 
--- a blob of n types with an index of their places, whose references are good and whose by-value walks end
+-- a blob of n types with an index of their places, whose references are good and whose walks of both sorts end
 pub record Judged (b index : List ℕ) (n : ℕ) : Type 0 where
   pub standing : Standing b index n
   pub refs : (t : ℕ) → 1 ≤ t → t ≤ count (tableOf b) → refsOk (tableOf b) (recordAt (tableOf b) t) ≡ true

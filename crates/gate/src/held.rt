@@ -1,4 +1,4 @@
-// The next by-value reference of a record: the one place that says which references phase 5 follows.
+// The next by-value reference of a record: the one place that says which references the first sort of walk follows.
 use paper::Place;
 use paper::TypeNo;
 use rows::entry_role;
