@@ -23,7 +23,7 @@ use Rattle.gate.specs.declared.held.Held.{Held}
 use Rattle.gate.specs.Holding.{heldFrom, HeldIs, NextHeld}
 use Rattle.gate.specs.Search.{Followable}
 use Rattle.gate.specs.Standing.{Standing, placeIn}
-use Rattle.gate.proofs.Holds.{length-record}
+use Rattle.paper.proofs.bytes.Reading.{length-recordIn}
 use Rattle.gate.proofs.Stands.{stands-record}
 
 -- ── what is held from a word on is held ──
@@ -94,4 +94,4 @@ module _ {b index work : List ℕ} {n : ℕ} (f : Followable b index n work) whe
     next-small =
         let s = drop (placeIn index n t (length b)) b in
         let same = ap (λ (r : Record). length (wordsOf r)) (stands-record (f .standing) t) in
-        omega (arith, next .inside, same, length-record s, tailLength-few (wordAt lowFirst s 4))
+        omega (arith, next .inside, same, length-recordIn lowFirst s, tailLength-few (wordAt lowFirst s 4))

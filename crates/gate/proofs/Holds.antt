@@ -17,7 +17,7 @@ use Rattle.paper.specs.Kind.{NameRule, offset0, anyName, offset0OrIdentifier, i
 use Rattle.paper.specs.Reading.{wordsFrom, recordIn}
 use Rattle.paper.specs.Table.{Record, kindIn, vlenIn, tailLength, tailRoles, rolesOf, wordsOf}
 use Rattle.paper.specs.Word.{lowFirst, wordAt}
-use Rattle.paper.proofs.bytes.Reading.{length-times, length-wordsFrom}
+use Rattle.paper.proofs.bytes.Reading.{length-times, length-recordIn}
 use Rattle.gate.proofs.RecordWords.{getD-wordsFrom}
 use Rattle.rows.specs.Codes.{nameCode, refCode, roleCode, roleAt}
 use Rattle.gate.specs.Holding.{tailRolesBy, rolesBy, heldFrom, NextHeld, WordOf}
@@ -172,9 +172,6 @@ module _ (s : List ℕ) where
   unfolding recordIn tailRoles rolesBy tailRolesBy
   roles-by = refl
 
-  pub length-record : length (wordsOf rec) ≡ 3 + tailLength infoOf
-  length-record = ap length words-from ∙ length-wordsFrom lowFirst s 0 (suc (suc (suc (tailLength infoOf)))) ∙ omega arith
-
   length-roles : length (rolesOf rec) ≡ 3 + tailLength infoOf
   length-roles = ap length roles-by ∙ length-rolesBy infoOf
 
@@ -188,7 +185,7 @@ module _ (s : List ℕ) where
       let role : getD (rolesOf rec) i number ≡ getD (rolesBy infoOf) i number = ap (λ (ρs : List Role). getD ρs i number) roles-by in
       let word : getD (wordsOf rec) i 0 ≡ wordAt lowFirst s (4 * i) =
       ap (λ (ws : List ℕ). getD ws i 0) words-from ∙ getD-wordsFrom s 0 (suc (suc (suc (tailLength infoOf)))) i (omega arith) ∙ ap (wordAt lowFirst s) zero-more in
-      ap₂ heldIn (drop-cons (rolesOf rec) i number (omega (arith, length-roles))) (drop-cons (wordsOf rec) i 0 (omega (arith, length-record)))
+      ap₂ heldIn (drop-cons (rolesOf rec) i number (omega (arith, length-roles))) (drop-cons (wordsOf rec) i 0 (omega (arith, length-recordIn lowFirst s)))
       ∙ (λ x. heldWord (role x) (word x) (heldIn (drop (next x) (rolesOf rec)) (drop (next x) (wordsOf rec))))
 
   heldFrom-end : (i : ℕ) → 3 + tailLength infoOf ≤ i → heldFrom rec i ≡ []

@@ -15,7 +15,7 @@ use Rattle.paper.proofs.bytes.Bytes.{length-bytesOfWords, bytesOfWords-append}
 use Rattle.paper.proofs.bytes.Headers.{facts-headerReport}
 use Rattle.paper.proofs.bytes.Places.{flat-append, placesOf-at, place-inside, blob-place-high}
 use Rattle.paper.proofs.bytes.Puts.{put-none, length-put, put-put}
-use Rattle.paper.proofs.bytes.Reading.{length-wordsFrom, recordIn-place}
+use Rattle.paper.proofs.bytes.Reading.{length-recordIn, recordIn-place}
 use Rattle.paper.proofs.gates.Acceptance.{readable-walk}
 use Rattle.paper.proofs.joins.Grouping.{flat-rename}
 use Rattle.paper.specs.Choice.{times}
@@ -29,17 +29,12 @@ use Rattle.paper.specs.Word.{lowFirst, bytesOfWords, wordAt}
 
 -- ── a record ──
 
--- the words of the record that some bytes begin with
-pub length-recordIn : (s : List ℕ) → length (wordsOf (recordIn lowFirst s)) ≡ 3 + tailLength (wordAt lowFirst s 4)
-unfolding recordIn
-length-recordIn s = let l = length-wordsFrom lowFirst s 12 (tailLength (wordAt lowFirst s 4)) in omega arith
-
 -- the groups of its kind, and room for them
 module _ {s : List ℕ} {at room : ℕ} (a : RecordAsk s at room) {info kind : ℕ} (read : info ≡ wordAt lowFirst s 4) (kinded : kind ≡ kindIn info) where
   all-fit : at + (12 + (4 * length (rowOf kind .once) + vlenIn info * (4 * length (rowOf kind .each)))) ≤ room
   unfolding tailLength
   all-fit =
-      let l = length-recordIn s ∙ ap (λ (i : ℕ). 3 + tailLength i) (sym read) in
+      let l = length-recordIn lowFirst s ∙ ap (λ (i : ℕ). 3 + tailLength i) (sym read) in
       let k = ap (λ (j : ℕ). length (rowOf j .once) + vlenIn info * length (rowOf j .each)) kinded in
       let same = mul-left-comm (vlenIn info) 4 (length (rowOf kind .each)) in
       let f = a .fits in
@@ -107,7 +102,7 @@ module _ {by : Shift} {s : List ℕ} {at : ℕ} {out out₁ out₂ out₃ : List
 
   pub record-put : {w : ℕ} → w ≡ tailLength info → RecordPut by s at out out₃ (12 + 4 * w)
   record-put {w} tail =
-      let l = length-recordIn s in
+      let l = length-recordIn lowFirst s in
       let t = tail ∙ ap tailLength read in
       record { puts = puts ∙ ap (put out at) parts; long = omega arith }
 

@@ -13,7 +13,7 @@ use Rattle.paper.specs.Fit.{Bytes}
 use Rattle.paper.specs.Header.{orderOf, headerReport}
 use Rattle.paper.specs.Kind.{Role, names, number, rowOf}
 use Rattle.paper.specs.Reading.{wordsFrom, recordIn, roled, tailRoled}
-use Rattle.paper.specs.Table.{Record, count, nothing, kindIn, vlenIn, tailLength, tailRoles, everyRoled, everyWord}
+use Rattle.paper.specs.Table.{Record, count, nothing, kindIn, vlenIn, tailLength, tailRoles, wordsOf, everyRoled, everyWord}
 use Rattle.paper.specs.Walk.{records, walk, tableOf, placesOf}
 use Rattle.paper.specs.Word.{Order, wordAt}
 use Rattle.paper.proofs.bytes.Blobs.{tableOf-fits}
@@ -37,6 +37,11 @@ module _ (order : Order) where
   pub length-wordsFrom : (s : List ℕ) (p n : ℕ) → length (wordsFrom order s p n) ≡ n
   length-wordsFrom s p zero = refl
   length-wordsFrom s p (suc n) = ap suc (length-wordsFrom s (p + 4) n)
+
+  -- the words of the record that some bytes begin with
+  pub length-recordIn : (s : List ℕ) → length (wordsOf (recordIn order s)) ≡ 3 + tailLength (wordAt order s 4)
+  unfolding recordIn
+  length-recordIn s = let l = length-wordsFrom s 12 (tailLength (wordAt order s 4)) in omega arith
 
   -- the words from a place on are those of a list that stand there one after the other
   wordsFrom-are : (s : List ℕ) (p : ℕ) (ws : List ℕ) → ((j : ℕ) → j < length ws → wordAt order s (p + 4 * j) ≡ getD ws j 0)

@@ -7,8 +7,9 @@ use denote.Ref.{now}
 use Rattle.paper.specs.Reading.{recordIn}
 use Rattle.paper.specs.Table.{tailLength}
 use Rattle.paper.specs.Word.{lowFirst}
+use Rattle.paper.proofs.bytes.Reading.{length-recordIn}
 use Rattle.rows.proofs.RoleCodes.{tailLength-few}
-use Rattle.gate.proofs.Holds.{Looking, looking-start, looking-next, looking-found, looking-done, length-rolesBy, length-record}
+use Rattle.gate.proofs.Holds.{Looking, looking-start, looking-next, looking-found, looking-done, length-rolesBy}
 use borrow.Author.Needs.{needs}
 use Rattle.gate.proofs.held.next_held.Statement.{statement}
 use Rattle.gate.proofs.held.next_held.Tie as tie
@@ -44,7 +45,7 @@ returns c =
     let h = c .before in
     let w = h .before .before .before in
     looking-found (h .before .before .loop .inv) (h .held-at .ensures) (c .if1 .taken)
-    (omega (arith, length-record (now (w .before .before .before .args .bytes)), w .tail-words .ensures, ap tailLength (w .before .read .ensures)))
+    (omega (arith, length-recordIn lowFirst (now (w .before .before .before .args .bytes)), w .tail-words .ensures, ap tailLength (w .before .read .ensures)))
 
 loop-less : tie.Need-loop-less Inv-loop μ-loop
 loop-less c = search needs
