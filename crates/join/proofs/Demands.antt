@@ -8,35 +8,38 @@ use mathlib.Core.Bool.{cond}
 use lib.Dec.{eqb}
 use lib.ListN.{length, take, drop}
 use lib.Seq.{take-at}
+use native.Mathlib.Omega.{arith}
 use Rattle.gate.specs.Check.{CheckOf}
-use Rattle.gate.proofs.Demands.{paper-accepted}
+use Rattle.gate.proofs.Demands.{paper-accepted, accepted-count, accepted-sizes}
 use Rattle.join.specs.Joins.{JoinOf, handedBack}
-use Rattle.paper.proofs.Demands.{join-count, join-accepted, join-first, join-second}
+use Rattle.paper.proofs.Demands.{join-bytes, join-count, join-accepted, join-first, join-second, join-size-first, join-size-second}
 use Rattle.paper.proofs.Outcomes.{join-refused, join-made}
-use Rattle.paper.proofs.Questions.{join-named-first, join-named-second, join-sized-first, join-sized-second}
-use Rattle.paper.proofs.basics.Answers.{joined-one}
+use Rattle.paper.proofs.Questions.{join-named-first, join-named-second, raise-inside}
+use Rattle.paper.proofs.basics.Answers.{sized-one, joined-one}
 use Rattle.paper.proofs.gates.Acceptance.{accepted-meets}
 use Rattle.paper.proofs.gates.Answered.{joined-whole, joined-refused}
+use Rattle.paper.proofs.joins.FullJoins.{joinFull-any}
 use Rattle.paper.proofs.joins.Grouping.{join-assoc}
 use Rattle.paper.proofs.joins.JoinRefusals.{joinRefusal-joinable, joinable-joinRefusal, inside-16, inside-17}
 use Rattle.paper.proofs.joins.Neutral.{join-empty-left, join-empty-right}
-use Rattle.paper.specs.Answer.{Answer, inside, joinedAsPaper}
+use Rattle.paper.specs.Answer.{Answer, inside, sizedAsPaper, joinedAsPaper}
 use Rattle.paper.specs.Fit.{Bytes}
 use Rattle.paper.specs.Full.{joinFull, andThen, emptyBlob}
-use Rattle.paper.specs.Gate.{refusal, zeros, gate}
+use Rattle.paper.specs.Gate.{refusal, zeros}
 use Rattle.paper.specs.Good.{Joinable}
 use Rattle.paper.specs.Header.{orderOf, strLen}
 use Rattle.paper.specs.Join.{raised, joinedBytes, joinRefusal, JoinOutcome, joinOutcome, join}
 use Rattle.paper.specs.Limits.{byteLimit, fullPlaces}
 use Rattle.paper.specs.Name.{nameAt}
 use Rattle.paper.specs.Rename.{raise}
-use Rattle.paper.specs.Size.{sizeOf}
+use Rattle.paper.specs.Size.{exactSize, answerOf, sizeOf}
 use Rattle.paper.specs.Table.{count, recordAt}
 use Rattle.paper.specs.Walk.{tableOf}
 use Rattle.paper.specs.declared.Checked.{Checked}
 use Rattle.paper.specs.declared.Checked.the-variants.{Accepted}
 use Rattle.paper.specs.declared.Joined.{Joined}
 use Rattle.paper.specs.declared.Joined.the-variants.{Whole, FirstRefused, SecondRefused, TooMany, TooLong, OutputShort}
+use Rattle.paper.specs.declared.Sized.{Sized}
 
 module _ {j : Joined} {a b : List ℕ} {places work : ℕ} {out index left output : List ℕ} (h : JoinOf j a b places work out index left output) where
   -- both u32 slices end all 0, refused or not
@@ -118,17 +121,32 @@ module _ {j : Joined} {a b : List ℕ} {places work : ℕ} {out index left outpu
       pub joined-names-second : (k : ℕ) → k < strLen b → nameAt (take n output) (raise (strLen a - 1) k) ≡ nameAt b k
       joined-names-second k l = ap (λ (s : List ℕ). nameAt s (raise (strLen a - 1) k)) joined-bytes ∙ join-named-second a b x y places work (length out) (told .0) k l
 
-      -- and every size, asked with the index that a check leaves
-      module _ (places′ work′ : ℕ) (enough : count (tableOf a) + count (tableOf b) < places′) (enough′ : count (tableOf a) + count (tableOf b) < work′) where
-        pub joined-sizes-first : (t : ℕ) → t ≤ count (tableOf a) → sizeOf (take n output) (gate (take n output) places′ work′ .index) t ≡ sizeOf a (gate a places work .index) t
-        joined-sizes-first t l =
-            ap (λ (s : List ℕ). sizeOf s (gate s places′ work′ .index) t) joined-bytes ∙ join-sized-first a b x y places work (length out) (told .0) places′ work′ enough enough′ t l
+      -- and every size: what `size` answers after a check of what was joined is what it answers after a check of the part, each with slices of its own
+      module _ {c : Checked} {places′ work′ : ℕ} {index′ left′ : List ℕ} (k : CheckOf c (take n output) places′ work′ index′ left′) (m : ℕ) (q : c ≡ Accepted m) where
+        sized : (t : ℕ) → t ≤ count (tableOf a) + count (tableOf b) → (s : Sized) → sizedAsPaper s ≡ sizeOf (take n output) index′ t → sizedAsPaper s ≡ answerOf (exactSize (tableOf (joinedBytes a b)) t)
+        sized t high s e =
+            let whole : CheckOf c (joinedBytes a b) places′ work′ index′ left′ = subst (λ (o : List ℕ). CheckOf c o places′ work′ index′ left′) joined-bytes k in
+            accepted-sizes whole m q (join-bytes a b x y places work (length out) (told .0)) t
+            (omega (arith, accepted-count whole m q, join-count a b x y places work (length out) (told .0))) s
+            (e ∙ ap (λ (o : List ℕ). sizeOf o index′ t) joined-bytes)
 
-        pub joined-sizes-second : (t : ℕ) → t ≤ count (tableOf b)
-            → sizeOf (take n output) (gate (take n output) places′ work′ .index) (raise (count (tableOf a)) t) ≡ sizeOf b (gate b places work .index) t
-        joined-sizes-second t l =
-            ap (λ (s : List ℕ). sizeOf s (gate s places′ work′ .index) (raise (count (tableOf a)) t)) joined-bytes
-            ∙ join-sized-second a b x y places work (length out) (told .0) places′ work′ enough enough′ t l
+        pub joined-sizes-first : {d : Checked} {places₁ work₁ : ℕ} {index₁ left₁ : List ℕ} → CheckOf d a places₁ work₁ index₁ left₁ → (n₁ : ℕ) → d ≡ Accepted n₁
+            → (t : ℕ) → t ≤ n₁ → (s s₁ : Sized) → sizedAsPaper s ≡ sizeOf (take n output) index′ t → sizedAsPaper s₁ ≡ sizeOf a index₁ t → s ≡ s₁
+        joined-sizes-first part n₁ p₁ t high s s₁ e e₁ =
+            let counted = accepted-count part n₁ p₁ in
+            sized-one s s₁
+            (sized t (omega arith) s e
+            ∙ ap answerOf (join-size-first a b x y places work (length out) (told .0) t (omega arith))
+            ∙ sym (accepted-sizes part n₁ p₁ x t high s₁ e₁))
+
+        pub joined-sizes-second : {d : Checked} {places₂ work₂ : ℕ} {index₂ left₂ : List ℕ} → CheckOf d b places₂ work₂ index₂ left₂ → (n₂ : ℕ) → d ≡ Accepted n₂
+            → (t : ℕ) → t ≤ n₂ → (s s₂ : Sized) → sizedAsPaper s ≡ sizeOf (take n output) index′ (raise (count (tableOf a)) t) → sizedAsPaper s₂ ≡ sizeOf b index₂ t → s ≡ s₂
+        joined-sizes-second part n₂ p₂ t high s s₂ e e₂ =
+            let counted = accepted-count part n₂ p₂ in
+            sized-one s s₂
+            (sized (raise (count (tableOf a)) t) (raise-inside (count (tableOf a)) t (omega arith)) s e
+            ∙ ap answerOf (join-size-second a b x y places work (length out) (told .0) t (omega arith))
+            ∙ sym (accepted-sizes part n₂ p₂ y t high s₂ e₂))
 
 -- any two results that the contract allows are the same, slice by slice
 pub join-one : {j j′ : Joined} {a b : List ℕ} {places work : ℕ} {out index index′ left left′ output output′ : List ℕ}
@@ -162,14 +180,23 @@ pub record FullJoin (out a b : List ℕ) (j : Joined) (output : List ℕ) : Type
   pub left : List ℕ
   pub joins : JoinOf j a b fullPlaces fullPlaces out index left output
 
--- three blobs joined in either grouping, by whatever runs, give the same bytes, or both groupings refuse
-pub join-grouping : (a b c : List ℕ) → Bytes a → Bytes b → Bytes c → {j₁ j₃ : Joined} {o₁ o₂ o₃ o₄ out₁ out₃ : List ℕ} {j₂ j₄ : List ℕ → Joined} {out₂ out₄ : List ℕ → List ℕ}
-    → FullJoin o₁ a b j₁ out₁ → ((ab : List ℕ) → FullJoin o₂ ab c (j₂ ab) (out₂ ab)) → FullJoin o₃ b c j₃ out₃ → ((bc : List ℕ) → FullJoin o₄ a bc (j₄ bc) (out₄ bc))
-    → andThen (handedBack j₁ out₁) (λ (ab : List ℕ). handedBack (j₂ ab) (out₂ ab)) ≡ andThen (handedBack j₃ out₃) (λ (bc : List ℕ). handedBack (j₄ bc) (out₄ bc))
-join-grouping a b c x y z {j₁} {j₃} {o₁} {o₂} {o₃} {o₄} {out₁} {out₃} {j₂} {j₄} {out₂} {out₄} f₁ f₂ f₃ f₄ =
-    (λ i. andThen (handed-full j₁ (f₁ .joins) i) (λ (ab : List ℕ). handed-full (j₂ ab) (f₂ ab .joins) i))
-    ∙ join-assoc o₁ o₂ o₃ o₄ (f₁ .full) (f₂ a .full) (f₃ .full) (f₄ a .full) a b c x y z
-    ∙ sym (λ i. andThen (handed-full j₃ (f₃ .joins) i) (λ (bc : List ℕ). handed-full (j₄ bc) (f₄ bc .joins) i))
+-- a second join, which runs only on what the first handed back
+then : (x : Option (List ℕ)) {y : Option (List ℕ)} {f : List ℕ → Option (List ℕ)} → ((made : List ℕ) → x ≡ some made → y ≡ f made) → andThen x (λ (made : List ℕ). y) ≡ andThen x f
+then none h = refl
+then (some made) h = h made refl
+
+-- three blobs joined in either grouping, by whatever runs, give the same bytes, or both groupings refuse; a second join is run on what
+-- the first handed back, and not at all where it refused
+pub join-grouping : (a b c : List ℕ) → Bytes a → Bytes b → Bytes c → {j₁ j₂ j₃ j₄ : Joined} {o₁ o₂ o₃ o₄ out₁ out₂ out₃ out₄ : List ℕ}
+    → FullJoin o₁ a b j₁ out₁ → ((ab : List ℕ) → handedBack j₁ out₁ ≡ some ab → FullJoin o₂ ab c j₂ out₂)
+    → FullJoin o₃ b c j₃ out₃ → ((bc : List ℕ) → handedBack j₃ out₃ ≡ some bc → FullJoin o₄ a bc j₄ out₄)
+    → andThen (handedBack j₁ out₁) (λ (ab : List ℕ). handedBack j₂ out₂) ≡ andThen (handedBack j₃ out₃) (λ (bc : List ℕ). handedBack j₄ out₄)
+join-grouping a b c x y z {j₁} {j₂} {j₃} {j₄} {o₁} {o₂} {o₃} {o₄} {out₁} {out₂} {out₃} {out₄} f₁ f₂ f₃ f₄ =
+    then (handedBack j₁ out₁) (λ ab q. handed-full j₂ (f₂ ab q .joins) ∙ joinFull-any o₂ o₁ ab c (f₂ ab q .full) (f₁ .full))
+    ∙ ap (λ (o : Option (List ℕ)). andThen o (λ (ab : List ℕ). joinFull o₁ ab c)) (handed-full j₁ (f₁ .joins))
+    ∙ join-assoc o₁ o₁ o₃ o₃ (f₁ .full) (f₁ .full) (f₃ .full) (f₃ .full) a b c x y z
+    ∙ sym (ap (λ (o : Option (List ℕ)). andThen o (λ (bc : List ℕ). joinFull o₃ a bc)) (handed-full j₃ (f₃ .joins)))
+    ∙ sym (then (handedBack j₃ out₃) (λ bc q. handed-full j₄ (f₄ bc q .joins) ∙ joinFull-any o₄ o₃ a bc (f₄ bc q .full) (f₃ .full)))
 
 -- joined with the empty table, on either side, an accepted table comes back byte for byte
 module _ (b : List ℕ) (bytes : Bytes b) (p : refusal b fullPlaces fullPlaces ≡ none) {out : List ℕ} {j : Joined} {output : List ℕ} where

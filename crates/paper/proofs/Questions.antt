@@ -38,6 +38,11 @@ module _ (b : List ℕ) (places work : ℕ) (accepted : refusal b places work �
       ap₂ (λ (o : Option ℕ) (t : Bool). cond (isSome o || not t) [] (nameIn (stringsIn b) n)) (accepted-header b places work accepted) (lt-ltb n (strLen b) h)
       ∙ ap (λ (s : List ℕ). nameIn s n) (sym (strings-tableOf b))
 
+-- a number of a table's, raised by another's count, is a number of both
+pub raise-inside : (n t : ℕ) {m : ℕ} → t ≤ m → raise n t ≤ n + m
+raise-inside n zero h = omega arith
+raise-inside n (suc t) h = omega arith
+
 -- ── whatever two blobs are joined, with whatever slices ──
 
 module _ (a b : List ℕ) (bytes-a : Bytes a) (bytes-b : Bytes b) (places work room : ℕ) (made : joinRefusal a b places work room ≡ none) where
@@ -114,10 +119,6 @@ module _ (a b : List ℕ) (bytes-a : Bytes a) (bytes-b : Bytes b) (places work r
         → sizeOf (joinedBytes a b) (gate (joinedBytes a b) places′ work′ .index) (raise (count (tableOf a)) t) ≡ sizeOf b (gate b places work .index) t
     unfolding J
     join-sized-second t h =
-        asked-J (raise (count (tableOf a)) t) (raise-inside t h)
+        asked-J (raise (count (tableOf a)) t) (raise-inside (count (tableOf a)) t h)
         ∙ ap answerOf (join-size-second a b bytes-a bytes-b places work room made t h)
         ∙ sym (whole-size b bytes-b places work second t h)
-      where
-        raise-inside : (t : ℕ) → t ≤ count (tableOf b) → raise (count (tableOf a)) t ≤ count (tableOf a) + count (tableOf b)
-        raise-inside zero h = omega arith
-        raise-inside (suc t) h = omega arith

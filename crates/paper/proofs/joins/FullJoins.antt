@@ -44,6 +44,10 @@ joinFull-bytes out a b e =
     outcome-handed (joinedBytes a b) fullPlaces fullPlaces out (joinRefusal a b fullPlaces fullPlaces (length out)) (joinRefusal-number a b fullPlaces fullPlaces (length out))
     ∙ ap (λ (room : ℕ). unless (joinRefusal a b fullPlaces fullPlaces room) (joinedBytes a b)) e
 
+-- so what an output of full size held before does not matter
+pub joinFull-any : (out out′ a b : List ℕ) → length out ≡ byteLimit → length out′ ≡ byteLimit → joinFull out a b ≡ joinFull out′ a b
+joinFull-any out out′ a b e e′ = joinFull-bytes out a b e ∙ sym (joinFull-bytes out′ a b e′)
+
 -- ── within the limits ──
 
 not-above : (m n : ℕ) → leb m n ≡ not (ltb n m)
