@@ -14,10 +14,12 @@ use Rattle.paper.proofs.gates.Answered.{checked-accepted, checked-refused}
 use Rattle.paper.proofs.basics.Answers.{checked-one}
 use Rattle.paper.proofs.Demands.{accepted-ends}
 use Rattle.paper.proofs.Outcomes.{gate-refused, gate-accepted, index-place, whole-size}
+use Rattle.paper.proofs.gates.Earlies.{refusal-early}
 use Rattle.paper.proofs.gates.Reports.{refusal-spoken, report-14}
 use Rattle.paper.proofs.gates.Wheres.{report-stands, report-inside, report-bytes}
 use Rattle.paper.specs.Answer.{reportAsPaper, checkedAsPaper, sizedAsPaper}
 use Rattle.paper.specs.Chain.{heldBy, pointedBy, Chain}
+use Rattle.paper.specs.Early.{SpokenEarly}
 use Rattle.paper.specs.Fit.{Bytes}
 use Rattle.paper.specs.Gate.{refusal, zeros, Outcome, gate}
 use Rattle.paper.specs.Good.{Readable, Meets}
@@ -51,6 +53,11 @@ module _ {c : Checked} {b : List ℕ} {places work : ℕ} {index left : List ℕ
     -- and its index is left all zero
     pub refused-index : index ≡ zeros places
     refused-index = h .told .indexes ∙ ap (λ (o : Outcome). o .index) (gate-refused b places work refused-report)
+
+    -- a report below 10 is the smallest number of the header's rules that is due, or is of the first record at fault, behind whole ones, or
+    -- tells that the walk is done and places are missing
+    pub refused-early : reportAsPaper r .number < 10 → SpokenEarly b places work (reportAsPaper r)
+    refused-early early = refusal-early b places work (reportAsPaper r) refused-report early
 
     -- a report of 10 or more is the smallest of the earliest phase
     pub refused-smallest : 10 ≤ reportAsPaper r .number → Readable b places work × Spoken (tableOf b) (reportAsPaper r)

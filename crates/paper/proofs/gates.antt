@@ -4,5 +4,6 @@ pub mod Numbers
 pub mod Acceptance
 pub mod Reports
 pub mod Wheres
+pub mod Earlies
 pub mod Answered
 pub mod SizeAsked

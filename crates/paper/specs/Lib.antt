@@ -28,3 +28,4 @@ pub mod Fit
 pub mod Good
 pub mod Smallest
 pub mod Where
+pub mod Early

@@ -26,7 +26,7 @@ use Rattle.paper.specs.Word.{Order}
 -- ── phases 1 and 2, and places enough ──
 
 module _ (b : List ℕ) (places work : ℕ) where
-  walk-records : phase2 b ≡ none → walk b ≡ records (tableOf b .records)
+  pub walk-records : phase2 b ≡ none → walk b ≡ records (tableOf b .records)
   unfolding phase2 tableOf
   walk-records e = go (walk b) e
     where

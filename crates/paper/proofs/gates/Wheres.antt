@@ -7,7 +7,7 @@ use mathlib.Core.List.{List, [], _∷_, _++_, append-assoc}
 use mathlib.Core.Logic.{_⊎_, inl, inr, ⊎-elim}
 use mathlib.Core.Option.{Option, none, some}
 use native.Mathlib.Omega.{arith}
-use borrow.Author.Tests.{leb-true}
+use borrow.Author.Tests.{leb-true, leb-false}
 use lib.Dec.{leb}
 use lib.ListN.{length, getD, take, drop, length-append, take-append-drop}
 use lib.Seq.{length-take-le, take-at}
@@ -21,6 +21,7 @@ use Rattle.paper.proofs.gates.Numbers.{Says, says-orElse, says-phase1, 
 use Rattle.paper.proofs.gates.Reports.{refusal-spoken}
 use Rattle.paper.specs.Answer.{Answer}
 use Rattle.paper.specs.Choice.{firstDue}
+use Rattle.paper.specs.Early.{Fault, many, head-cut, no-kind, tail-cut}
 use Rattle.paper.specs.Fit.{Bytes, EveryWhole}
 use Rattle.paper.specs.Gate.{naming, phase1, walkReport, phase2, sliceRules, shortSlices, phase3, phase4, phase5, overTypes, tableReport, refusal}
 use Rattle.paper.specs.Good.{HeaderFacts, Readable}
@@ -32,17 +33,24 @@ use Rattle.paper.specs.Walk.{Walked, records, stopped, ahead, known, wal
 use Rattle.paper.specs.Where.{Begins, StandsAt}
 use Rattle.paper.specs.Word.{bytesOfWords}
 
--- ── where a walk stops ──
+-- ── where a walk stops, and what is at fault there ──
+
+pub record Stops (limit : ℕ) (ws : List ℕ) (k o number t p : ℕ) : Type 0 where
+  pub begins : Begins ws k o t p
+  pub fault : Fault limit number t (begins .left)
 
 -- it stops at the record to come
-stops-here : (ws : List ℕ) {k o t p : ℕ} → 1 ≤ length ws → t ≡ k → p ≡ o → Begins ws k o t p
-stops-here ws some-left e f =
-    record { before = []; left = ws; splits = refl; whole = tt; some-left = some-left; numbered = omega arith; placed = omega arith }
+stops-here : (ws : List ℕ) {limit k o number t p : ℕ} → 1 ≤ length ws → t ≡ k → p ≡ o → Fault limit number t ws → Stops limit ws k o number t p
+stops-here ws some-left e f fault =
+    record {
+      begins = record { before = []; left = ws; splits = refl; whole = tt; some-left = some-left; numbered = omega arith; placed = omega arith };
+      fault = fault;
+    }
 
 -- or at one behind it
-stops-later : (n i x : ℕ) (ws : List ℕ) {k o t p : ℕ} → known (kindIn i) ≡ true → tailLength i ≤ length ws
-    → Begins (drop (tailLength i) ws) (suc k) (o + 12 + 4 * tailLength i) t p → Begins (n ∷ i ∷ x ∷ ws) k o t p
-stops-later n i x ws kind fits b =
+begins-later : (n i x : ℕ) (ws : List ℕ) {k o t p : ℕ} → known (kindIn i) ≡ true → tailLength i ≤ length ws
+    → (b : Begins (drop (tailLength i) ws) (suc k) (o + 12 + 4 * tailLength i) t p) → Begins (n ∷ i ∷ x ∷ ws) k o t p
+begins-later n i x ws kind fits b =
     let whole-tail = length-take-le (tailLength i) ws fits in
     record {
       before = recordFrom n i x ws ∷ b .before;
@@ -58,42 +66,50 @@ stops-later n i x ws kind fits b =
       placed = omega (arith, b .placed, length-append (take (tailLength i) ws) (flat (b .before)), whole-tail);
     }
 
--- a step that stops does so at its record, or goes on to where the walk stops
-either : (a b : Bool) (w : Walked) (k o : ℕ) {n t p : ℕ} → cond a (cond b w (stopped 6 k o)) (stopped 7 k o) ≡ stopped n t p
-    → ((t ≡ k) × (p ≡ o)) ⊎ ((a ≡ true) × (b ≡ true) × (w ≡ stopped n t p))
-either true true w k o e = inr (refl, refl, e)
-either true false w k o e = inl (cc, cc)
-either false b w k o e = inl (cc, cc)
-
 ahead-stopped : (r : Record) (w : Walked) {n t p : ℕ} → ahead r w ≡ stopped n t p → w ≡ stopped n t p
 ahead-stopped r (records rs) e = absurd (let z : _≡_ {A = ℕ} 0 1 = cc in omega arith)
 ahead-stopped r (stopped n t p) e = e
 
-walkRecord-stops : (rest : List ℕ → Walked) (k o n i x : ℕ) (ws : List ℕ) {m t p : ℕ} → walkRecord rest k o n i x ws ≡ stopped m t p
-    → (rest (drop (tailLength i) ws) ≡ stopped m t p → Begins (drop (tailLength i) ws) (suc k) (o + 12 + 4 * tailLength i) t p)
-    → Begins (n ∷ i ∷ x ∷ ws) k o t p
-unfolding walkRecord
-walkRecord-stops rest k o n i x ws e later =
-    ⊎-elim (λ here. stops-here (n ∷ i ∷ x ∷ ws) (omega arith) (here .0) (here .1))
-    (λ on. stops-later n i x ws (on .0) (leb-true (tailLength i) (length ws) (on .1)) (later (ahead-stopped (recordFrom n i x ws) _ (on .2))))
-    (either (known (kindIn i)) (leb (tailLength i) (length ws)) (ahead (recordFrom n i x ws) (rest (drop (tailLength i) ws))) k o e)
+module _ {limit : ℕ} where
+  -- a record is not known, does not fit, or the walk goes on behind it
+  walkRecord-stops : (rest : List ℕ → Walked) (k o n i x : ℕ) (ws : List ℕ) {m t p : ℕ} → k ≤ limit → walkRecord rest k o n i x ws ≡ stopped m t p
+      → (rest (drop (tailLength i) ws) ≡ stopped m t p → Stops limit (drop (tailLength i) ws) (suc k) (o + 12 + 4 * tailLength i) m t p)
+      → Stops limit (n ∷ i ∷ x ∷ ws) k o m t p
+  unfolding walkRecord begins-later
+  walkRecord-stops rest k o n i x ws {m} {t} {p} few e later = go (known (kindIn i)) refl (leb (tailLength i) (length ws)) refl e
+    where
+      go : (a : Bool) → known (kindIn i) ≡ a → (c : Bool) → leb (tailLength i) (length ws) ≡ c
+          → cond a (cond c (ahead (recordFrom n i x ws) (rest (drop (tailLength i) ws))) (stopped 6 k o)) (stopped 7 k o) ≡ stopped m t p
+          → Stops limit (n ∷ i ∷ x ∷ ws) k o m t p
+      go true kind true fits e =
+          let s = later (ahead-stopped (recordFrom n i x ws) _ e) in
+          record { begins = begins-later n i x ws kind (leb-true (tailLength i) (length ws) fits) (s .begins); fault = s .fault }
+      go true kind false fits e =
+          let same : t ≡ k = cc in
+          stops-here (n ∷ i ∷ x ∷ ws) (omega arith) same (cc)
+          (tail-cut (cc) (omega arith) kind (omega arith) (omega (arith, leb-false (tailLength i) (length ws) fits)))
+      go false kind c fits e =
+          let same : t ≡ k = cc in
+          stops-here (n ∷ i ∷ x ∷ ws) (omega arith) same (cc) (no-kind (cc) (omega arith) (omega arith) kind)
 
-walkFrom-stops : (room k o : ℕ) (ws : List ℕ) {m t p : ℕ} → walkFrom room k o ws ≡ stopped m t p → Begins ws k o t p
-walkFrom-stops zero k o [] e = absurd (let z : _≡_ {A = ℕ} 0 1 = cc in omega arith)
-walkFrom-stops zero k o (n ∷ ws) e = stops-here (n ∷ ws) (omega arith) (cc) (cc)
-walkFrom-stops (suc room) k o [] e = absurd (let z : _≡_ {A = ℕ} 0 1 = cc in omega arith)
-walkFrom-stops (suc room) k o (n ∷ []) e = stops-here (n ∷ []) (omega arith) (cc) (cc)
-walkFrom-stops (suc room) k o (n ∷ i ∷ []) e = stops-here (n ∷ i ∷ []) (omega arith) (cc) (cc)
-walkFrom-stops (suc room) k o (n ∷ i ∷ x ∷ ws) e =
-    walkRecord-stops _ k o n i x ws e (λ q. walkFrom-stops room (suc k) _ (drop (tailLength i) ws) q)
+  walkFrom-stops : (room k o : ℕ) (ws : List ℕ) {m t p : ℕ} → room + k ≡ limit + 1 → walkFrom room k o ws ≡ stopped m t p → Stops limit ws k o m t p
+  walkFrom-stops zero k o [] r e = absurd (let z : _≡_ {A = ℕ} 0 1 = cc in omega arith)
+  walkFrom-stops zero k o (n ∷ ws) {m} {t} {p} r e = let same : t ≡ k = cc in stops-here (n ∷ ws) (omega arith) same (cc) (many (cc) (omega arith))
+  walkFrom-stops (suc room) k o [] r e = absurd (let z : _≡_ {A = ℕ} 0 1 = cc in omega arith)
+  walkFrom-stops (suc room) k o (n ∷ []) {m} {t} {p} r e =
+      let same : t ≡ k = cc in stops-here (n ∷ []) (omega arith) same (cc) (head-cut (cc) (omega arith) (omega arith))
+  walkFrom-stops (suc room) k o (n ∷ i ∷ []) {m} {t} {p} r e =
+      let same : t ≡ k = cc in stops-here (n ∷ i ∷ []) (omega arith) same (cc) (head-cut (cc) (omega arith) (omega arith))
+  walkFrom-stops (suc room) k o (n ∷ i ∷ x ∷ ws) r e =
+      walkRecord-stops _ k o n i x ws (omega arith) e (λ q. walkFrom-stops room (suc k) _ (drop (tailLength i) ws) (omega arith) q)
 
-phase2-stands : (b : List ℕ) (a : Answer) → phase2 b ≡ some a → StandsAt b (a .t) (a .p)
+pub phase2-stops : (b : List ℕ) (a : Answer) → phase2 b ≡ some a → Stops typeLimit (typeWords b) 1 headerLength (a .number) (a .t) (a .p)
 unfolding phase2 walk
-phase2-stands b a e = go (walk b) refl e
+phase2-stops b a e = go (walk b) refl e
   where
-    go : (w : Walked) → walk b ≡ w → walkReport w ≡ some a → StandsAt b (a .t) (a .p)
+    go : (w : Walked) → walk b ≡ w → walkReport w ≡ some a → Stops typeLimit (typeWords b) 1 headerLength (a .number) (a .t) (a .p)
     go (records rs) q e = absurd (some≢none (sym e))
-    go (stopped n t p) q e = walkFrom-stops typeLimit 1 headerLength (typeWords b) {m = n} (q ∙ cc)
+    go (stopped n t p) q e = walkFrom-stops typeLimit 1 headerLength (typeWords b) refl (q ∙ cc)
 
 -- ── where a type stands ──
 
@@ -136,10 +152,10 @@ abbrev WalkNo : ℕ → Type 0
 WalkNo n = (6 ≤ n) × (n ≤ 8)
 
 -- the number of an answer that is said has what all numbers said have
-said-number : (P : ℕ → Type 0) {o : Option Answer} {a : Answer} → Says P o → o ≡ some a → P (a .number)
+pub said-number : (P : ℕ → Type 0) {o : Option Answer} {a : Answer} → Says P o → o ≡ some a → P (a .number)
 said-number P h e = subst (Says P) e h
 
-says-tableReport : (T : Table) → Says (λ (n : ℕ). 10 ≤ n) (tableReport T)
+pub says-tableReport : (T : Table) → Says (λ (n : ℕ). 10 ≤ n) (tableReport T)
 unfolding tableReport
 says-tableReport T =
     let Late : ℕ → Type 0 = λ n. 10 ≤ n in
@@ -147,10 +163,10 @@ says-tableReport T =
     (says-orElse Late (overTypes phase4 T) _ (says-phase4 Late T (omega arith))
     (says-orElse Late (overTypes phase5 T) _ (says-phase5 Late T (omega arith)) (says-phase6 Late T (omega arith))))
 
--- a report with neither type nor place
-naming-bare : (o : Option ℕ) (a : Answer) → naming 0 o ≡ some a → (a .t ≡ 0) × (a .p ≡ 0)
+-- a report's number, with neither type nor place
+pub naming-bare : (o : Option ℕ) (a : Answer) → naming 0 o ≡ some a → (o ≡ some (a .number)) × (a .t ≡ 0) × (a .p ≡ 0)
 naming-bare none a e = absurd (some≢none (sym e))
-naming-bare (some n) a e = (cc, cc)
+naming-bare (some n) a e = (cc, cc, cc)
 
 spoken-place : {T : Table} {a : Answer} → Spoken T a → (1 ≤ a .t) × (a .t ≤ count T) × (a .p ≡ placeAt T (a .t))
 spoken-place (third s) = (s .low, s .high, s .placed)
@@ -176,12 +192,15 @@ module _ (b : List ℕ) (places work : ℕ) (a : Answer) (e : refusal b places w
   pub report-bare : (a .number < 6) ⊎ (a .number ≡ 9) → (a .t ≡ 0) × (a .p ≡ 0)
   unfolding phase1 shortSlices
   report-bare bare =
-      ⊎-elim (λ one. naming-bare (headerReport b) a one)
+      ⊎-elim (λ one. bare-rest (naming-bare (headerReport b) a one))
       (λ later. ⊎-elim (λ two. absurd (not-bare bare (said-number WalkNo (says-phase2 WalkNo (omega arith) (omega arith) (omega arith) b) two)))
-      (⊎-elim (λ nine. naming-bare (firstDue (sliceRules (count (tableOf b)) places work)) a nine) (λ late. absurd (late-bare bare (said-number (λ (n : ℕ). 10 ≤ n) (says-tableReport (tableOf b)) late))))
+      (⊎-elim (λ nine. bare-rest (naming-bare (firstDue (sliceRules (count (tableOf b)) places work)) a nine)) (λ late. absurd (late-bare bare (said-number (λ (n : ℕ). 10 ≤ n) (says-tableReport (tableOf b)) late))))
       (later .1))
       from-phases
     where
+      bare-rest : {o : Option ℕ} → (o ≡ some (a .number)) × (a .t ≡ 0) × (a .p ≡ 0) → (a .t ≡ 0) × (a .p ≡ 0)
+      bare-rest s = (s .1, s .2)
+
       not-bare : (a .number < 6) ⊎ (a .number ≡ 9) → WalkNo (a .number) → ⊥
       not-bare (inl x) w = omega arith
       not-bare (inr x) w = omega arith
@@ -208,7 +227,7 @@ module _ (b : List ℕ) (places work : ℕ) (a : Answer) (e : refusal b places w
     pub report-stands : StandsAt b (a .t) (a .p)
     report-stands =
         ⊎-elim (λ one. absurd (not-first one))
-        (λ later. ⊎-elim (λ two. phase2-stands b a two)
+        (λ later. ⊎-elim (λ two. phase2-stops b a two .begins)
         (⊎-elim (λ nine. absurd (not-9 (said-number (λ (n : ℕ). n ≡ 9) (says-shortSlices (λ (n : ℕ). n ≡ 9) _ places work refl) nine)))
         (λ late. type-place (refusal-spoken b places work a e (said-number (λ (n : ℕ). 10 ≤ n) (says-tableReport (tableOf b)) late))))
         (later .1))
