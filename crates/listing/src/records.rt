@@ -3,12 +3,12 @@ use paper::NameOff;
 use paper::Place;
 use rows::kind_of;
 ghost use mathlib.Core.Path.{_≡_};
-ghost use lib.ListN.{drop};
+ghost use Rattle.listing.specs.Rest.{RestOf};
 ghost use Rattle.paper.specs.Word.{lowFirst, wordAt};
 
 // The bytes from a place on; none where the place is past the end.
 pub fn rest_from(s: &[u8], at: usize) -> &[u8]
-    ensures { λ r. ⌜ now r ≡ drop at (now (s .entry)) ⌝ }
+    ensures { λ r. ⌜ RestOf r (s .entry) at ⌝ }
 {
     if s.len() < at {
         return &s[..0];
