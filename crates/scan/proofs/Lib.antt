@@ -7,3 +7,4 @@ pub mod Written
 pub mod Placing
 pub mod Scans
 pub mod Founds
+pub mod Ones

@@ -1,0 +1,26 @@
+-- Any two results that the contract of an entry point for C allows are the same, slice by slice.
+-- Assumes nothing.
+use Prim.Native.Nat.{ℕ}
+use mathlib.Core.Path.{_≡_, sym, _∙_}
+use mathlib.Core.List.{List}
+use Rattle.abi.specs.Told.{CheckTold, JoinTold, partAnswer, toldIn}
+use Rattle.paper.specs.Size.{sizeOf}
+
+pub check-told-one : {b told : List ℕ} {places workPlaces : ℕ} {index index′ work work′ answer answer′ : List ℕ}
+    → CheckTold b places workPlaces told index work answer → CheckTold b places workPlaces told index′ work′ answer′
+    → (index ≡ index′) × (work ≡ work′) × (answer ≡ answer′)
+check-told-one h k = (h .indexes ∙ sym (k .indexes), h .works ∙ sym (k .works), h .answers ∙ sym (k .answers))
+
+pub size-told-one : (b index told : List ℕ) (t : ℕ) {answer answer′ : List ℕ}
+    → answer ≡ toldIn (sizeOf b index t) told → answer′ ≡ toldIn (sizeOf b index t) told → answer ≡ answer′
+size-told-one b index told t h k = h ∙ sym k
+
+pub name-told-one : (b told : List ℕ) (offset : ℕ) {answer answer′ : List ℕ}
+    → answer ≡ toldIn (partAnswer b offset) told → answer′ ≡ toldIn (partAnswer b offset) told → answer ≡ answer′
+name-told-one b told offset h k = h ∙ sym k
+
+pub join-told-one : {a b : List ℕ} {places workPlaces : ℕ} {out told index index′ work work′ output output′ answer answer′ : List ℕ}
+    → JoinTold a b places workPlaces out told index work output answer → JoinTold a b places workPlaces out told index′ work′ output′ answer′
+    → (index ≡ index′) × (work ≡ work′) × (output ≡ output′) × (answer ≡ answer′)
+join-told-one h k =
+    (h .indexes ∙ sym (k .indexes), h .works ∙ sym (k .works), h .outputs ∙ sym (k .outputs), h .answers ∙ sym (k .answers))

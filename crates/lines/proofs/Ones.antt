@@ -1,0 +1,16 @@
+-- Any two results that the contracts of `escape` and `line` allow are the same.
+-- Assumes nothing.
+use Prim.Native.Nat.{ℕ}
+use mathlib.Core.Path.{_≡_, sym, _∙_}
+use mathlib.Core.List.{List}
+use denote.Ref.{RefT, now, ptr}
+use Rattle.lines.specs.Escape.{EscapeOf}
+use Rattle.lines.specs.Line.{LineOf}
+
+-- the same count, and the same output
+pub escape-one : {s before after after′ : List ℕ} {r r′ : ℕ} → EscapeOf s before r after → EscapeOf s before r′ after′ → (r ≡ r′) × (after ≡ after′)
+escape-one h k = (h .count ∙ sym (k .count), h .bytes ∙ sym (k .bytes))
+
+-- the same bytes at the same place
+pub line-one : {r r′ s : RefT (List ℕ)} {k : ℕ} → LineOf r s k → LineOf r′ s k → (now r ≡ now r′) × (ptr r ≡ ptr r′)
+line-one h k = (h .bytes ∙ sym (k .bytes), h .place ∙ sym (k .place))
