@@ -1,29 +1,29 @@
 -- Laws of the check: the phases one after the other are the table's report, and with `scan` before them the gate's answer and slices.
 -- Assumes nothing.
-use Prim.Native.Nat.{ℕ, suc, _<_}
+use Prim.Native.Nat.{ℕ, suc, _<_, _≤_}
 use mathlib.Core.Path.{_≡_, refl, sym, ap, _∙_, subst}
 use mathlib.Core.List.{List}
 use mathlib.Core.Option.{Option, none, some}
 use native.Mathlib.Omega.{arith}
-use borrow.Author.Tests.{not-false}
 use lib.ListN.{length, getD}
-use Rattle.gate.proofs.HeldTypes.{followable}
 use Rattle.gate.specs.Check.{Judgeable, AnswerOf}
-use Rattle.gate.specs.Judged.{Judged}
-use Rattle.gate.specs.Said.{saidAsPaper}
-use Rattle.gate.specs.Search.{Unsearched, ringAsPaper}
+use Rattle.gate.proofs.Stands.{stands-shows, stands-place, stands-phase}
+use Rattle.gate.specs.Said.{saidAsPaper, overShown}
+use Rattle.links.proofs.Linking.{links-say}
+use Rattle.links.specs.Links.{linkedAsPaper, linksSay}
+use Rattle.links.specs.declared.whole.Linked.{Linked}
+use Rattle.links.specs.declared.whole.Linked.the-variants.{Good, Reference, Endless}
+use Rattle.paper.specs.Limits.{typeLimit}
+use Rattle.views.specs.Shown.{placeBy, tableBy}
+use Rattle.views.specs.declared.View.{View}
 use Rattle.gate.specs.Standing.{Standing}
-use Rattle.gate.specs.declared.chains.Ring.{Ring}
-use Rattle.gate.specs.declared.chains.Ring.the-variants.{Nowhere, From}
 use Rattle.gate.specs.declared.phases.Said.{Said}
 use Rattle.gate.specs.declared.phases.Said.the-variants.{Nothing, Says}
-use Rattle.paper.proofs.gates.Gates.{overTypes-silent}
 use Rattle.paper.proofs.Outcomes.{gate-refused, gate-accepted, length-indexOf, getD-indexOf}
 use Rattle.paper.specs.Answer.{Answer, report, reportAt, checkedAsPaper}
 use Rattle.paper.specs.Choice.{orElse}
 use Rattle.paper.specs.Fit.{Bytes}
 use Rattle.paper.specs.Gate.{phase1, phase2, shortSlices, phase3, phase4, phase5, phase6, overTypes, tableReport, refusal, zeros, indexOf, Outcome, outcome, gate}
-use Rattle.paper.specs.References.{refsOk, refBad}
 use Rattle.paper.specs.Table.{Table, count, recordAt}
 use Rattle.paper.specs.Walk.{tableOf, placeAt}
 use Rattle.paper.specs.declared.Checked.the-variants.{Accepted, Refused}
@@ -47,49 +47,42 @@ module _ (T : Table) where
     unfolding tableReport
     from-fourth = ap (λ (o : Option Answer). orElse o (orElse (overTypes phase4 T) (orElse (overTypes phase5 T) (overTypes phase6 T)))) p3
 
-    said-fourth : {a : Answer} → overTypes phase4 T ≡ some a → tableReport T ≡ some a
-    said-fourth e = from-fourth ∙ ap (λ (o : Option Answer). orElse o (orElse (overTypes phase5 T) (overTypes phase6 T))) e
+    said-links : (o : Option Answer) → orElse (overTypes phase4 T) (overTypes phase5 T) ≡ o → tableReport T ≡ orElse o (overTypes phase6 T)
+    said-links o e = from-fourth ∙ go (overTypes phase4 T) (overTypes phase5 T) (overTypes phase6 T) ∙ ap (λ (x : Option Answer). orElse x (overTypes phase6 T)) e
+      where
+        go : (x y z : Option Answer) → orElse x (orElse y z) ≡ orElse (orElse x y) z
+        go none y z = refl
+        go (some a) y z = refl
 
-    module _ (p4 : overTypes phase4 T ≡ none) where
-      from-fifth : tableReport T ≡ orElse (overTypes phase5 T) (overTypes phase6 T)
-      from-fifth = from-fourth ∙ ap (λ (o : Option Answer). orElse o (orElse (overTypes phase5 T) (overTypes phase6 T))) p4
+-- the same of the answers in code, of the table that the index shows
+module _ {b index work : List ℕ} (base : List ℕ) {v : View} (j : Judgeable b index (v .n) work) (s₃ : Said) (e₃ : saidAsPaper s₃ ≡ overShown phase3 base b index v) where
+  abbrev T : Table
+  T = tableOf b
 
-      said-fifth : (o : Option Answer) → overTypes phase5 T ≡ o → tableReport T ≡ orElse o (overTypes phase6 T)
-      said-fifth o e = from-fifth ∙ ap (λ (x : Option Answer). orElse x (overTypes phase6 T)) e
+  third-here : saidAsPaper s₃ ≡ overTypes phase3 T
+  third-here = e₃ ∙ stands-phase (j .standing) base v refl phase3
 
--- the same of the answers in code
-module _ (T : Table) (s₃ : Said) (e₃ : saidAsPaper s₃ ≡ overTypes phase3 T) where
   pub judge-third : {r : Report} → s₃ ≡ Says r → saidAsPaper s₃ ≡ tableReport T
-  judge-third p = ap saidAsPaper p ∙ sym (said-third T (sym e₃ ∙ ap saidAsPaper p))
+  judge-third p = ap saidAsPaper p ∙ sym (said-third T (sym third-here ∙ ap saidAsPaper p))
 
-  module _ (n₃ : s₃ ≡ Nothing) (s₄ : Said) (e₄ : saidAsPaper s₄ ≡ overTypes phase4 T) where
-    pub judge-fourth : {r : Report} → s₄ ≡ Says r → saidAsPaper s₄ ≡ tableReport T
-    judge-fourth p = ap saidAsPaper p ∙ sym (said-fourth T (sym e₃ ∙ ap saidAsPaper n₃) (sym e₄ ∙ ap saidAsPaper p))
+  module _ (n₃ : s₃ ≡ Nothing) (few : v .n ≤ typeLimit) (w : Linked) (e₄ : linkedAsPaper (tableBy base b index v) w ≡ linksSay (tableBy base b index v) (v .n) (length work)) where
+    linked : {x : Linked} → w ≡ x → tableReport T ≡ orElse (linkedAsPaper T x) (overTypes phase6 T)
+    linked {x} q =
+        let says : linkedAsPaper T w ≡ orElse (overTypes phase4 T) (overTypes phase5 T) =
+        subst (λ (S : Table). linkedAsPaper S w ≡ orElse (overTypes phase4 S) (overTypes phase5 S)) (stands-shows (j .standing) base v refl) (e₄ ∙ links-say (tableBy base b index v) (v .n) (length work) few (j .room)) in
+        said-links T (sym third-here ∙ ap saidAsPaper n₃) (linkedAsPaper T x) (sym says ∙ ap (linkedAsPaper T) q)
 
-    module _ (n₄ : s₄ ≡ Nothing) (w : Ring) (e₅ : ringAsPaper T w ≡ overTypes phase5 T) where
-      fifth : {v : Ring} → w ≡ v → tableReport T ≡ orElse (ringAsPaper T v) (overTypes phase6 T)
-      fifth {v} q = said-fifth T (sym e₃ ∙ ap saidAsPaper n₃) (sym e₄ ∙ ap saidAsPaper n₄) (ringAsPaper T v) (sym e₅ ∙ ap (ringAsPaper T) q)
+    pub judge-reference : {t : TypeNo} {p : ℕ} → w ≡ Reference t → p ≡ placeBy index v (t .0) → some (reportAt 13 (t .0) p) ≡ tableReport T
+    judge-reference {t} q at = ap (λ (p : ℕ). some (reportAt 13 (t .0) p)) (at ∙ stands-place (j .standing) v refl (t .0)) ∙ sym (linked q)
 
-      pub judge-ring : {t : TypeNo} {p : ℕ} → w ≡ From t → p ≡ placeAt T (t .0) → some (reportAt 14 (t .0) p) ≡ tableReport T
-      judge-ring {t} q at = ap (λ (p : ℕ). some (reportAt 14 (t .0) p)) at ∙ sym (fifth q)
+    pub judge-endless : {t : TypeNo} {p : ℕ} → w ≡ Endless t → p ≡ placeBy index v (t .0) → some (reportAt 14 (t .0) p) ≡ tableReport T
+    judge-endless {t} q at = ap (λ (p : ℕ). some (reportAt 14 (t .0) p)) (at ∙ stands-place (j .standing) v refl (t .0)) ∙ sym (linked q)
 
-      pub judge-sixth : w ≡ Nowhere → {o : Option Answer} → o ≡ overTypes phase6 T → o ≡ tableReport T
-      judge-sixth q e = e ∙ sym (fifth q)
+    pub judge-sixth : w ≡ Good → {o : Option Answer} → o ≡ overShown phase6 base b index v → o ≡ tableReport T
+    judge-sixth q e = e ∙ stands-phase (j .standing) base v refl phase6 ∙ sym (linked q)
 
--- what phase 5 asks, and phase 6
-pub judge-chains : {b index work : List ℕ} {n : ℕ} → Judgeable b index n work → (s : Said) → saidAsPaper s ≡ overTypes phase4 (tableOf b) → s ≡ Nothing → Unsearched b index n work
-judge-chains j s e p = record { ready = followable (j .standing) (j .room) (sym e ∙ ap saidAsPaper p); unmarked = j .blank }
-
-pub judge-layouts : {b index work : List ℕ} {n : ℕ} → Judgeable b index n work → (s : Said) → saidAsPaper s ≡ overTypes phase4 (tableOf b) → s ≡ Nothing
-    → (w : Ring) → ringAsPaper (tableOf b) w ≡ overTypes phase5 (tableOf b) → w ≡ Nowhere → Judged b index n
-unfolding phase4 phase5 refBad
-judge-layouts {b} j s e p w f q =
-    let T = tableOf b in
-    record {
-      standing = j .standing;
-      refs = λ t low high. not-false (refsOk T (recordAt T t)) (overTypes-silent T phase4 (sym e ∙ ap saidAsPaper p) t low high .0);
-      ends = λ t low high. overTypes-silent T phase5 (sym f ∙ ap (ringAsPaper T) q) t low high .0;
-    }
+pub judge-few : {b index work : List ℕ} {n : ℕ} → Judgeable b index n work → n ≤ typeLimit
+judge-few j = omega (arith, j .standing .counted, j .standing .readable .section .few-found)
 
 -- ── with phases 1 and 2 before them ──
 

@@ -5,14 +5,13 @@ use mathlib.Core.List.{List}
 use lib.ListN.{length}
 use Rattle.gate.specs.Standing.{Standing}
 use Rattle.paper.specs.Answer.{checkedAsPaper}
-use Rattle.paper.specs.Gate.{zeros, gate}
+use Rattle.paper.specs.Gate.{gate}
 use Rattle.paper.specs.declared.Checked.{Checked}
 
--- a blob that phases 1 and 2 have passed, and a work slice of zeros with a place for each type
+-- a blob that phases 1 and 2 have passed, and a work slice with a place for each type
 pub record Judgeable (b index : List ℕ) (n : ℕ) (work : List ℕ) : Type 0 where
   pub standing : Standing b index n
   pub room : n < length work
-  pub blank : work ≡ zeros (length work)
 
 -- the answer and the index afterwards are those of the gate
 pub record AnswerOf (c : Checked) (b : List ℕ) (places workPlaces : ℕ) (index : List ℕ) : Type 0 where

@@ -1,10 +1,3 @@
 pub mod Standing
-pub mod Refers
-pub mod Holding
-pub mod Search
-pub mod Trail
 pub mod Said
 pub mod Check
-pub mod Judged
-pub mod Measure
-pub mod Spanned

@@ -1,9 +1,7 @@
 -- What phases 1 and 2 have shown, and what they have left in the index, when the later phases look at the types.
 use Prim.Native.Nat.{ℕ, suc, _<_}
 use mathlib.Core.Path.{_≡_}
-use mathlib.Core.Bool.{cond, _||_}
 use mathlib.Core.List.{List}
-use lib.Dec.{eqb, ltb}
 use lib.ListN.{length, getD}
 use Rattle.paper.specs.Fit.{Bytes}
 use Rattle.paper.specs.Good.{Readable}
@@ -16,7 +14,3 @@ pub record Standing (b index : List ℕ) (n : ℕ) : Type 0 where
   pub readable : Readable b (length index) (suc n)
   pub counted : n ≡ count (tableOf b)
   pub placed : (t : ℕ) → t < n → getD index (suc t) 0 ≡ getD (placesOf (tableOf b)) t 0
-
--- where a type's record begins; another place for void and for a number above n
-unfoldable pub placeIn : List ℕ → ℕ → ℕ → ℕ → ℕ
-placeIn index n t nowhere = cond (eqb t 0 || ltb n t) nowhere (getD index t 0)

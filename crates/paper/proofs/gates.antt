@@ -7,3 +7,4 @@ pub mod Wheres
 pub mod Earlies
 pub mod Answered
 pub mod SizeAsked
+pub mod Looks

@@ -2,3 +2,5 @@ pub mod Columns
 pub mod Members
 pub mod RoleCodes
 pub mod ByRole
+pub mod RecordWords
+pub mod AliasKinds

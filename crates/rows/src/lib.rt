@@ -1,6 +1,7 @@
 // What an info word says, and the row of each kind: what its head may hold, the role of each word, where its size comes from.
 mod heads; // what a head may hold
 mod info; // the parts of an info word
+mod kinds; // kinds that a rule takes together
 mod roles; // the role of each word
 mod table; // the kinds' rows
 
@@ -11,6 +12,7 @@ pub use info::flag_of;
 pub use info::is_known;
 pub use info::kind_of;
 pub use info::vlen_of;
+pub use kinds::is_alias;
 pub use roles::entry_role;
 pub use roles::entry_words;
 pub use roles::name_role;

@@ -3,17 +3,15 @@
 use Prim.Native.Nat.{ℕ, zero, suc, _-_, _*_, _<_, _≤_}
 use mathlib.Core.Path.{_≡_, refl, sym, ap, _∙_}
 use mathlib.Core.Bool.{Bool, true, false, cond}
-use mathlib.Core.List.{List}
 use native.Mathlib.Nat.{mul-assoc, one-mul, mul-zero, mul-le-mul, le-mul-of-pos-right}
 use native.Mathlib.Omega.{arith}
 use borrow.Author.Tests.{leb-true, leb-false, lt-leb}
 use lib.Dec.{leb}
-use lib.ListN.{length}
 use Rattle.sizes.specs.SizeStep.{cut}
 use Rattle.paper.proofs.walks.Sizes.{sizeBy-void}
-use Rattle.paper.specs.Answer.{Answer, report}
+use Rattle.paper.specs.Answer.{Answer}
 use Rattle.paper.specs.Limits.{sizeLimit}
-use Rattle.paper.specs.Size.{Step, is, manyOf, sizeless, lost, Found, exactly, noneAt, lostAt, tooFar, scale, goOn, sizeBy, stepAt, sizeAsked, sizeAnswer, sizeOf}
+use Rattle.paper.specs.Size.{Step, is, manyOf, sizeless, lost, Found, exactly, noneAt, lostAt, tooFar, scale, goOn, sizeBy, sizeAnswer}
 
 -- ── counts ──
 
@@ -64,7 +62,7 @@ sizeAnswer-cut q (exactly (suc s)) = go (leb q 4294967296) refl
 
 -- ── one read ──
 
-pub sizeBy-read : (step : ℕ → Step) (reads t : ℕ) → (t ≡ 0 → ⊥) → (reads ≡ 0 → ⊥)
+sizeBy-read : (step : ℕ → Step) (reads t : ℕ) → (t ≡ 0 → ⊥) → (reads ≡ 0 → ⊥)
     → sizeBy step reads t ≡ goOn (step t) (λ (u : ℕ). sizeBy step (reads - 1) u)
 sizeBy-read step reads zero h m = absurd (h refl)
 sizeBy-read step zero (suc t) h m = absurd (m refl)
@@ -78,47 +76,44 @@ sizeBy-far step (suc t) h = refl
 
 -- ── the work that is left ──
 
--- so many times the size of t, with so many reads, answers for t₀
-pub record Left (b index : List ℕ) (t₀ t count reads : ℕ) : Type 0 where
+-- so many times the size of t, with so many reads, told in some way, is the answer
+pub record Left (tell : Found → Answer) (step : ℕ → Step) (answer : Answer) (t count reads : ℕ) : Type 0 where
   pub bound : count ≤ 4294967296
-  pub rest : sizeAnswer (scale count (sizeBy (stepAt b index) reads t)) ≡ sizeOf b index t₀
+  pub rest : tell (scale count (sizeBy step reads t)) ≡ answer
 
-pub left-all : (b index : List ℕ) (t : ℕ) → Left b index t t 1 (length index)
-unfolding sizeOf sizeAsked
-left-all b index t = record { bound = omega arith; rest = ap sizeAnswer (scale-one (sizeAsked b index t)) }
+pub left-all : (tell : Found → Answer) (step : ℕ → Step) {t reads : ℕ} {answer : Answer} → tell (sizeBy step reads t) ≡ answer → Left tell step answer t 1 reads
+left-all tell step {t} {reads} e = record { bound = omega arith; rest = ap tell (scale-one (sizeBy step reads t)) ∙ e }
 
-module _ {b index : List ℕ} {t₀ t count reads : ℕ} (left : Left b index t₀ t count reads) where
-  pub left-void : t ≡ 0 → report 1 0 ≡ sizeOf b index t₀
-  left-void e =
-      let none : sizeBy (stepAt b index) reads t ≡ noneAt = ap (sizeBy (stepAt b index) reads) e ∙ sizeBy-void (stepAt b index) reads in
-      sym (ap (λ (x : Found). sizeAnswer (scale count x)) none) ∙ left .rest
+module _ {tell : Found → Answer} {step : ℕ → Step} {answer : Answer} {t count reads : ℕ} (left : Left tell step answer t count reads) where
+  left-found : {x : Found} → sizeBy step reads t ≡ x → tell (scale count x) ≡ answer
+  left-found e = sym (ap (λ (x : Found). tell (scale count x)) e) ∙ left .rest
+
+  pub left-void : t ≡ 0 → tell noneAt ≡ answer
+  left-void e = left-found (ap (sizeBy step reads) e ∙ sizeBy-void step reads)
 
   module _ (some : t ≡ 0 → ⊥) where
-    pub left-far : reads ≡ 0 → report 22 0 ≡ sizeOf b index t₀
-    left-far e =
-        let far : sizeBy (stepAt b index) reads t ≡ tooFar = rw e (sizeBy-far (stepAt b index) t some) in
-        sym (ap (λ (x : Found). sizeAnswer (scale count x)) far) ∙ left .rest
+    pub left-far : reads ≡ 0 → tell tooFar ≡ answer
+    left-far e = left-found {x = tooFar} (rw e (sizeBy-far step t some))
 
-    module _ (more : reads ≡ 0 → ⊥) {x : Step} (at : x ≡ stepAt b index t) where
+    module _ (more : reads ≡ 0 → ⊥) {x : Step} (at : x ≡ step t) where
       -- what the record says decides, or leads on
-      left-step : sizeAnswer (scale count (goOn x (λ (u : ℕ). sizeBy (stepAt b index) (reads - 1) u))) ≡ sizeOf b index t₀
-      left-step = rw at (ap (λ (f : Found). sizeAnswer (scale count f)) (sym (sizeBy-read (stepAt b index) reads t some more)) ∙ left .rest)
+      left-step : {y : Step} → x ≡ y → tell (scale count (goOn y (λ (u : ℕ). sizeBy step (reads - 1) u))) ≡ answer
+      left-step e = left-found (sizeBy-read step reads t some more ∙ ap (λ (z : Step). goOn z (λ (u : ℕ). sizeBy step (reads - 1) u)) (sym at ∙ e))
 
-      pub left-is : {s : ℕ} {y : Answer} → x ≡ is s → y ≡ sizeAnswer (exactly (count * s)) → y ≡ sizeOf b index t₀
-      left-is e d = d ∙ (rw e at left-step)
+      pub left-is : {s : ℕ} {y : Answer} → x ≡ is s → y ≡ tell (exactly (count * s)) → y ≡ answer
+      left-is e d = d ∙ left-step e
 
-      pub left-sizeless : x ≡ sizeless → report 1 0 ≡ sizeOf b index t₀
-      left-sizeless e = rw e at left-step
+      pub left-sizeless : x ≡ sizeless → tell noneAt ≡ answer
+      left-sizeless e = left-step e
 
-      pub left-lost : x ≡ lost → report 21 0 ≡ sizeOf b index t₀
-      left-lost e = rw e at left-step
+      pub left-lost : x ≡ lost → tell lostAt ≡ answer
+      left-lost e = left-step e
 
-      pub left-many : {n u count' : ℕ} → x ≡ manyOf n u → count' ≡ cut (count * n) → Left b index t₀ u count' (reads - 1)
-      left-many {n} {u} {count'} e d =
-          let found : Found = sizeBy (stepAt b index) (reads - 1) u in
+      pub left-many : ((q : ℕ) (f : Found) → tell (scale (cut q) f) ≡ tell (scale q f)) → {n u count′ : ℕ} → x ≡ manyOf n u → count′ ≡ cut (count * n)
+          → Left tell step answer u count′ (reads - 1)
+      left-many unseen {n} {u} {count′} e d =
+          let found : Found = sizeBy step (reads - 1) u in
           record {
             bound = rw d (cut-bound (count * n));
-            rest =
-                rw d
-                (sizeAnswer-cut (count * n) found ∙ ap sizeAnswer (sym (scale-scale count n found)) ∙ (rw e at left-step));
+            rest = rw d (unseen (count * n) found ∙ ap tell (sym (scale-scale count n found)) ∙ left-step e);
           }

@@ -12,7 +12,7 @@ use Rattle.paper.proofs.bytes.Reading.{wordAt-drop}
 use Rattle.rows.proofs.RoleCodes.{sizeRuleOf-sizeCode}
 use Rattle.rows.specs.Codes.{sizeCode, sizeRuleOf}
 use Rattle.paper.proofs.bytes.Bytes.{part-rest}
-use Rattle.sizes.specs.SizeStep.{readable, stepOf}
+use Rattle.sizes.specs.SizeStep.{readable, stepWords, stepOf}
 use Rattle.paper.specs.Kind.{noSize, rowOf}
 use Rattle.paper.specs.Size.{Step, lost, stepBy, stepAtPlace, stepAt}
 use Rattle.paper.specs.Header.{orderOf}
@@ -50,29 +50,27 @@ module _ (k n : ℕ) {f : Bool} (flag : f ≡ known k) where
 
 -- ── a record by the bytes from its place on ──
 
+pub stepWords-read : (s : List ℕ) {w k third element n r : ℕ} {x : Step} → w ≡ wordAt lowFirst s 4 → k ≡ kindIn w → third ≡ wordAt lowFirst s 8
+    → element ≡ wordAt lowFirst s 12 → n ≡ wordAt lowFirst s 20 → r ≡ sizeCode (rowOf k .size) → x ≡ stepBy (sizeRuleOf r) third element n → x ≡ stepWords s
+stepWords-read s {k = k} {r = r} info kind e₈ e₁₂ e₂₀ code d =
+    let rule : sizeRuleOf r ≡ rowOf k .size = ap sizeRuleOf code ∙ sizeRuleOf-sizeCode _ in
+    d
+    ∙ (λ i. stepBy (rule i) (e₈ i) (e₁₂ i) (e₂₀ i))
+    ∙ ap (λ (j : ℕ). stepBy (rowOf j .size) (wordAt lowFirst s 8) (wordAt lowFirst s 12) (wordAt lowFirst s 20)) (kind ∙ ap kindIn info)
+
 module _ (s : List ℕ) {w : ℕ} (info : w ≡ wordAt lowFirst s 4) {k : ℕ} (kind : k ≡ kindIn w) {t : Bool} (test : t ≡ not (readable k (length s))) where
-  -- what the record says, by its kind
-  abbrev says : ℕ → Step
-  says x = cond (readable x (length s)) (stepBy (rowOf x .size) (wordAt lowFirst s 8) (wordAt lowFirst s 12) (wordAt lowFirst s 20)) lost
-
-  stepOf-says : says k ≡ stepOf s
-  unfolding stepOf
-  stepOf-says = ap says (kind ∙ ap kindIn info)
-
   abbrev choose : Bool → Step
-  choose b = cond b (stepBy (rowOf k .size) (wordAt lowFirst s 8) (wordAt lowFirst s 12) (wordAt lowFirst s 20)) lost
+  choose b = cond b (stepWords s) lost
+
+  stepOf-chosen : choose (readable k (length s)) ≡ stepOf s
+  unfolding stepOf
+  stepOf-chosen = ap (λ (x : ℕ). choose (readable x (length s))) (kind ∙ ap kindIn info)
 
   pub stepOf-unreadable : t ≡ true → lost ≡ stepOf s
-  stepOf-unreadable e = sym (ap choose (not-true (readable k (length s)) (sym test ∙ e))) ∙ stepOf-says
+  stepOf-unreadable e = sym (ap choose (not-true (readable k (length s)) (sym test ∙ e))) ∙ stepOf-chosen
 
-  pub stepOf-readable : t ≡ false → {third element n r : ℕ} {x : Step} → third ≡ wordAt lowFirst s 8 → element ≡ wordAt lowFirst s 12 → n ≡ wordAt lowFirst s 20
-      → r ≡ sizeCode (rowOf k .size) → x ≡ stepBy (sizeRuleOf r) third element n → x ≡ stepOf s
-  stepOf-readable e {r = r} e₈ e₁₂ e₂₀ code d =
-      let rule : sizeRuleOf r ≡ rowOf k .size = ap sizeRuleOf code ∙ sizeRuleOf-sizeCode _ in
-      d
-      ∙ (λ i. stepBy (rule i) (e₈ i) (e₁₂ i) (e₂₀ i))
-      ∙ sym (ap choose (not-false (readable k (length s)) (sym test ∙ e)))
-      ∙ stepOf-says
+  pub stepOf-readable : t ≡ false → {x : Step} → x ≡ stepWords s → x ≡ stepOf s
+  stepOf-readable e d = d ∙ sym (ap choose (not-false (readable k (length s)) (sym test ∙ e))) ∙ stepOf-chosen
 
 -- ── the record of a type ──
 

@@ -26,10 +26,12 @@ stepAsPaper Lost = lost
 unfoldable pub readable : ℕ → ℕ → Bool
 readable kind len = known kind && (not (eqb kind ARRAY) || leb 24 len)
 
+-- what the words say, where the record can be read
+abbrev pub stepWords : List ℕ → size.Step
+stepWords s = stepBy (rowOf (kindIn (wordAt lowFirst s 4)) .size) (wordAt lowFirst s 8) (wordAt lowFirst s 12) (wordAt lowFirst s 20)
+
 unfoldable pub stepOf : List ℕ → size.Step
-stepOf s =
-    let kind = kindIn (wordAt lowFirst s 4) in
-    cond (readable kind (length s)) (stepBy (rowOf kind .size) (wordAt lowFirst s 8) (wordAt lowFirst s 12) (wordAt lowFirst s 20)) lost
+stepOf s = cond (readable (kindIn (wordAt lowFirst s 4)) (length s)) (stepWords s) lost
 
 -- ── counts ──
 

@@ -1,20 +1,23 @@
 // The exact size of a type, asked of any blob and any index. Counts are multiplied down the chain of records.
+mod shown; // of a type of the table that an index shows
+
 use paper::Place;
 use paper::Sized;
 use paper::TypeNo;
 use rows::is_known;
 use rows::kind_of;
 use rows::size_rule;
+pub use shown::size_in;
 ghost use mathlib.Core.Path.{_≡_};
 ghost use Prim.Native.Nat.{_*_, _≤_};
 ghost use mathlib.Core.Bool.{not};
-ghost use Rattle.sizes.specs.SizeStep.{cut, readable, stepAsPaper, stepOf};
+ghost use Rattle.sizes.specs.SizeStep.{cut, readable, stepAsPaper, stepOf, stepWords};
 ghost use Rattle.paper.specs.Answer.{sizedAsPaper};
 ghost use Rattle.paper.specs.Size.{exactly, sizeAnswer, sizeOf, stepAt, stepBy};
 ghost use Rattle.rows.specs.Codes.{sizeRuleOf};
 
 // What one record says of a size: it, so many times another type's, none, or that it cannot be read.
-enum Step {
+pub(crate) enum Step {
     Is(u32),
     ManyOf(u32, TypeNo),
     Sizeless,
@@ -47,7 +50,18 @@ fn unreadable(kind: u32, len: usize) -> bool
     !(24 <= len)
 }
 
-// What a record says, by the bytes from its place on. Its words are read from there, so that no place wraps.
+// What a record says, by the words that its bytes begin with: any bytes are some record's.
+pub(crate) fn step_words(s: &[u8]) -> Step
+    ensures { λ r. ⌜ stepAsPaper r ≡ stepWords (now (s .entry)) ⌝ }
+{
+    let kind = kind_of(words::read(s, Place(4)));
+    let third = words::read(s, Place(8));
+    let element = words::read(s, Place(12));
+    let n = words::read(s, Place(20));
+    step_by(size_rule(kind), third, element, n)
+}
+
+// The same, where the record can be read. Its words are read from its place on, so that no place wraps.
 fn step_of(s: &[u8]) -> Step
     ensures { λ r. ⌜ stepAsPaper r ≡ stepOf (now (s .entry)) ⌝ }
 {
@@ -55,10 +69,7 @@ fn step_of(s: &[u8]) -> Step
     if unreadable(kind, s.len()) {
         return Step::Lost;
     }
-    let third = words::read(s, Place(8));
-    let element = words::read(s, Place(12));
-    let n = words::read(s, Place(20));
-    step_by(size_rule(kind), third, element, n)
+    step_words(s)
 }
 
 // What the record of a type says: 21 where the index or the blob does not reach it.
@@ -80,7 +91,7 @@ fn step_at(b: &[u8], index: &[u32], t: TypeNo) -> Step
 }
 
 // A product of counts, cut where every size but 0 overflows.
-fn times(p: u64, n: u32) -> u64
+pub(crate) fn times(p: u64, n: u32) -> u64
     requires { ⌜ p ≤ 4294967296 ⌝ }
     ensures { λ r. ⌜ r ≡ cut (p * n) ⌝ }
 {
@@ -92,7 +103,7 @@ fn times(p: u64, n: u32) -> u64
 }
 
 // So many times a size.
-fn many(p: u64, s: u32) -> Sized
+pub(crate) fn many(p: u64, s: u32) -> Sized
     requires { ⌜ p ≤ 4294967296 ⌝ }
     ensures { λ r. ⌜ sizedAsPaper r ≡ sizeAnswer (exactly (p * s)) ⌝ }
 {

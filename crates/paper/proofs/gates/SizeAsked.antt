@@ -81,14 +81,14 @@ found-answer tooFar f l = absurd (f refl)
 -- ── a record read at its place ──
 
 -- only what is counted reads the tail, and then the tail has three words
-abbrev countsTail : SizeRule → ℕ → Bool
+abbrev pub countsTail : SizeRule → ℕ → Bool
 countsTail eight n = true
 countsTail sizeWord n = true
 countsTail countTimes n = leb 3 n
 countsTail referent n = true
 countsTail noSize n = true
 
-stepBy-same : (s : SizeRule) (k : ℕ) → countsTail s k ≡ true → {third third′ element element′ n n′ : ℕ} → third ≡ third′
+pub stepBy-same : (s : SizeRule) (k : ℕ) → countsTail s k ≡ true → {third third′ element element′ n n′ : ℕ} → third ≡ third′
     → (3 ≤ k → (element ≡ element′) × (n ≡ n′)) → stepBy s third element n ≡ stepBy s third′ element′ n′
 stepBy-same eight k c e h = refl
 stepBy-same sizeWord k c e h = ap is e
@@ -96,7 +96,7 @@ stepBy-same countTimes k c e h = let w = h (leb-true 3 k c) in ap₂ manyOf (w .
 stepBy-same referent k c e h = ap (manyOf 1) e
 stepBy-same noSize k c e h = refl
 
-rowOf-counts : (k : ℕ) → countsTail (rowOf k .size) (length (rowOf k .once)) ≡ true
+pub rowOf-counts : (k : ℕ) → countsTail (rowOf k .size) (length (rowOf k .once)) ≡ true
 rowOf-counts k = rowOf-every (λ (r : Row). countsTail (r .size) (length (r .once))) (unfold rows in refl) k
 
 only-if : (t : Bool) {x : Bool} → (t ≡ true → x ≡ true) → not t || x ≡ true

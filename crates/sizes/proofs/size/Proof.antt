@@ -1,23 +1,25 @@
 -- `sizes::size` meets its contract. The loop's invariant: the work that is left answers the question.
 -- The measure is the reads that are left.
 -- Assumes nothing.
-use mathlib.Core.Path.{ap}
+use mathlib.Core.Path.{refl, ap}
 use native.Mathlib.Omega.{arith}
-use Rattle.sizes.proofs.Scales.{Left, left-all, left-void, left-far, left-is, left-many, left-sizeless, left-lost}
+use Rattle.sizes.proofs.Scales.{Left, left-all, left-void, left-far, left-is, left-many, left-sizeless, left-lost, sizeAnswer-cut}
 use Rattle.sizes.specs.SizeStep.{stepAsPaper}
 use Rattle.paper.specs.Answer.{sizedAsPaper}
+use Rattle.paper.specs.Size.{stepAt, sizeAsked, sizeAnswer, sizeOf}
 use borrow.Author.Needs.{needs}
 use Rattle.sizes.proofs.size.Statement.{statement}
 use Rattle.sizes.proofs.size.Tie as tie
 
 abbrev Inv-loop : tie.InvT-loop
-Inv-loop b index at₀ count₀ reads₀ at count reads = Left b index at₀ at count reads
+Inv-loop b index at₀ count₀ reads₀ at count reads = Left sizeAnswer (stepAt b index) (sizeOf b index at₀) at count reads
 
 abbrev μ-loop : tie.MeasureT-loop
 μ-loop b index at₀ count₀ reads₀ at count reads = reads
 
 loop-holds : tie.Need-loop-holds Inv-loop μ-loop
-loop-holds c = left-all _ _ _
+unfolding sizeOf sizeAsked
+loop-holds c = left-all sizeAnswer _ refl
 
 returns : tie.Need-returns Inv-loop μ-loop
 unfolding sizedAsPaper
@@ -53,7 +55,7 @@ loop-less c = omega arith
 loop-again : tie.Need-loop-again Inv-loop μ-loop
 loop-again c =
     let d = c .before .before .before .before in
-    left-many (d .before .before .before .loop .inv) (d .before .before .loop-test .taken) (d .before .if1 .left) (d .step-at .ensures)
+    left-many (d .before .before .before .loop .inv) (d .before .before .loop-test .taken) (d .before .if1 .left) (d .step-at .ensures) sizeAnswer-cut
     (ap stepAsPaper (c .before .before .n .given .1)) (c .times .ensures)
 
 enum-told : tie.Need-enum-told Inv-loop μ-loop

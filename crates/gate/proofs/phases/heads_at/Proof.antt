@@ -2,11 +2,11 @@
 -- Assumes nothing.
 use mathlib.Core.Path.{_≡_, sym, ap, _∙_}
 use denote.Ref.{now}
-use Rattle.gate.proofs.Looks.{heads-due}
+use Rattle.gate.proofs.TypeDues.{heads-due}
 use Rattle.paper.specs.Answer.{reportAsPaper}
 use Rattle.paper.specs.Choice.{firstDue}
 use Rattle.paper.specs.Gate.{namingAt, phase3}
-use Rattle.paper.specs.Walk.{placeAt, tableOf}
+use Rattle.views.specs.Shown.{placeBy, tableBy}
 use Rattle.rules.specs.Phase.{dueAsPaper}
 use Rattle.rules.specs.declared.phase.Due.{Due}
 use borrow.Author.Needs.{needs}
@@ -14,13 +14,13 @@ use Rattle.gate.proofs.phases.heads_at.Statement.{statement}
 use Rattle.gate.proofs.phases.heads_at.Tie as tie
 
 -- what phase 3 said of the record is what it says of the type
-due : (c : tie.After-phase3) (d : Due) → let at = c .before .before .before in let a = at .before .before .before .args in let T = tableOf (now (a .b)) in
-    c .phase3 .result ≡ d → namingAt (a .t .0) (at .place-of .result .0) (dueAsPaper d) ≡ namingAt (a .t .0) (placeAt T (a .t .0)) (firstDue (phase3 T (a .t .0)))
+due : (c : tie.After-phase3) (d : Due) → let at = c .before .before .before in let a = at .before .before .before .before .args in let T = tableBy (now (a .base)) (now (a .b)) (now (a .index)) (a .view) in
+    c .phase3 .result ≡ d → namingAt (a .t .0) (at .place-of .result .0) (dueAsPaper d) ≡ namingAt (a .t .0) (placeBy (now (a .index)) (a .view) (a .t .0)) (firstDue (phase3 T (a .t .0)))
 due c d e =
     let at = c .before .before .before in
-    let a = at .before .before .before .args in
+    let a = at .before .before .before .before .args in
     ap (λ (d : Due). namingAt (a .t .0) (at .place-of .result .0) (dueAsPaper d)) (sym e)
-    ∙ heads-due (tableOf (now (a .b))) (a .t .0) (c .phase3 .result) (c .phase3 .ensures) (c .before .strings-of .ensures) (c .before .before .record-of .ensures) (at .place-of .ensures)
+    ∙ heads-due (tableBy (now (a .base)) (now (a .b)) (now (a .index)) (a .view)) (a .t .0) (c .phase3 .result) (c .phase3 .ensures) (c .before .strings-of .ensures .bytes) (c .before .before .record-of .ensures .shows) (at .place-of .ensures)
 
 place-of-requires : tie.Need-place-of-requires
 place-of-requires c κs = search needs

@@ -5,18 +5,18 @@ use mathlib.Core.Path.{_≡_, refl, sym, _∙_}
 use mathlib.Core.Bool.{Bool, not}
 use mathlib.Core.List.{[], _∷_}
 use denote.Ref.{now}
-use Rattle.gate.proofs.LayoutKinds.{layout-due}
+use Rattle.gate.proofs.TypeDues.{layout-due}
 use Rattle.paper.specs.Answer.{reportAsPaper}
 use Rattle.paper.specs.Choice.{_when_, firstDue}
 use Rattle.paper.specs.Gate.{namingAt, phase6}
-use Rattle.paper.specs.Walk.{placeAt, tableOf}
+use Rattle.views.specs.Shown.{placeBy, tableBy}
 use borrow.Author.Needs.{needs}
 use Rattle.gate.proofs.phases.layout_at.Statement.{statement}
 use Rattle.gate.proofs.phases.layout_at.Tie as tie
 
-due : (c : tie.After-layout-ok) {z : Bool} {p : ℕ} → let a = c .before .before .before .args in let T = tableOf (now (a .b)) in
-    c .layout-ok .result ≡ z → p ≡ placeAt T (a .t .0) → namingAt (a .t .0) p (firstDue (15 when not z ∷ [])) ≡ namingAt (a .t .0) (placeAt T (a .t .0)) (firstDue (phase6 T (a .t .0)))
-due c e at = let a = c .before .before .before .args in layout-due (tableOf (now (a .b))) (a .t .0) (sym e ∙ c .layout-ok .ensures) at
+due : (c : tie.After-layout-ok) {z : Bool} {p : ℕ} → let a = c .before .before .before .before .args in let T = tableBy (now (a .base)) (now (a .b)) (now (a .index)) (a .view) in
+    c .layout-ok .result ≡ z → p ≡ placeBy (now (a .index)) (a .view) (a .t .0) → namingAt (a .t .0) p (firstDue (15 when not z ∷ [])) ≡ namingAt (a .t .0) (placeBy (now (a .index)) (a .view) (a .t .0)) (firstDue (phase6 T (a .t .0)))
+due c e at = let a = c .before .before .before .before .args in layout-due (tableBy (now (a .base)) (now (a .b)) (now (a .index)) (a .view)) (a .t .0) (sym e ∙ c .layout-ok .ensures) at
 
 layout-ok-requires : tie.Need-layout-ok-requires
 layout-ok-requires c κs = search needs
@@ -25,7 +25,7 @@ returns : tie.Need-returns
 returns c = due (c .before) (c .if1 .taken) refl
 
 place-of-requires : tie.Need-place-of-requires
-place-of-requires c κs = c .before .before .before .before .pre .standing
+place-of-requires c κs = search needs
 
 returns-2 : tie.Need-returns-2
 unfolding reportAsPaper

@@ -1,28 +1,30 @@
 -- `gate::phases::sixth` meets its contract: phase 6 says of the types passed nothing.
 -- Assumes nothing.
 use Prim.Native.Nat.{_-_}
+use mathlib.Core.Path.{ap}
 use native.Mathlib.Omega.{arith}
-use Rattle.gate.proofs.Looks.{Looking, looking-start, looking-next, looking-says, looking-done}
+use Rattle.paper.proofs.gates.Looks.{Looking, looking-start, looking-next, looking-says, looking-done}
 use Rattle.paper.specs.Gate.{phase6}
-use Rattle.paper.specs.Walk.{tableOf}
+use Rattle.gate.specs.Said.{overShown, saidAsPaper}
+use Rattle.views.specs.Shown.{placeBy, tableBy}
 use borrow.Author.Needs.{needs}
 use Rattle.gate.proofs.phases.sixth.Statement.{statement}
 use Rattle.gate.proofs.phases.sixth.Tie as tie
 
 abbrev Inv-loop : tie.InvT-loop
-Inv-loop b index n t₀ t = Looking phase6 (tableOf b) n t
+Inv-loop base b index view n t₀ t = Looking (placeBy index view) (phase6 (tableBy base b index view)) (view .n) t
 
 abbrev μ-loop : tie.MeasureT-loop
-μ-loop b index n t₀ t = n - t
+μ-loop base b index view n t₀ t = view .n - t
 
 loop-holds : tie.Need-loop-holds Inv-loop μ-loop
-loop-holds c = looking-start phase6 _ (c .before .before .pre .standing .counted)
+loop-holds c = looking-start _ _ _
 
 add-t : tie.Need-add-t Inv-loop μ-loop
 add-t c = search needs
 
 layout-at-requires : tie.Need-layout-at-requires Inv-loop μ-loop
-layout-at-requires c κs = c .before .before .before .before .pre
+layout-at-requires c κs = search needs
 
 enum-told : tie.Need-enum-told Inv-loop μ-loop
 enum-told c = search needs
@@ -33,17 +35,19 @@ loop-less c = omega arith
 loop-again : tie.Need-loop-again Inv-loop μ-loop
 loop-again c =
     let h = c .before .before in
-    looking-next (h .before .before .loop .inv) (h .before .loop-test .taken) (h .layout-at .result) (h .layout-at .ensures) (c .enum-told .given .1)
+    looking-next (h .before .before .loop .inv) (h .before .loop-test .taken) (h .layout-at .ensures) (ap saidAsPaper (c .enum-told .given .1))
 
 enum-told-2 : tie.Need-enum-told-2 Inv-loop μ-loop
 enum-told-2 c = search needs
 
 returns : tie.Need-returns Inv-loop μ-loop
+unfolding overShown
 returns c =
     let h = c .before .before in
-    looking-says (h .before .before .loop .inv) (h .before .loop-test .taken) (h .layout-at .result) (h .layout-at .ensures) (c .enum-told2 .given .1)
+    looking-says (h .before .before .loop .inv) (h .before .loop-test .taken) (h .layout-at .ensures) (ap saidAsPaper (c .enum-told2 .given .1))
 
 returns-2 : tie.Need-returns-2 Inv-loop μ-loop
+unfolding overShown
 returns-2 c = looking-done (c .before .loop .inv) (c .loop-test .left)
 
 pub sixth-spec : {M : Type 1} → statement M

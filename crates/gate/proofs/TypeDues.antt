@@ -1,0 +1,27 @@
+-- What phases 3 and 6 say of one type, from what is said of its record.
+-- Assumes nothing.
+use Prim.Native.Nat.{ℕ}
+use mathlib.Core.Path.{_≡_, ap₂, _∙_}
+use mathlib.Core.Bool.{Bool, not}
+use mathlib.Core.List.{List, [], _∷_}
+use Rattle.paper.specs.Choice.{_when_, firstDue}
+use Rattle.paper.specs.Gate.{namingAt, phase3, phase6}
+use Rattle.paper.specs.Heads.{headBad}
+use Rattle.paper.specs.Layout.{layoutOk, layoutBad}
+use Rattle.paper.specs.Names.{nameBad}
+use Rattle.paper.specs.Table.{Record, Table, recordAt}
+use Rattle.paper.specs.Tails.{tailBad}
+use Rattle.rules.specs.Phase.{dueAsPaper, rulesOf}
+use Rattle.rules.specs.declared.phase.Due.{Due}
+
+-- phase 3, from what is due of its record
+pub heads-due : (T : Table) (t : ℕ) (d : Due) {strings : List ℕ} {r : Record} {p q : ℕ} → dueAsPaper d ≡ firstDue (rulesOf strings r)
+    → strings ≡ T .strings → r ≡ recordAt T t → p ≡ q → namingAt t p (dueAsPaper d) ≡ namingAt t q (firstDue (phase3 T t))
+unfolding phase3 headBad nameBad tailBad
+heads-due T t d e s r at = ap₂ (namingAt t) at (e ∙ ap₂ (λ (x : List ℕ) (y : Record). firstDue (rulesOf x y)) s r)
+
+-- phase 6, from whether its layout is good
+pub layout-due : (T : Table) (t : ℕ) {z : Bool} {p q : ℕ} → z ≡ layoutOk T (recordAt T t) → p ≡ q
+    → namingAt t p (firstDue (15 when not z ∷ [])) ≡ namingAt t q (firstDue (phase6 T t))
+unfolding phase6 layoutBad
+layout-due T t e at = ap₂ (λ (p : ℕ) (b : Bool). namingAt t p (firstDue (15 when not b ∷ []))) at e

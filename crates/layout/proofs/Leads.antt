@@ -1,0 +1,48 @@
+-- Laws of bases as code follows them: what is left of the way to a base.
+-- Assumes nothing.
+use Prim.Native.Nat.{ℕ, suc, _-_, _<_, _≤_}
+use mathlib.Core.Path.{_≡_, sym, ap, _∙_}
+use mathlib.Core.Bool.{Bool, true, false, not, cond}
+use mathlib.Core.List.{List}
+use native.Mathlib.Omega.{arith}
+use borrow.Author.Tests.{not-true, not-false}
+use Rattle.paper.specs.Reading.{recordIn}
+use Rattle.paper.specs.Span.{isAlias, baseFrom, baseOf}
+use Rattle.paper.specs.Table.{Record, Table, count, recordAt, kindIn}
+use Rattle.paper.specs.Word.{lowFirst, wordAt}
+use Rattle.rows.proofs.RecordWords.{kind-read, third-read}
+
+-- so many steps are left at a type, and lead where all lead from the first
+pub record Leading (T : Table) (n t left at : ℕ) : Type 0 where
+  pub rest : baseFrom T n t ≡ baseFrom T left at
+
+module _ {T : Table} {n t left at : ℕ} (now : Leading T n t left at) where
+  pub leading-done : left ≤ 0 → at ≡ baseFrom T n t
+  leading-done h = let none : left ≡ 0 = omega arith in sym (now .rest ∙ ap (λ (k : ℕ). baseFrom T k at) none)
+
+  module _ (some : 0 < left) (s : List ℕ) (is : recordIn lowFirst s ≡ recordAt T at) {w k : ℕ} (info : w ≡ wordAt lowFirst s 4) (kind : k ≡ kindIn w)
+      {a : Bool} (test : a ≡ isAlias k) where
+    -- one step
+    step : baseFrom T n t ≡ cond a (baseFrom T (left - 1) (recordAt T at .third)) at
+    step =
+        let one : left ≡ suc (left - 1) = omega arith in
+        now .rest
+        ∙ ap (λ (k : ℕ). baseFrom T k at) one
+        ∙ ap (λ (b : Bool). cond b (baseFrom T (left - 1) (recordAt T at .third)) at) (sym (test ∙ ap isAlias (kind-read s is info kind)))
+
+    pub leading-stop : not a ≡ true → at ≡ baseFrom T n t
+    leading-stop e = sym (step ∙ ap (λ (b : Bool). cond b (baseFrom T (left - 1) (recordAt T at .third)) at) (not-true a e))
+
+    pub leading-next : not a ≡ false → {u : ℕ} → u ≡ wordAt lowFirst s 8 → Leading T n t (left - 1) u
+    leading-next e third =
+        record {
+          rest =
+              step
+              ∙ ap (λ (b : Bool). cond b (baseFrom T (left - 1) (recordAt T at .third)) at) (not-false a e)
+              ∙ ap (baseFrom T (left - 1)) (sym (third-read s is third));
+        }
+
+-- the base's record, from its number
+pub base-found : (T : Table) (t : ℕ) {n u : ℕ} → n ≡ count T → u ≡ baseFrom T n t → {r : Record} → r ≡ recordAt T u → r ≡ baseOf T t
+unfolding baseOf
+base-found T t counted e d = d ∙ ap (recordAt T) (e ∙ ap (λ (k : ℕ). baseFrom T k t) counted)

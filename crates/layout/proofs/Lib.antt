@@ -1,0 +1,7 @@
+pub mod Measured
+pub mod Leads
+pub mod MembersLeft
+pub mod NamedLeft
+pub mod PartTests
+pub mod EntriesLeft
+pub mod LayoutKinds

@@ -1,0 +1,162 @@
+-- Laws of members: a member's span by what is read of it, and what is left of the members of a struct or a union.
+-- Assumes nothing.
+use Prim.Native.Nat.{ℕ, zero, suc, _+_, _-_, _*_, _<_, _≤_}
+use mathlib.Core.Path.{_≡_, refl, sym, ap, _∙_}
+use mathlib.Core.Bool.{Bool, true, false, not, cond, _&&_}
+use mathlib.Core.List.{List, [], _∷_, map}
+use mathlib.Core.Option.{Option, none, some}
+use native.Mathlib.Omega.{arith}
+use borrow.Author.Tests.{ne-eqb, not-true, not-false}
+use lib.Dec.{eqb, leb}
+use Rattle.rows.proofs.RecordWords.{tail-read}
+use Rattle.spans.specs.Spanned.{memberAt, withOffset, spanWith}
+use Rattle.paper.proofs.basics.Choices.{and-false}
+use Rattle.paper.specs.Choice.{every}
+use Rattle.paper.specs.KindNo.{UNION}
+use Rattle.paper.specs.Layout.{memberOk, notFalling, offsetsOk, membersOk}
+use Rattle.paper.specs.Reading.{wordsFrom, recordIn}
+use Rattle.paper.specs.Size.{smallSize}
+use Rattle.paper.specs.Span.{Member, membersIn, baseOf, bitOffset, plainSpan, fieldSpan, spanOfSize, spanOf, endsBy}
+use Rattle.paper.specs.Table.{Record, Table, kindOf, flagOf, tailLength}
+use Rattle.paper.specs.Word.{lowFirst, wordAt}
+use Rattle.rows.proofs.RoleCodes.{tailLength-few}
+
+-- ── one member ──
+
+module _ (T : Table) (flag end : ℕ) (m : Member) {t : ℕ} (type : t ≡ m .type) where
+  abbrev within : Option ℕ → Bool
+  within x = endsBy end (spanOfSize T flag m x)
+
+  -- a member of no size, or of one that overflows, has no span
+  pub span-none : none ≡ smallSize T t → false ≡ endsBy end (spanOf T flag m)
+  unfolding spanOf
+  span-none e = ap within (e ∙ ap (smallSize T) type)
+
+  -- any other has the span that its base, its offset word and its size say
+  pub span-small : {o : ℕ} → o ≡ m .offset → {z : ℕ} → some z ≡ smallSize T t → (base : Record) → base ≡ baseOf T t → {x : Bool}
+      → x ≡ endsBy end (spanWith flag base o z) → x ≡ endsBy end (spanOf T flag m)
+  unfolding spanOf fieldSpan plainSpan
+  span-small offset {z} e base is d =
+      d
+      ∙ (λ i. endsBy end (spanWith flag ((is ∙ ap (baseOf T) type) i) (offset i) z))
+      ∙ ap within (e ∙ ap (smallSize T) type)
+
+-- ── offsets ──
+
+pub zero-eqb : (n : ℕ) → eqb n 0 ≡ eqb 0 n
+zero-eqb zero = refl
+zero-eqb (suc n) = ne-eqb (suc n) 0 (λ z. omega arith) ∙ sym (ne-eqb 0 (suc n) (λ z. omega arith))
+
+-- offsets behind another one, in a union or a struct
+abbrev offsetsFrom : Bool → ℕ → List ℕ → Bool
+offsetsFrom union before os = cond union (every (eqb 0) os) (notFalling before os)
+
+offsets-none : (u : Bool) (before : ℕ) → offsetsFrom u before [] ≡ true
+offsets-none true before = refl
+offsets-none false before = refl
+
+offsets-first : (u : Bool) (before o : ℕ) (os : List ℕ) → offsetsFrom u before (o ∷ os) ≡ cond u (eqb 0 o) (leb before o) && offsetsFrom u o os
+offsets-first true before o os = refl
+offsets-first false before o os = refl
+
+-- ── what is left of the members ──
+
+module _ (s : List ℕ) where
+  -- the members in so many words from a place on
+  abbrev membersFrom : ℕ → ℕ → List Member
+  membersFrom p n = membersIn (wordsFrom lowFirst s p n)
+
+  members-few : (p n : ℕ) → n < 3 → membersFrom p n ≡ []
+  members-few p zero h = refl
+  members-few p (suc zero) h = refl
+  members-few p (suc (suc zero)) h = refl
+  members-few p (suc (suc (suc n))) h = absurd (omega arith)
+
+  members-first : (p n : ℕ) → membersFrom p (suc (suc (suc n))) ≡ memberAt s p ∷ membersFrom (p + 12) n
+  members-first p n =
+      let third : p + 4 + 4 ≡ p + 8 = omega arith in
+      let behind : p + 4 + 4 + 4 ≡ p + 12 = omega arith in
+      λ i. record { name = wordAt lowFirst s p; type = wordAt lowFirst s (p + 4); offset = wordAt lowFirst s (third i) } ∷ membersFrom (behind i) n
+
+module _ (T : Table) (r : Record) where
+  -- both rules of some members behind an offset
+  abbrev laid : ℕ → List Member → Bool
+  laid before ms = every (memberOk T r) ms && offsetsFrom (eqb (kindOf r) UNION) before (map (bitOffset (flagOf r)) ms)
+
+  abbrev follows : ℕ → ℕ → Bool
+  follows before o = cond (eqb (kindOf r) UNION) (eqb 0 o) (leb before o)
+
+  laid-none : (before : ℕ) → laid before [] ≡ true
+  laid-none before = offsets-none (eqb (kindOf r) UNION) before
+
+  laid-first : (before : ℕ) (m : Member) (ms : List Member) → let o = bitOffset (flagOf r) m in
+      laid before (m ∷ ms) ≡ (memberOk T r m && every (memberOk T r) ms) && (follows before o && offsetsFrom (eqb (kindOf r) UNION) o (map (bitOffset (flagOf r)) ms))
+  laid-first before m ms =
+      ap (λ (t : Bool). (memberOk T r m && every (memberOk T r) ms) && t)
+      (offsets-first (eqb (kindOf r) UNION) before (bitOffset (flagOf r) m) (map (bitOffset (flagOf r)) ms))
+
+-- so many words of a tail are left, from a place on, behind an offset
+pub record Laying (T : Table) (r : Record) (s : List ℕ) (p left before : ℕ) : Type 0 where
+  pub near : p + 4 * left ≤ 786444
+  pub rest : membersOk T r ≡ laid T r before (membersFrom s p left)
+
+pub laying-start : (T : Table) (s : List ℕ) {w n : ℕ} → w ≡ wordAt lowFirst s 4 → n ≡ tailLength w → Laying T (recordIn lowFirst s) s 12 n 0
+unfolding membersOk offsetsOk
+laying-start T s {w} {n} e d =
+    let r = recordIn lowFirst s in
+    record {
+      near = omega (arith, d, tailLength-few w);
+      rest = ap (λ (ws : List ℕ). laid T r 0 (membersIn ws)) (tail-read s e d);
+    }
+
+module _ {T : Table} {r : Record} {s : List ℕ} {p left before : ℕ} (now : Laying T r s p left before) where
+  pub laying-done : left < 3 → true ≡ membersOk T r
+  laying-done h = sym (now .rest ∙ ap (laid T r before) (members-few s p left h) ∙ laid-none T r before)
+
+  module _ (some : 3 ≤ left) {f z : ℕ} (flag : f ≡ flagOf r) (size : z ≡ r .third) {x : Bool} (ends : x ≡ endsBy (8 * z) (spanOf T f (memberAt s p))) where
+    abbrev o : ℕ
+    o = bitOffset (flagOf r) (memberAt s p)
+
+    abbrev behind : Bool
+    behind = every (memberOk T r) (membersFrom s (p + 12) (left - 3))
+
+    abbrev offsets : Bool
+    offsets = offsetsFrom (eqb (kindOf r) UNION) o (map (bitOffset (flagOf r)) (membersFrom s (p + 12) (left - 3)))
+
+    -- the first of those that are left, by its two tests
+    first : membersOk T r ≡ (x && behind) && (follows T r before o && offsets)
+    unfolding memberOk
+    first =
+        let three : left ≡ suc (suc (suc (left - 3))) = omega arith in
+        now .rest
+        ∙ ap (λ (n : ℕ). laid T r before (membersFrom s p n)) three
+        ∙ ap (laid T r before) (members-first s p (left - 3))
+        ∙ laid-first T r before (memberAt s p) (membersFrom s (p + 12) (left - 3))
+        ∙ sym (ap (λ (t : Bool). (t && behind) && (follows T r before o && offsets)) (ends ∙ (λ i. endsBy (8 * size i) (spanOf T (flag i) (memberAt s p)))))
+
+    pub laying-bad : not x ≡ true → false ≡ membersOk T r
+    laying-bad e = sym (first ∙ ap (λ (t : Bool). (t && behind) && (follows T r before o && offsets)) (not-true x e))
+
+    module _ (good : not x ≡ false) {w v : ℕ} (word : w ≡ wordAt lowFirst s (p + 8)) (bit : v ≡ bitOffset f (withOffset w))
+        {k : ℕ} (kind : k ≡ kindOf r) {y : Bool} (test : y ≡ cond (eqb k UNION) (eqb 0 v) (leb before v)) where
+      same : v ≡ o
+      same = bit ∙ (λ i. bitOffset (flag i) (withOffset (word i)))
+
+      second : membersOk T r ≡ behind && (y && offsets)
+      second =
+          first
+          ∙ ap (λ (t : Bool). (t && behind) && (follows T r before o && offsets)) (not-false x good)
+          ∙ sym (ap (λ (t : Bool). behind && (t && offsets)) (test ∙ (λ i. cond (eqb (kind i) UNION) (eqb 0 (same i)) (leb before (same i)))))
+
+      pub laying-falls : not y ≡ true → false ≡ membersOk T r
+      laying-falls e = sym (second ∙ ap (λ (t : Bool). behind && (t && offsets)) (not-true y e) ∙ and-false behind)
+
+      pub laying-next : not y ≡ false → Laying T r s (p + 12) (left - 3) v
+      laying-next e =
+          record {
+            near = omega (arith, now .near);
+            rest =
+                second
+                ∙ ap (λ (t : Bool). behind && (t && offsets)) (not-false y e)
+                ∙ sym (ap (λ (b : ℕ). laid T r b (membersFrom s (p + 12) (left - 3))) same);
+          }

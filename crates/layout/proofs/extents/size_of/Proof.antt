@@ -1,0 +1,15 @@
+-- `layout::extents::size_of` meets its contract: the size question of the table that the index shows.
+-- Assumes nothing.
+use Rattle.layout.proofs.Measured.{measures}
+use borrow.Author.Needs.{needs}
+use Rattle.layout.proofs.extents.size_of.Statement.{statement}
+use Rattle.layout.proofs.extents.size_of.Tie as tie
+
+size-in-requires : tie.Need-size-in-requires
+size-in-requires c κs = search needs
+
+returns : tie.Need-returns
+returns c = measures (c .size-in .result) _ (c .size-in .ensures)
+
+pub size-of-spec : {M : Type 1} → statement M
+size-of-spec = tie.close (tie.spec size-in-requires returns)

@@ -1,0 +1,33 @@
+// Phase 6, report 15 of one type: by kind, the rule that speaks of it.
+use crate::extents::has_small_size;
+use crate::members::members_ok;
+use crate::parts::array_ok;
+use crate::parts::function_ok;
+use crate::parts::tag_ok;
+use crate::sections::section_ok;
+use paper::Place;
+use paper::TypeNo;
+use rows::kind_of;
+use views::View;
+use views::record_of;
+ghost use mathlib.Core.Path.{_≡_};
+ghost use Rattle.paper.specs.Layout.{layoutOk};
+ghost use Rattle.paper.specs.Table.{recordAt};
+ghost use Rattle.views.specs.Shown.{tableBy};
+
+// The layout of a type keeps to the rules.
+pub fn layout_ok<'a>(base: &'a [u8], b: &'a [u8], index: &[u32], view: View, t: TypeNo) -> bool
+    ensures { λ r. ⌜ r ≡ layoutOk (tableBy (now (base .entry)) (now (b .entry)) (now (index .entry)) view) (recordAt (tableBy (now (base .entry)) (now (b .entry)) (now (index .entry)) view) (t .0)) ⌝ }
+{
+    let bytes = record_of(base, b, index, view, t);
+    match kind_of(words::read(bytes, Place(4))) {
+        3 => array_ok(base, b, index, view, bytes),
+        4 => members_ok(base, b, index, view, bytes),
+        5 => members_ok(base, b, index, view, bytes),
+        12 => function_ok(base, b, index, view, bytes),
+        14 => has_small_size(base, b, index, view, TypeNo(words::read(bytes, Place(8)))),
+        15 => section_ok(base, b, index, view, bytes),
+        17 => tag_ok(base, b, index, view, bytes),
+        _ => true,
+    }
+}

@@ -1,0 +1,96 @@
+// Report 15, members: every span ends by the record's end; offsets do not fall in a struct and are 0 in a union.
+use crate::bases::base_record;
+use crate::extents::size_of;
+use paper::Place;
+use paper::Sized;
+use paper::TypeNo;
+use rows::flag_of;
+use rows::kind_of;
+use rows::tail_words;
+use spans::bit_offset;
+use spans::span_ends;
+use views::View;
+ghost use mathlib.Core.Path.{_≡_};
+ghost use mathlib.Core.Bool.{cond};
+ghost use Prim.Native.Nat.{_*_, _<_};
+ghost use lib.Dec.{eqb, leb};
+ghost use Rattle.spans.specs.Spanned.{memberAt};
+ghost use Rattle.paper.specs.Layout.{membersOk};
+ghost use Rattle.paper.specs.Reading.{recordIn};
+ghost use Rattle.paper.specs.Span.{endsBy, spanOf};
+ghost use Rattle.paper.specs.Word.{lowFirst};
+ghost use Rattle.views.specs.Shown.{tableBy};
+
+// The member whose words stand at a place ends by so many bytes.
+fn member_ok<'a>(
+    base: &'a [u8],
+    b: &'a [u8],
+    index: &[u32],
+    view: View,
+    bytes: &[u8],
+    at: Place,
+    flag: u32,
+    size: u32,
+) -> bool
+    requires { ⌜ (at .0 < 1000000) ⌝ }
+    ensures { λ r. ⌜ r ≡ endsBy (8 * size) (spanOf (tableBy (now (base .entry)) (now (b .entry)) (now (index .entry)) view) flag (memberAt (now (bytes .entry)) (at .0))) ⌝ }
+{
+    let p = at.0;
+    let second = p + 4;
+    let t = TypeNo(words::read(bytes, Place(second)));
+    let third = p + 8;
+    let offset = words::read(bytes, Place(third));
+    match size_of(base, b, index, view, t) {
+        Sized::Exact(s) => {
+            let under = base_record(base, b, index, view, t);
+            span_ends(under, flag, offset, s, 8 * (size as u64))
+        }
+        Sized::NoSize => false,
+        Sized::Overflow => false,
+        Sized::Lost => false,
+        Sized::TooFar => false,
+    }
+}
+
+// An offset behind another in a struct, or any in a union.
+fn follows(union: bool, before: u32, offset: u32) -> bool
+    ensures { λ r. ⌜ r ≡ cond union (eqb 0 offset) (leb before offset) ⌝ }
+{
+    if union {
+        return offset == 0;
+    }
+    before <= offset
+}
+
+// The members of a struct or a union. The words of the tail are counted, so that nothing is asked of its kind.
+pub(crate) fn members_ok<'a>(
+    base: &'a [u8],
+    b: &'a [u8],
+    index: &[u32],
+    view: View,
+    bytes: &[u8],
+) -> bool
+    ensures { λ r. ⌜ r ≡ membersOk (tableBy (now (base .entry)) (now (b .entry)) (now (index .entry)) view) (recordIn lowFirst (now (bytes .entry))) ⌝ }
+{
+    let info = words::read(bytes, Place(4));
+    let size = words::read(bytes, Place(8));
+    let flag = flag_of(info);
+    let kind = kind_of(info);
+    let mut p: u32 = 12;
+    let mut left = tail_words(info);
+    let mut before: u32 = 0;
+    while 3 <= left {
+        if !member_ok(base, b, index, view, bytes, Place(p), flag, size) {
+            return false;
+        }
+        let third = p + 8;
+        let offset = bit_offset(flag, words::read(bytes, Place(third)));
+        if !follows(kind == 5, before, offset) {
+            return false;
+        }
+        before = offset;
+        p += 12;
+        left -= 3;
+    }
+    true
+}

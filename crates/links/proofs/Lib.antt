@@ -1,0 +1,11 @@
+pub mod Holds
+pub mod Ways
+pub mod HeldTypes
+pub mod Searches
+pub mod Weights
+pub mod Following
+pub mod Roots
+pub mod BothSorts
+pub mod Trails
+pub mod Pointing
+pub mod Linking

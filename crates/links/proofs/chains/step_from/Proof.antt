@@ -1,0 +1,145 @@
+-- `links::chains::step_from` meets its contract: each answer is one of the ways that a step can go.
+-- Assumes nothing.
+use mathlib.Core.List.{[]}
+use mathlib.Core.Path.{_≡_, refl}
+use native.Mathlib.Omega.{arith}
+use denote.Ref.{now}
+use Rattle.paper.specs.Table.{recordAt}
+use Rattle.views.specs.Shown.{tableBy}
+use Rattle.links.specs.Holding.{heldFrom, NextHeld}
+use Rattle.links.specs.Search.{along, into, back}
+use Rattle.links.proofs.HeldTypes.{told, next-type, next-small, few-types}
+use borrow.Author.Needs.{needs}
+use Rattle.links.proofs.chains.step_from.Statement.{statement}
+use Rattle.links.proofs.chains.step_from.Tie as tie
+
+-- nothing is left of the type
+spent : (c : tie.After-enum-told) → let a = c .before .before .before .before .before .before .before .before .before .args in heldFrom (recordAt (tableBy (now (a .base)) (now (a .b)) (now (a .index)) (a .view)) (a .t .0)) (a .j) ≡ []
+spent c =
+    let h = c .before .before in
+    told _ (h .before .record-of .ensures .shows) (c .enum-told .given .1) (h .next-held .ensures)
+
+-- or a type is found
+found : (c : tie.After-u) → let a = c .before .before .before .before .before .before .before .before .before .args in NextHeld (recordAt (tableBy (now (a .base)) (now (a .b)) (now (a .index)) (a .view)) (a .t .0)) (a .j) (c .u .given .0 .0 .0) (c .u .given .0 .1 .0)
+found c =
+    let h = c .before .before in
+    told _ (h .before .record-of .ensures .shows) (c .u .given .1) (h .next-held .ensures)
+
+cast-from : tie.Need-cast-from
+cast-from c = search needs
+
+record-of-requires : tie.Need-record-of-requires
+record-of-requires c κs = search needs
+
+next-held-requires : tie.Need-next-held-requires
+next-held-requires c κs = search needs
+
+enum-told : tie.Need-enum-told
+enum-told c = search needs
+
+mul-mark : tie.Need-mul-mark
+mul-mark c = search needs
+
+slice-read-mark : tie.Need-slice-read-mark
+slice-read-mark c = search needs
+
+mul-work : tie.Need-mul-work
+mul-work c = search needs
+
+slice-write-work : tie.Need-slice-write-work
+slice-write-work c = search needs
+
+same-length : tie.Need-same-length
+same-length c = search needs
+
+returns : tie.Need-returns
+returns c = record { spent = spent (c .before .before); outer = c .if1 .taken; marked = refl }
+
+sub-way : tie.Need-sub-way
+sub-way c = search needs
+
+enum-known-u : tie.Need-enum-known-u
+enum-known-u c = search needs
+
+cast-to : tie.Need-cast-to
+cast-to c = search needs
+
+mul-mark-2 : tie.Need-mul-mark-2
+mul-mark-2 c = search needs
+
+slice-read-mark-2 : tie.Need-slice-read-mark-2
+slice-read-mark-2 c =
+    let a = c .before .before .before .before .before .before .before .before .before .before .before .before in
+    omega (arith, next-type (a .pre .0) (a .args .t .0) (found (c .before .before .before)), a .pre .0 .room)
+
+returns-2 : tie.Need-returns-2
+returns-2 c = along (found (c .before .before .before .before)) (c .if2 .taken) refl refl
+
+returns-3 : tie.Need-returns-3
+returns-3 c =
+    let f = c .before .before .before .before .before in
+    record { type = f .u .given .0 .0 .0; word = f .u .given .0 .1 .0; found = found f; seen = c .if3 .taken; unfinished = c .before .if2 .left }
+
+mul-work-2 : tie.Need-mul-work-2
+mul-work-2 c = search needs
+
+add-work : tie.Need-add-work
+add-work c = search needs
+
+add-work-2 : tie.Need-add-work-2
+add-work-2 c =
+    let f = c .before .before .before .before .before .before in
+    let a = f .before .before .before .before .before .before .before .before .before in
+    omega (arith, next-small (a .pre .0) (a .args .t .0) (found f), few-types (a .pre .0), a .pre .1 .high)
+
+mul-work-3 : tie.Need-mul-work-3
+mul-work-3 c = search needs
+
+slice-write-work-2 : tie.Need-slice-write-work-2
+slice-write-work-2 c =
+    let f = c .before .before .before .before .before .before in
+    let a = f .before .before .before .before .before .before .before .before .before in
+    omega (arith, next-type (a .pre .0) (a .args .t .0) (found f), a .pre .0 .room)
+
+same-length-2 : tie.Need-same-length-2
+same-length-2 c = search needs
+
+returns-4 : tie.Need-returns-4
+returns-4 c = back (spent (c .before .before)) (c .if1 .left) refl refl refl
+
+same-length-3 : tie.Need-same-length-3
+same-length-3 c = search needs
+
+returns-5 : tie.Need-returns-5
+returns-5 c = into (found (c .before .before .before .before .before .before)) (c .before .if3 .left) refl refl
+
+pub step-from-spec : {M : Type 1} → statement M
+step-from-spec =
+    tie.close
+    (tie.spec
+    cast-from
+    record-of-requires
+    next-held-requires
+    enum-told
+    mul-mark
+    slice-read-mark
+    mul-work
+    slice-write-work
+    same-length
+    returns
+    sub-way
+    enum-known-u
+    cast-to
+    mul-mark-2
+    slice-read-mark-2
+    returns-2
+    returns-3
+    mul-work-2
+    add-work
+    add-work-2
+    mul-work-3
+    slice-write-work-2
+    same-length-2
+    returns-4
+    same-length-3
+    returns-5)

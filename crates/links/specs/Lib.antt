@@ -1,0 +1,4 @@
+pub mod Holding
+pub mod Search
+pub mod Trail
+pub mod Links

@@ -1,0 +1,139 @@
+// Phase 5, the first sort of walk: by-value references are followed depth first, each once, with a mark for each type in the work slice.
+use crate::held::Held;
+use crate::held::next_held;
+use paper::TypeNo;
+use views::View;
+use views::record_of;
+ghost use mathlib.Core.Path.{_≡_};
+ghost use lib.ListN.{getD};
+ghost use Rattle.links.specs.Search.{AtRoot, Followable, Followed, OnWay, Stepped, Unsearched, ringAsPaper, ringsBy};
+ghost use Rattle.paper.specs.Chain.{heldBy};
+ghost use Rattle.paper.specs.Gate.{overTypes};
+ghost use Rattle.paper.specs.Table.{recordAt};
+ghost use Rattle.views.specs.Shown.{tableBy};
+
+// The smallest type that leads to a ring of some sort, if there is one.
+pub(crate) enum Ring {
+    Nowhere,
+    From(TypeNo),
+}
+
+// How the search goes on: at a word of a type; or a reference leads back into the way; or the root is finished.
+enum Step {
+    On(TypeNo, u32),
+    Met,
+    Finished,
+}
+
+// The mark of a type of which nothing is left. 0 is the mark of one not seen, 1 that of a root on its way.
+const DONE: u32 = 4294967295;
+
+// Any other mark is 1 + WORDS * the type that led here + the number of the word behind the reference. No record has as many words.
+const WORDS: u32 = 262144;
+
+// One step, from word j of type t on.
+fn step_from<'a>(
+    base: &'a [u8],
+    b: &'a [u8],
+    index: &[u32],
+    view: View,
+    t: TypeNo,
+    j: u32,
+    work: &mut [u32],
+) -> Step
+    requires { ⌜ Followable (tableBy (now base) (now b) (now index) view) (view .n) (now work) × OnWay (view .n) (t .0) (now work) ⌝ }
+    ensures { λ r. ⌜ Stepped (recordAt (tableBy (now (base .entry)) (now (b .entry)) (now (index .entry)) view) (t .0)) (now (work .entry)) (t .0) j (now (work .exit)) r ⌝ }
+{
+    let from = t.0 as usize;
+    match next_held(record_of(base, b, index, view, t), j) {
+        Held::Nothing => {
+            let mark = work[from];
+            work[from] = DONE;
+            if mark == 1 {
+                return Step::Finished;
+            }
+            let way = mark - 1;
+            Step::On(TypeNo(way / WORDS), way % WORDS)
+        }
+        Held::Found(u, k) => {
+            let to = u.0 as usize;
+            let mark = work[to];
+            if mark == DONE {
+                return Step::On(t, k);
+            }
+            if mark != 0 {
+                return Step::Met;
+            }
+            work[to] = 1 + t.0 * WORDS + k;
+            Step::On(u, 0)
+        }
+    }
+}
+
+// Whether a root that was not seen leads to a ring; if not, all that it leads to is done.
+fn follow<'a>(
+    base: &'a [u8],
+    b: &'a [u8],
+    index: &[u32],
+    view: View,
+    root: TypeNo,
+    work: &mut [u32],
+) -> bool
+    requires { ⌜ AtRoot (tableBy (now base) (now b) (now index) view) (view .n) (root .0) (now work) × (getD (now work) (root .0) 0 ≡ 0) ⌝ }
+    ensures { λ r. ⌜ Followed (heldBy (tableBy (now (base .entry)) (now (b .entry)) (now (index .entry)) view)) (view .n) (root .0) (now (work .exit)) r ⌝ }
+{
+    let mut t = root.0;
+    let mut j: u32 = 0;
+    work[t as usize] = 1;
+    loop {
+        match step_from(base, b, index, view, TypeNo(t), j, work) {
+            Step::On(u, k) => {
+                t = u.0;
+                j = k;
+            }
+            Step::Met => return true,
+            Step::Finished => return false,
+        }
+    }
+}
+
+// The same of any root.
+fn visit<'a>(
+    base: &'a [u8],
+    b: &'a [u8],
+    index: &[u32],
+    view: View,
+    root: TypeNo,
+    work: &mut [u32],
+) -> bool
+    requires { ⌜ AtRoot (tableBy (now base) (now b) (now index) view) (view .n) (root .0) (now work) ⌝ }
+    ensures { λ r. ⌜ Followed (heldBy (tableBy (now (base .entry)) (now (b .entry)) (now (index .entry)) view)) (view .n) (root .0) (now (work .exit)) r ⌝ }
+{
+    let at = root.0 as usize;
+    if work[at] != 0 {
+        return false;
+    }
+    follow(base, b, index, view, root, work)
+}
+
+// The smallest type that leads to a ring of this sort. Roots are taken in order, so that the first with a ring is the smallest.
+pub(crate) fn chains<'a>(
+    base: &'a [u8],
+    b: &'a [u8],
+    index: &[u32],
+    view: View,
+    work: &mut [u32],
+) -> Ring
+    requires { ⌜ Unsearched (tableBy (now base) (now b) (now index) view) (view .n) (now work) ⌝ }
+    ensures { λ r. ⌜ ringAsPaper (tableBy (now (base .entry)) (now (b .entry)) (now (index .entry)) view) r ≡ overTypes (ringsBy heldBy) (tableBy (now (base .entry)) (now (b .entry)) (now (index .entry)) view) ⌝ }
+{
+    let n = view.n;
+    let mut t: u32 = 0;
+    while t < n {
+        t += 1;
+        if visit(base, b, index, view, TypeNo(t), work) {
+            return Ring::From(TypeNo(t));
+        }
+    }
+    Ring::Nowhere
+}

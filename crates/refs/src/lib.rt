@@ -1,0 +1,193 @@
+// Phase 4, report 13: "a reference above n or to a forbidden kind". A record's words are gone over three at a time, each by its role.
+use paper::Place;
+use paper::TypeNo;
+use rows::entry_role;
+use rows::entry_words;
+use rows::is_known;
+use rows::kind_of;
+use rows::name_role;
+use rows::once_role;
+use rows::once_words;
+use rows::third_role;
+use rows::vlen_of;
+use views::View;
+use views::kind_at;
+ghost use mathlib.Core.Path.{_≡_};
+ghost use mathlib.Core.List.{[], _∷_};
+ghost use Prim.Native.Nat.{_<_, _≤_};
+ghost use Rattle.refs.specs.Refers.{refBy, refRuleOf};
+ghost use Rattle.paper.specs.Choice.{times};
+ghost use Rattle.paper.specs.Kind.{rowOf};
+ghost use Rattle.paper.specs.Reading.{recordIn, roled, tailRoled};
+ghost use Rattle.paper.specs.References.{isPlain, mayBeKind, refWordOk, refsOk};
+ghost use Rattle.paper.specs.Kind.{taggable};
+ghost use Rattle.paper.specs.Word.{lowFirst, wordAt};
+ghost use Rattle.rows.specs.Codes.{roleOf};
+ghost use Rattle.views.specs.Shown.{tableBy};
+
+// "Plain kinds are all but FUNC, VAR, DATASEC, DECL_TAG".
+fn is_plain(kind: u32) -> bool
+    ensures { λ r. ⌜ r ≡ isPlain kind ⌝ }
+{
+    if !is_known(kind) {
+        return false;
+    }
+    if kind == 14 {
+        return false;
+    }
+    match kind {
+        12 | 15 | 17 => false,
+        _ => true,
+    }
+}
+
+// "DECL_TAG: STRUCT, UNION, FUNC, VAR, TYPEDEF".
+fn is_taggable(kind: u32) -> bool
+    ensures { λ r. ⌜ r ≡ mayBeKind taggable kind ⌝ }
+{
+    if kind == 4 {
+        return true;
+    }
+    match kind {
+        5 | 8 | 12 | 14 => true,
+        _ => false,
+    }
+}
+
+// What a reference's rule asks of a type and its kind.
+fn by_rule(rule: u32, t: u32, kind: u32) -> bool
+    ensures { λ r. ⌜ r ≡ refBy (refRuleOf rule) t kind ⌝ }
+{
+    match rule {
+        0 => t == 0 || is_plain(kind),
+        1 => is_plain(kind),
+        2 => kind == 1,
+        3 => kind == 13,
+        4 => kind == 14,
+        _ => is_taggable(kind),
+    }
+}
+
+// The word at a place is of a role that is no reference, or a reference that its rule allows.
+fn word_ok<'a>(
+    base: &'a [u8],
+    b: &'a [u8],
+    index: &[u32],
+    view: View,
+    bytes: &[u8],
+    at: Place,
+    role: u32,
+) -> bool
+    ensures { λ r. ⌜ r ≡ refWordOk (tableBy (now (base .entry)) (now (b .entry)) (now (index .entry)) view) (roleOf role) (wordAt lowFirst (now (bytes .entry)) (at .0)) ⌝ }
+{
+    if role < 7 {
+        return true;
+    }
+    if 18 < role {
+        return true;
+    }
+    let t = words::read(bytes, at);
+    by_rule((role - 7) % 6, t, kind_at(base, b, index, view, TypeNo(t)))
+}
+
+// Three words from a place on.
+fn three_ok<'a>(
+    base: &'a [u8],
+    b: &'a [u8],
+    index: &[u32],
+    view: View,
+    bytes: &[u8],
+    at: Place,
+    r0: u32,
+    r1: u32,
+    r2: u32,
+) -> bool
+    requires { ⌜ at .0 < 1000000 ⌝ }
+    ensures { λ r. ⌜ r ≡ roled lowFirst (refWordOk (tableBy (now (base .entry)) (now (b .entry)) (now (index .entry)) view)) (now (bytes .entry)) (at .0) (roleOf r0 ∷ roleOf r1 ∷ roleOf r2 ∷ []) ⌝ }
+{
+    let p = at.0;
+    if !word_ok(base, b, index, view, bytes, at, r0) {
+        return false;
+    }
+    let second = p + 4;
+    if !word_ok(base, b, index, view, bytes, Place(second), r1) {
+        return false;
+    }
+    let third = p + 8;
+    word_ok(base, b, index, view, bytes, Place(third), r2)
+}
+
+// So many entries from a place on.
+fn entries_ok<'a>(
+    base: &'a [u8],
+    b: &'a [u8],
+    index: &[u32],
+    view: View,
+    bytes: &[u8],
+    at: Place,
+    kind: u32,
+    v: u32,
+) -> bool
+    requires { ⌜ (at .0 ≤ 24) × (v < 65536) ⌝ }
+    ensures { λ r. ⌜ r ≡ roled lowFirst (refWordOk (tableBy (now (base .entry)) (now (b .entry)) (now (index .entry)) view)) (now (bytes .entry)) (at .0) (times v (rowOf kind .each)) ⌝ }
+{
+    let step = 4 * entry_words(kind);
+    let r0 = entry_role(kind, 0);
+    let r1 = entry_role(kind, 1);
+    let r2 = entry_role(kind, 2);
+    let mut p = at.0;
+    let mut left = v;
+    while 0 < left {
+        if !three_ok(base, b, index, view, bytes, Place(p), r0, r1, r2) {
+            return false;
+        }
+        p += step;
+        left -= 1;
+    }
+    true
+}
+
+// The references of a tail, behind the head.
+fn tail_refs_ok<'a>(
+    base: &'a [u8],
+    b: &'a [u8],
+    index: &[u32],
+    view: View,
+    bytes: &[u8],
+    info: u32,
+) -> bool
+    ensures { λ r. ⌜ r ≡ tailRoled lowFirst (refWordOk (tableBy (now (base .entry)) (now (b .entry)) (now (index .entry)) view)) (now (bytes .entry)) info ⌝ }
+{
+    let kind = kind_of(info);
+    let r0 = once_role(kind, 0);
+    let r1 = once_role(kind, 1);
+    let r2 = once_role(kind, 2);
+    if !three_ok(base, b, index, view, bytes, Place(12), r0, r1, r2) {
+        return false;
+    }
+    let from = 12 + 4 * once_words(kind);
+    entries_ok(
+        base,
+        b,
+        index,
+        view,
+        bytes,
+        Place(from),
+        kind,
+        vlen_of(info),
+    )
+}
+
+// Every reference of the record keeps to the list.
+pub fn refs_ok<'a>(base: &'a [u8], b: &'a [u8], index: &[u32], view: View, bytes: &[u8]) -> bool
+    ensures { λ r. ⌜ r ≡ refsOk (tableBy (now (base .entry)) (now (b .entry)) (now (index .entry)) view) (recordIn lowFirst (now (bytes .entry))) ⌝ }
+{
+    let info = words::read(bytes, Place(4));
+    let kind = kind_of(info);
+    let r0 = name_role(kind);
+    let r2 = third_role(kind);
+    if !three_ok(base, b, index, view, bytes, Place(0), r0, 0, r2) {
+        return false;
+    }
+    tail_refs_ok(base, b, index, view, bytes, info)
+}

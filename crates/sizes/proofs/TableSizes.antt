@@ -1,0 +1,50 @@
+-- Laws of a size asked of the table that an index shows: any table, any type.
+-- Assumes nothing.
+use Prim.Native.Nat.{ℕ, _+_, _*_, _≤_}
+use mathlib.Core.Path.{_≡_, refl, sym, ap, _∙_}
+use mathlib.Core.List.{List}
+use native.Mathlib.Omega.{arith}
+use lib.ListN.{length, getD}
+use Rattle.sizes.specs.SizeStep.{cut, stepWords}
+use Rattle.sizes.proofs.Scales.{Left, left-all, sizeAnswer-cut}
+use Rattle.paper.proofs.gates.SizeAsked.{stepBy-same, rowOf-counts}
+use Rattle.paper.specs.Answer.{Answer}
+use Rattle.paper.specs.Kind.{rowOf}
+use Rattle.paper.specs.Reading.{recordIn}
+use Rattle.paper.specs.Size.{Step, Found, exactly, noneAt, lostAt, tooFar, scale, stepBy, sizeBy, stepIn, sizeFound, exactSize, answerOf}
+use Rattle.paper.specs.Table as table
+use Rattle.paper.specs.Table.{Record, Table, recordAt, kindIn, kindOf, tailLength}
+use Rattle.paper.specs.Word.{lowFirst, wordAt}
+use Rattle.rows.proofs.RecordWords.{getD-wordsFrom}
+
+-- ── what is told of what a walk finds: 21 and 22 are no size ──
+
+abbrev pub tellIn : Found → Answer
+tellIn x = answerOf (sizeFound x)
+
+pub tellIn-cut : (q : ℕ) (x : Found) → tellIn (scale (cut q) x) ≡ tellIn (scale q x)
+tellIn-cut q (exactly s) = sizeAnswer-cut q (exactly s)
+tellIn-cut q noneAt = refl
+tellIn-cut q lostAt = refl
+tellIn-cut q tooFar = refl
+
+pub left-shown : (T : Table) (t : ℕ) {n : ℕ} → n ≡ table.count T → Left tellIn (stepIn T) (answerOf (exactSize T t)) t 1 n
+unfolding exactSize
+left-shown T t e = left-all tellIn (stepIn T) (ap (λ (k : ℕ). tellIn (sizeBy (stepIn T) k t)) e)
+
+-- ── what a record says, from its words ──
+
+abbrev stepFor : Record → Step
+stepFor r = stepBy (rowOf (kindOf r) .size) (r .third) (getD (r .tail) 0 0) (getD (r .tail) 2 0)
+
+stepWords-record : (s : List ℕ) → stepWords s ≡ stepFor (recordIn lowFirst s)
+unfolding recordIn tailLength
+stepWords-record s =
+    let k = kindIn (wordAt lowFirst s 4) in
+    let long = tailLength (wordAt lowFirst s 4) in
+    stepBy-same (rowOf k .size) (length (rowOf k .once)) (rowOf-counts k) refl
+    (λ h. (sym (getD-wordsFrom s 12 long 0 (omega arith)), sym (getD-wordsFrom s 12 long 2 (omega arith))))
+
+pub stepIn-read : (T : Table) (t : ℕ) (s : List ℕ) → recordIn lowFirst s ≡ recordAt T t → {x : Step} → x ≡ stepWords s → x ≡ stepIn T t
+unfolding stepIn
+stepIn-read T t s is says = says ∙ stepWords-record s ∙ ap stepFor is

@@ -1,0 +1,126 @@
+// A member's span: which bits of a record it takes, and whether it ends in time. Sums are in 64 bits, since an offset and a span pass 2^32 together.
+use paper::Place;
+use rows::kind_of;
+ghost use mathlib.Core.Path.{_≡_};
+ghost use mathlib.Core.Bool.{not, _||_};
+ghost use mathlib.Core.List.{[], _∷_};
+ghost use lib.Dec.{eqb};
+ghost use Rattle.spans.specs.Spanned.{spanWith, withOffset};
+ghost use Rattle.paper.specs.Choice.{member};
+ghost use Rattle.paper.specs.KindNo.{ENUM, ENUM64, INT};
+ghost use Rattle.paper.specs.Reading.{recordIn};
+ghost use Rattle.paper.specs.Span.{bitOffset, endsBy, fieldSpan, isRegular, isRegularWord, plainSpan, wholeSpan};
+ghost use Rattle.paper.specs.Table.{kindOf};
+ghost use Rattle.paper.specs.Word.{lowFirst};
+
+// A width that a regular INT has.
+fn regular_width(w: u32) -> bool
+    ensures { λ r. ⌜ r ≡ member w (8 ∷ 16 ∷ 32 ∷ 64 ∷ 128 ∷ []) ⌝ }
+{
+    match w {
+        8 | 16 | 32 | 64 | 128 => true,
+        _ => false,
+    }
+}
+
+// The word of a regular INT.
+fn regular_word(w: u32) -> bool
+    ensures { λ r. ⌜ r ≡ isRegularWord w ⌝ }
+{
+    if w / 65536 % 256 != 0 {
+        return false;
+    }
+    regular_width(w % 256)
+}
+
+// A record is that of a regular INT.
+pub fn is_regular(s: &[u8]) -> bool
+    ensures { λ r. ⌜ r ≡ isRegular (recordIn lowFirst (now (s .entry))) ⌝ }
+{
+    if kind_of(words::read(s, Place(4))) != 1 {
+        return false;
+    }
+    regular_word(words::read(s, Place(12)))
+}
+
+// A base that a member of a record with kind_flag 1 may have.
+fn regular_or_other(s: &[u8]) -> bool
+    ensures { λ r. ⌜ r ≡ not (eqb (kindOf (recordIn lowFirst (now (s .entry)))) INT) || isRegular (recordIn lowFirst (now (s .entry))) ⌝ }
+{
+    if kind_of(words::read(s, Place(4))) != 1 {
+        return true;
+    }
+    is_regular(s)
+}
+
+// A kind that a field of some bits may be of.
+fn takes_field(kind: u32) -> bool
+    ensures { λ r. ⌜ r ≡ member kind (INT ∷ ENUM ∷ ENUM64 ∷ []) ⌝ }
+{
+    match kind {
+        1 | 6 | 19 => true,
+        _ => false,
+    }
+}
+
+// A member's own bit offset, by its offset word.
+pub fn bit_offset(flag: u32, offset: u32) -> u32
+    ensures { λ r. ⌜ r ≡ bitOffset flag (withOffset offset) ⌝ }
+{
+    if flag == 1 {
+        return offset % 16777216;
+    }
+    offset
+}
+
+// "8 times size from a multiple of 8", ended by a bit.
+fn whole_ends(from: u32, size: u32, end: u64) -> bool
+    ensures { λ r. ⌜ r ≡ endsBy end (wholeSpan from size) ⌝ }
+{
+    if from % 8 != 0 {
+        return false;
+    }
+    (from as u64) + 8 * (size as u64) <= end
+}
+
+// With kind_flag 0: an INT's own bits, or the whole of another base.
+fn plain_ends(bytes: &[u8], offset: u32, size: u32, end: u64) -> bool
+    ensures { λ r. ⌜ r ≡ endsBy end (plainSpan (recordIn lowFirst (now (bytes .entry))) (withOffset offset) size) ⌝ }
+{
+    if kind_of(words::read(bytes, Place(4))) != 1 {
+        return whole_ends(offset, size, end);
+    }
+    let w = words::read(bytes, Place(12));
+    (offset as u64) + ((w / 65536 % 256) as u64) + ((w % 256) as u64) <= end
+}
+
+// With kind_flag 1: the whole of a base, or a field of w bits.
+fn field_ends(bytes: &[u8], offset: u32, size: u32, end: u64) -> bool
+    ensures { λ r. ⌜ r ≡ endsBy end (fieldSpan (recordIn lowFirst (now (bytes .entry))) (withOffset offset) size) ⌝ }
+{
+    if !regular_or_other(bytes) {
+        return false;
+    }
+    let from = offset % 16777216;
+    let w = offset / 16777216 % 256;
+    if w == 0 {
+        return whole_ends(from, size, end);
+    }
+    if !takes_field(kind_of(words::read(bytes, Place(4)))) {
+        return false;
+    }
+    if 8 * (size as u64) < (w as u64) {
+        return false;
+    }
+    (from as u64) + (w as u64) <= end
+}
+
+// By kind_flag.
+pub fn span_ends(bytes: &[u8], flag: u32, offset: u32, size: u32, end: u64) -> bool
+    ensures { λ r. ⌜ r ≡ endsBy end (spanWith flag (recordIn lowFirst (now (bytes .entry))) offset size) ⌝ }
+{
+    if flag == 1 {
+        return field_ends(bytes, offset, size, end);
+    }
+    plain_ends(bytes, offset, size, end)
+}
