@@ -68,7 +68,7 @@ fn joined_in_both_groupings() {
     assert_eq!(sizes(&left, &[2 + 37 + 9]), [SizeAnswer::Exact(64)]);
 }
 
-/// The line of the program `tables` on one table.
+/// The line of tests/tables.stdout on one table.
 fn line(name: &str, blob: &[u8]) -> String {
     let count = gate(blob).expect("accepted");
     let types: Vec<u32> = (1..=count).collect();
@@ -83,23 +83,15 @@ fn line(name: &str, blob: &[u8]) -> String {
     text + "\n"
 }
 
-/// What `tables` must write, by these rules; and it reads the same tables.
+/// What the tool must say of them, by these rules: tests/launcher compares it.
 #[test]
-fn the_program_agrees() {
+fn the_tool_agrees() {
     let mut text = String::new();
     for name in TABLES {
-        let blob = example(name);
-        assert_eq!(file(&format!("crates/tables/data/{name}")), blob);
-        text += &line(name, &blob);
-        let same = format!("{} bytes, the same\n", blob.len());
-        text += &format!("the empty table and {name}: {same}");
-        text += &format!("{name} and the empty table: {same}");
+        text += &line(name, &example(name));
     }
     let [x, y, z, _] = TABLES.map(example);
-    let all = joined(&joined(&x, &y), &z);
-    text += "(blade supplier_a) supplier_b and blade (supplier_a supplier_b): ";
-    text += &format!("{} bytes, the same\n", all.len());
-    text += &line("all three", &all);
-    let wrote = file("crates/tables/stdout");
-    assert_eq!(String::from_utf8(wrote).expect("text"), text);
+    text += &line("three.btf", &joined(&joined(&x, &y), &z));
+    let said = file("tests/tables.stdout");
+    assert_eq!(String::from_utf8(said).expect("text"), text);
 }

@@ -1,7 +1,7 @@
 // Report 11: "a name breaks the list". A record's words are gone over three at a time, each by its role.
-use crate::idents::Spelt;
-use crate::idents::identifier;
-use crate::idents::section_name;
+use idents::Spelt;
+use idents::identifier;
+use idents::section_name;
 use paper::NameOff;
 use paper::Place;
 use rows::entry_role;

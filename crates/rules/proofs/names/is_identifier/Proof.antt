@@ -4,8 +4,8 @@ use mathlib.Core.Path.{_≡_, sym, ap, _∙_}
 use denote.Ref.{now}
 use Rattle.paper.specs.Choice.{isSome}
 use Rattle.paper.specs.Name.{nameIn, isIdentifier}
-use Rattle.rules.specs.declared.idents.Spelt.{Spelt}
-use Rattle.rules.specs.Parts.{speltAsPaper}
+use Rattle.idents.specs.declared.Spelt.{Spelt}
+use Rattle.idents.specs.Spelling.{speltAsPaper}
 use borrow.Author.Needs.{needs}
 use Rattle.rules.proofs.names.is_identifier.Statement.{statement}
 use Rattle.rules.proofs.names.is_identifier.Tie as tie

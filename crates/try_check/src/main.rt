@@ -1,4 +1,0 @@
-// The tool on a table that is refused.
-fn main() {
-    tool::run();
-}

@@ -1,4 +1,0 @@
-// The tool joins two tables.
-fn main() {
-    tool::run();
-}

@@ -1,4 +1,0 @@
-// The tool asked for a name.
-fn main() {
-    tool::run();
-}

@@ -1,4 +1,0 @@
-// The tool asked for a size.
-fn main() {
-    tool::run();
-}
