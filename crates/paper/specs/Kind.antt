@@ -46,7 +46,8 @@ row f v t r n o e s =
 abbrev nought : Values
 nought = oneOf (0 ∷ [])
 
--- a kind that the paper does not know, and void: nothing is asked of it and it has no size
+-- the row of kind 0, which void and a number above the count read as, and of 20 to 31, which report 7 has refused before a rule asks:
+-- no word of it is a name or a reference, and it has no size
 abbrev unknown : Row
 unknown = row nought nought free number offset0 [] [] noSize
 
@@ -60,29 +61,25 @@ unfoldable pub rows : List Row
 rows =
     unknown
     --  kind_flag, vlen, third word and its role, name, tail once, tail per entry, size
-    -- INT, PTR, ARRAY, STRUCT, UNION, ENUM
-    ∷ row nought nought (oneOf (1 ∷ 2 ∷ 4 ∷ 8 ∷ 16 ∷ [])) number anyName (number ∷ []) [] sizeWord
-    ∷ row nought nought free (refers voidOrPlain) offset0 [] [] eight
-    ∷ row nought nought nought number offset0 (holds plain ∷ refers anInt ∷ number ∷ []) [] countTimes
-    ∷ row free free free number offset0OrIdentifier [] member sizeWord
-    ∷ row free free free number offset0OrIdentifier [] member sizeWord
-    ∷ row free free (oneOf (1 ∷ 2 ∷ 4 ∷ 8 ∷ [])) number offset0OrIdentifier [] (names identifier ∷ number ∷ []) sizeWord
-    -- FWD, TYPEDEF, VOLATILE, CONST, RESTRICT
-    ∷ row free nought nought number identifier [] [] noSize
-    ∷ aliasTo identifier nought
-    ∷ aliasTo offset0 nought
-    ∷ aliasTo offset0 nought
-    ∷ aliasTo offset0 nought
-    -- FUNC, whose vlen is its linkage; FUNC_PROTO; VAR; DATASEC; FLOAT
-    ∷ row nought (oneOf (0 ∷ 1 ∷ [])) free (refers aProto) identifier [] [] noSize
-    ∷ row nought free free (refers voidOrPlain) offset0 [] (names offset0OrIdentifier ∷ refers voidOrPlain ∷ []) noSize
-    ∷ row nought nought free (holds plain) identifier (number ∷ []) [] referent
-    ∷ row nought free free number sectionName [] (refers aVar ∷ number ∷ number ∷ []) sizeWord
-    ∷ row nought nought (oneOf (2 ∷ 4 ∷ 8 ∷ 12 ∷ 16 ∷ [])) number anyName [] [] sizeWord
-    -- DECL_TAG, TYPE_TAG, ENUM64
-    ∷ row free nought free (refers taggable) nonEmpty (number ∷ []) [] noSize
-    ∷ aliasTo nonEmpty free
-    ∷ row free free (oneOf (1 ∷ 2 ∷ 4 ∷ 8 ∷ [])) number offset0OrIdentifier [] (names identifier ∷ number ∷ number ∷ []) sizeWord
+    ∷ row nought nought (oneOf (1 ∷ 2 ∷ 4 ∷ 8 ∷ 16 ∷ [])) number anyName (number ∷ []) [] sizeWord  -- INT
+    ∷ row nought nought free (refers voidOrPlain) offset0 [] [] eight  -- PTR
+    ∷ row nought nought nought number offset0 (holds plain ∷ refers anInt ∷ number ∷ []) [] countTimes  -- ARRAY
+    ∷ row free free free number offset0OrIdentifier [] member sizeWord  -- STRUCT
+    ∷ row free free free number offset0OrIdentifier [] member sizeWord  -- UNION
+    ∷ row free free (oneOf (1 ∷ 2 ∷ 4 ∷ 8 ∷ [])) number offset0OrIdentifier [] (names identifier ∷ number ∷ []) sizeWord  -- ENUM
+    ∷ row free nought nought number identifier [] [] noSize  -- FWD
+    ∷ aliasTo identifier nought  -- TYPEDEF
+    ∷ aliasTo offset0 nought  -- VOLATILE
+    ∷ aliasTo offset0 nought  -- CONST
+    ∷ aliasTo offset0 nought  -- RESTRICT
+    ∷ row nought (oneOf (0 ∷ 1 ∷ [])) free (refers aProto) identifier [] [] noSize  -- FUNC, whose vlen is its linkage
+    ∷ row nought free free (refers voidOrPlain) offset0 [] (names offset0OrIdentifier ∷ refers voidOrPlain ∷ []) noSize  -- FUNC_PROTO
+    ∷ row nought nought free (holds plain) identifier (number ∷ []) [] referent  -- VAR
+    ∷ row nought free free number sectionName [] (refers aVar ∷ number ∷ number ∷ []) sizeWord  -- DATASEC
+    ∷ row nought nought (oneOf (2 ∷ 4 ∷ 8 ∷ 12 ∷ 16 ∷ [])) number anyName [] [] sizeWord  -- FLOAT
+    ∷ row free nought free (refers taggable) nonEmpty (number ∷ []) [] noSize  -- DECL_TAG
+    ∷ aliasTo nonEmpty free  -- TYPE_TAG
+    ∷ row free free (oneOf (1 ∷ 2 ∷ 4 ∷ 8 ∷ [])) number offset0OrIdentifier [] (names identifier ∷ number ∷ number ∷ []) sizeWord  -- ENUM64
     ∷ []
 
 unfoldable pub rowOf : ℕ → Row
