@@ -38,9 +38,9 @@ fn tell(n: Numbers, answer: &mut [u32])
 fn named(blob: &[u8], at: NameOff) -> Numbers
     ensures { λ n. ⌜ asPaper n ≡ partAnswer (now (blob .entry)) (at .0) ⌝ }
 {
-    let part = scan::part(blob, at);
+    let part = header::part(blob, at);
     let mut number: u32 = 0;
-    if scan::nameless(blob, at) {
+    if header::nameless(blob, at) {
         number = 1;
     }
     Numbers {

@@ -49,7 +49,7 @@ pub fn put_many(buf: &mut [u8; ROOM], o: Out, n: u64, one: &[u8], many: &[u8]) -
 
 // The name at an offset, with a space before it; nothing where it is empty.
 fn put_name(buf: &mut [u8; ROOM], o: Out, blob: &[u8], at: NameOff) -> Out {
-    let name = scan::name(blob, at);
+    let name = header::name(blob, at);
     if name.len() == 0 {
         return o;
     }

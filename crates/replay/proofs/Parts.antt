@@ -5,7 +5,7 @@ use mathlib.Core.List.{List}
 use native.Mathlib.Omega.{arith}
 use lib.ListN.{length}
 use Rattle.paper.specs.Name.{nameAt}
-use Rattle.scan.proofs.Scans.{nameAt-inside}
+use Rattle.header.proofs.Scans.{nameAt-inside}
 
 pub nameAt-short : (b : List ℕ) (off : ℕ) → length (nameAt b off) ≤ length b
 nameAt-short b off = omega (arith, nameAt-inside b off)

@@ -75,9 +75,9 @@ fn name(x: u32, a: &[u8], index: &[u32], work: &[u32]) -> Seen
     requires { ⌜ length (now a) < 4294967296 ⌝ }
     ensures { λ s. ⌜ s ≡ seenWith (named (now (a .entry)) x) (now (index .entry)) (now (work .entry)) (nameAt (now (a .entry)) x) ⌝ }
 {
-    let part = scan::name(a, NameOff(x));
+    let part = header::name(a, NameOff(x));
     let p = part.len() as u32;
-    if scan::nameless(a, NameOff(x)) {
+    if header::nameless(a, NameOff(x)) {
         return seen(plain(1, p), index, work, part);
     }
     seen(plain(0, p), index, work, part)

@@ -28,10 +28,10 @@ pub(crate) fn put_word(buf: &mut [u8; ROOM], o: Out, blob: &[u8], at: usize) -> 
 // "name offset N: the name".
 pub(crate) fn put_offset(buf: &mut [u8; ROOM], o: Out, blob: &[u8], at: NameOff) -> Out {
     let o = put_with(buf, o, b"name offset ", at.0 as u64);
-    if scan::nameless(blob, at) {
+    if header::nameless(blob, at) {
         return put(buf, o, b", past the strings");
     }
-    let name = scan::name(blob, at);
+    let name = header::name(blob, at);
     if name.len() == 0 {
         return put(buf, o, b", empty");
     }

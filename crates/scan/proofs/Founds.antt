@@ -11,7 +11,7 @@ use lib.Dec.{ltb}
 use Rattle.paper.proofs.gates.Acceptance.{silent-readable, readable-walk}
 use Rattle.paper.proofs.basics.Answers.{report-one}
 use Rattle.paper.proofs.basics.Choices.{or-left, or-right, false-or}
-use Rattle.paper.proofs.gates.Gates.{orElse-none, naming-none, some≢none}
+use Rattle.paper.proofs.gates.Gates.{orElse-none, naming-none, some≢none, some-one}
 use Rattle.paper.specs.Answer.{Answer, report, reportAsPaper}
 use Rattle.paper.specs.Choice.{_when_, firstDue, orElse}
 use Rattle.paper.specs.Gate.{naming, phase1, phase2, shortSlices}
@@ -21,14 +21,14 @@ use Rattle.paper.specs.Table.{count}
 use Rattle.paper.specs.Walk.{walk, tableOf}
 use Rattle.paper.specs.declared.Report.{Report}
 use Rattle.scan.proofs.Findings.{headerReport-section, counted-phase2, refused-phase2, counted-count}
-use Rattle.scan.specs.Header.{HeaderOf, SectionsOf}
+use Rattle.header.specs.Header.{HeaderOf, SectionsOf}
 use Rattle.scan.specs.Phase2.{TypeSection, counted, refused, findingOf, walkedAsPaper, WalkDone}
 use Rattle.scan.specs.Scan.{scanReport, CountOf, FoundOf, indexAfter, ScanOf}
 use Rattle.scan.specs.declared.found.Scanned.{Scanned}
 use Rattle.scan.specs.declared.found.Scanned.the-variants.{Counted, Refused}
-use Rattle.scan.specs.declared.header.Header.{Header}
-use Rattle.scan.specs.declared.header.Header.the-variants.{Good, Bad}
-use Rattle.scan.specs.declared.header.Sections.{Sections}
+use Rattle.header.specs.declared.first.Header.{Header}
+use Rattle.header.specs.declared.first.Header.the-variants.{Good, Bad}
+use Rattle.header.specs.declared.first.Sections.{Sections}
 use Rattle.scan.specs.declared.walk.Walked.{Walked}
 use Rattle.scan.specs.declared.walk.Walked.the-variants.{Whole, Stopped}
 
@@ -113,9 +113,6 @@ found-one (Counted n) (Counted m) b places work h k = ap Counted (h .counts ∙ 
 found-one (Counted n) (Refused r) b places work h k = absurd (some≢none (sym k ∙ h .silent))
 found-one (Refused r) (Counted n) b places work h k = absurd (some≢none (sym h ∙ k .silent))
 found-one (Refused r) (Refused q) b places work h k = ap Refused (report-one r q (some-one (sym h ∙ k)))
-  where
-    some-one : {x y : Answer} → _≡_ {A = Option Answer} (some x) (some y) → x ≡ y
-    some-one e = cc
 
 pub scan-one : {s s′ : Scanned} {b : List ℕ} {places work : ℕ} {index index′ : List ℕ} → ScanOf s b places work index → ScanOf s′ b places work index′
     → (s ≡ s′) × (index ≡ index′)

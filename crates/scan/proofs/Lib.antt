@@ -1,10 +1,7 @@
-pub mod Headers
 pub mod Left
 pub mod WalkSteps
 pub mod Progress
 pub mod Findings
 pub mod Written
 pub mod Placing
-pub mod Scans
 pub mod Founds
-pub mod Ones

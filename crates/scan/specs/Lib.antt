@@ -1,4 +1,2 @@
-pub mod Header
-pub mod Part
 pub mod Phase2
 pub mod Scan

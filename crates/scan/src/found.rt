@@ -1,10 +1,9 @@
 // Phases 1 and 2 together, of any blob and any places lent: reports 1 to 9, and the index that is left.
-use crate::header;
-use crate::header::Header;
 use crate::places::places;
 use crate::slices::clear;
 use crate::walk::Walked;
 use crate::walk::walk;
+use header::Header;
 use paper::Report;
 ghost use lib.ListN.{length};
 ghost use Rattle.scan.specs.Scan.{FoundOf, ScanOf};

@@ -54,7 +54,7 @@ fn is_there(ask: Ask, blob: &[u8], n: u32) -> bool {
         Ask::All => true,
         Ask::One(t) => t <= n,
         Ask::Size(t) => t <= n,
-        Ask::Name(at) => !scan::nameless(blob, NameOff(at)),
+        Ask::Name(at) => !header::nameless(blob, NameOff(at)),
     }
 }
 
@@ -98,7 +98,7 @@ fn put_sized(buf: &mut [u8; ROOM], o: Out, blob: &[u8], index: &[u32], t: u32) -
 }
 
 fn put_string(buf: &mut [u8; ROOM], o: Out, blob: &[u8], at: u32) -> Out {
-    let o = put_escaped(buf, o, scan::name(blob, NameOff(at)));
+    let o = put_escaped(buf, o, header::name(blob, NameOff(at)));
     put(buf, o, b"\n")
 }
 

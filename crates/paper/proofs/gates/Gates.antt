@@ -33,6 +33,9 @@ some≢none {A} {a} e = let z : _≡_ {A = ℕ} 0 1 = ap {A = Option A} isNone e
     isNone none = 1
     isNone (some x) = 0
 
+pub some-one : {A : Type 0} {x y : A} → _≡_ {A = Option A} (some x) (some y) → x ≡ y
+some-one e = cc
+
 module _ {A : Type 0} where
   pub orElse-none : (a b : Option A) → orElse a b ≡ none → (a ≡ none) × (b ≡ none)
   orElse-none none b e = (refl, e)

@@ -1,0 +1,21 @@
+-- What phase 1 in code finds, in the paper's words.
+use Prim.Native.Nat.{ℕ}
+use mathlib.Core.Path.{_≡_}
+use mathlib.Core.List.{List}
+use mathlib.Core.Option.{none, some}
+use Rattle.header.specs.declared.first.Header.{Header}
+use Rattle.header.specs.declared.first.Header.the-variants.{Good, Bad}
+use Rattle.header.specs.declared.first.Sections.{Sections}
+use Rattle.paper.specs.Answer.{reportAsPaper}
+use Rattle.paper.specs.Gate.{phase1}
+use Rattle.paper.specs.Header.{typeLen, strLen}
+
+-- phase 1 has nothing to say, and how long the two sections are
+pub record SectionsOf (s : Sections) (b : List ℕ) : Type 0 where
+  pub silent : phase1 b ≡ none
+  pub types : s .types ≡ typeLen b
+  pub strings : s .strings ≡ strLen b
+
+abbrev pub HeaderOf : Header → List ℕ → Type 0
+HeaderOf (Good s) b = SectionsOf s b
+HeaderOf (Bad r) b = phase1 b ≡ some (reportAsPaper r)

@@ -1,0 +1,123 @@
+// Phase 1, reports 1 to 5: the header and the string section, of any bytes. A test for each report.
+use paper::Place;
+use paper::Report;
+ghost use mathlib.Core.Path.{_≡_};
+ghost use lib.ListN.{getD};
+ghost use Rattle.header.specs.Header.{HeaderOf};
+ghost use Rattle.paper.specs.Header.{lengthBad, openingBad, headerLengthBad, sectionsBad, stringsBad};
+
+// How long the two sections behind a good header are.
+pub struct Sections {
+    pub types: u32,
+    pub strings: u32,
+}
+
+// What phase 1 finds: both sections, or a report.
+pub enum Header {
+    Good(Sections),
+    Bad(Report),
+}
+
+// Report 1: too short or too long.
+fn length_bad(b: &[u8]) -> bool
+    ensures { λ r. ⌜ r ≡ lengthBad (now (b .entry)) ⌝ }
+{
+    if b.len() < 24 {
+        return true;
+    }
+    65536 < b.len()
+}
+
+// Report 2: magic, version and flags.
+fn opening_bad(b: &[u8]) -> bool
+    ensures { λ r. ⌜ r ≡ openingBad (now (b .entry)) ⌝ }
+{
+    if b.len() < 4 {
+        return true;
+    }
+    if b[0] != 0x9f {
+        return true;
+    }
+    if b[1] != 0xeb {
+        return true;
+    }
+    if b[2] != 1 {
+        return true;
+    }
+    b[3] != 0
+}
+
+// Report 3: the header's own length.
+fn header_length_bad(b: &[u8]) -> bool
+    ensures { λ r. ⌜ r ≡ headerLengthBad (now (b .entry)) ⌝ }
+{
+    words::read(b, Place(4)) != 24
+}
+
+// Report 4: the sections stand one behind the other and fill the blob. The sum is exact: 64 bits hold it.
+fn sections_bad(b: &[u8]) -> bool
+    ensures { λ r. ⌜ r ≡ sectionsBad (now (b .entry)) ⌝ }
+{
+    let type_len = words::read(b, Place(12));
+    let str_len = words::read(b, Place(20));
+    if words::read(b, Place(8)) != 0 {
+        return true;
+    }
+    if type_len % 4 != 0 {
+        return true;
+    }
+    if words::read(b, Place(16)) != type_len {
+        return true;
+    }
+    24 + type_len as usize + str_len as usize != b.len()
+}
+
+// The byte at a place, 0 outside.
+fn byte(b: &[u8], at: usize) -> u8
+    ensures { λ r. ⌜ r ≡ getD (now (b .entry)) at 0 ⌝ }
+{
+    if at < b.len() {
+        return b[at];
+    }
+    0
+}
+
+// Report 5: there are strings, and their first and last byte is zero.
+fn strings_bad(b: &[u8]) -> bool
+    ensures { λ r. ⌜ r ≡ stringsBad (now (b .entry)) ⌝ }
+{
+    let from = 24 + words::read(b, Place(12)) as usize;
+    let len = words::read(b, Place(20)) as usize;
+    if len == 0 {
+        return true;
+    }
+    if byte(b, from) != 0 {
+        return true;
+    }
+    byte(b, from + (len - 1)) != 0
+}
+
+// Phase 1: the smallest report that is due, else the lengths of the sections.
+pub fn read(b: &[u8]) -> Header
+    ensures { λ r. ⌜ HeaderOf r (now (b .entry)) ⌝ }
+{
+    if length_bad(b) {
+        return Header::Bad(Report::Length);
+    }
+    if opening_bad(b) {
+        return Header::Bad(Report::Opening);
+    }
+    if header_length_bad(b) {
+        return Header::Bad(Report::HeaderLength);
+    }
+    if sections_bad(b) {
+        return Header::Bad(Report::Sections);
+    }
+    if strings_bad(b) {
+        return Header::Bad(Report::Strings);
+    }
+    Header::Good(Sections {
+        types: words::read(b, Place(12)),
+        strings: words::read(b, Place(20)),
+    })
+}
