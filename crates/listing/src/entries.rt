@@ -3,7 +3,6 @@ use crate::kinds::put_entry_name;
 use crate::kinds::put_many;
 use crate::kinds::put_type;
 use crate::members::put_member;
-use crate::records::info_of;
 use crate::records::long_entry;
 use crate::records::short_entry;
 use lines::Out;
@@ -13,6 +12,7 @@ use lines::put_wide;
 use lines::put_with;
 use paper::Place;
 use rows::flag_of;
+use rows::info_of;
 use rows::kind_of;
 
 // A number of 64 bits, signed where the flag says so.

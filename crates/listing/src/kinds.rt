@@ -1,6 +1,4 @@
 // A type as it is named in a line: number, kind and name; and a number with its word.
-use crate::records::info_of;
-use crate::records::name_of;
 use crate::records::record_of;
 use lines::Out;
 use lines::ROOM;
@@ -10,8 +8,10 @@ use lines::put_escaped;
 use lines::put_number;
 use lines::put_wide;
 use paper::NameOff;
+use rows::info_of;
 use rows::is_known;
 use rows::kind_of;
+use rows::name_of;
 
 // The kind's name.
 pub fn put_kind(buf: &mut [u8; ROOM], o: Out, kind: u32) -> Out {

@@ -5,9 +5,7 @@ use crate::kinds::put_many;
 use crate::kinds::put_type;
 use crate::records::base_of;
 use crate::records::fourth_of;
-use crate::records::info_of;
 use crate::records::long_entry;
-use crate::records::name_of;
 use crate::records::record_of;
 use lines::Out;
 use lines::ROOM;
@@ -17,7 +15,9 @@ use paper::Place;
 use paper::Sized;
 use paper::TypeNo;
 use rows::flag_of;
+use rows::info_of;
 use rows::kind_of;
+use rows::name_of;
 use rows::vlen_of;
 
 // How deep members without a name are followed, and how many lines one gets below it: a small table can nest without measure.

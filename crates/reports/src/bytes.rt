@@ -5,7 +5,7 @@ use lines::line;
 use lines::put;
 use lines::put_hex;
 use lines::put_wide;
-use listing::rest_from;
+use words::rest_from;
 
 // How many of five columns a place leaves blank.
 fn blanks(at: usize) -> u32 {

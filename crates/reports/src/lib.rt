@@ -1,6 +1,6 @@
 // What a report means, and the bytes that it is about.
 mod bytes; // a line of bytes
-mod header; // the header's bytes
+mod fields; // the header, field by field
 mod heads; // a record's head, word by word
 mod marked; // the bytes of a record that a report names
 mod records; // where the type section ends

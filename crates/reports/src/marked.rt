@@ -10,12 +10,12 @@ use lines::Out;
 use lines::ROOM;
 use lines::put;
 use lines::put_with;
-use listing::info_of;
 use listing::put_many;
-use listing::rest_from;
 use paper::Place;
+use rows::info_of;
 use rows::kind_of;
 use rows::tail_words;
+use words::rest_from;
 
 // How many words behind a head are shown at most.
 const MOST: u32 = 24;

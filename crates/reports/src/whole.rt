@@ -1,5 +1,5 @@
 // What a report means, in words, and the bytes that it is about.
-use crate::header::put_header;
+use crate::fields::put_header;
 use crate::marked::put_marked;
 use crate::records::types_of;
 use answers::Numbers;
@@ -9,7 +9,7 @@ use lines::line;
 use lines::put;
 use lines::put_with;
 use listing::put_record;
-use listing::rest_from;
+use words::rest_from;
 
 fn put_meaning(buf: &mut [u8; ROOM], o: Out, number: u32) -> Out {
     let meanings = b"\n\

@@ -1,10 +1,14 @@
 // What an info word says, and the row of each kind: what its head may hold, the role of each word, where its size comes from.
+mod firsts; // the words of a head
 mod heads; // what a head may hold
 mod info; // the parts of an info word
 mod kinds; // kinds that a rule takes together
 mod roles; // the role of each word
 mod table; // the kinds' rows
 
+pub use firsts::info_of;
+pub use firsts::name_of;
+pub use firsts::third_of;
 pub use heads::flag_allowed;
 pub use heads::third_allowed;
 pub use heads::vlen_allowed;

@@ -1,4 +1,4 @@
-// Words of 32 bits at a place of a slice, and the shift of a number by its kind.
+// Words of 32 bits at a place of a slice, the bytes from a place on, and the shift of a number by its kind.
 // Total: a word that is not wholly inside reads as 0 and is not written.
 use paper::NameOff;
 use paper::Place;
@@ -7,6 +7,7 @@ ghost use mathlib.Core.Path.{_≡_};
 ghost use Prim.Native.Nat.{_%_};
 ghost use Rattle.paper.specs.Rename.{raise};
 ghost use Rattle.paper.specs.Word.{lowFirst, wordOf, wordAt, putWord};
+ghost use Rattle.words.specs.Rest.{RestOf};
 
 // The word of four bytes.
 fn compose(a: u8, b: u8, c: u8, d: u8) -> u32
@@ -24,6 +25,16 @@ pub fn read(b: &[u8], at: Place) -> u32
         return 0;
     }
     compose(b[p], b[p + 1], b[p + 2], b[p + 3])
+}
+
+// The bytes from a place on; none where the place is past the end.
+pub fn rest_from(s: &[u8], at: usize) -> &[u8]
+    ensures { λ r. ⌜ RestOf r (s .entry) at ⌝ }
+{
+    if s.len() < at {
+        return &s[..0];
+    }
+    &s[at..]
 }
 
 // The word is put at a place.

@@ -6,8 +6,8 @@ use lines::line;
 use lines::put;
 use lines::put_with;
 use listing::put_many;
-use listing::rest_from;
 use paper::Place;
+use words::rest_from;
 
 // What stands between so many bytes and their name: as much as makes four of them.
 fn put_gap(buf: &mut [u8; ROOM], o: Out, n: usize) -> Out {

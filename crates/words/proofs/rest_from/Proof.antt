@@ -1,4 +1,4 @@
--- `listing::records::rest_from` meets its contract: past the end there is nothing, at the first byte.
+-- `words::rest_from` meets its contract: past the end there is nothing, at the first byte.
 -- Assumes nothing.
 use Prim.Native.Nat.{ℕ, _+_, _-_, _≤_, _<_}
 use mathlib.Core.Path.{_≡_, sym, ap, _∙_}
@@ -9,11 +9,11 @@ use borrow.Author.Tests.{lt-ltb, le-ltb}
 use denote.Ref.{RefT, now, ptr}
 use lib.ListN.{length, drop}
 use lib.Seq.{drop-length, drop-nil, drop-drop}
-use Rattle.listing.specs.Rest.{restStart}
+use Rattle.words.specs.Rest.{restStart}
 use Rattle.paper.proofs.bytes.Bytes.{part-rest}
 use borrow.Author.Needs.{needs}
-use Rattle.listing.proofs.records.rest_from.Statement.{statement}
-use Rattle.listing.proofs.records.rest_from.Tie as tie
+use Rattle.words.proofs.rest_from.Statement.{statement}
+use Rattle.words.proofs.rest_from.Tie as tie
 
 past : (s : List ℕ) (p : ℕ) → length s ≤ p → [] ≡ drop p s
 past s p h =
