@@ -1,10 +1,10 @@
 // Phase 6, report 15 of one type: by kind, the rule that speaks of it.
-use crate::extents::has_small_size;
 use crate::members::members_ok;
 use crate::parts::array_ok;
 use crate::parts::function_ok;
 use crate::parts::tag_ok;
 use crate::sections::section_ok;
+use crate::sized::has_small_size;
 use paper::Place;
 use paper::TypeNo;
 use rows::kind_of;

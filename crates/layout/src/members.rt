@@ -1,6 +1,6 @@
 // Report 15, members: every span ends by the record's end; offsets do not fall in a struct and are 0 in a union.
 use crate::bases::base_record;
-use crate::extents::size_of;
+use crate::sized::size_of;
 use paper::Place;
 use paper::Sized;
 use paper::TypeNo;

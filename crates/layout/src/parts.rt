@@ -1,5 +1,5 @@
 // Report 15, arrays, functions and tags.
-use crate::extents::has_size;
+use crate::sized::has_size;
 use paper::Place;
 use paper::TypeNo;
 use rows::kind_of;

@@ -1,5 +1,5 @@
 // Report 15, the layout of a DATASEC. Sums are in 64 bits, since an entry's offset and size pass 2^32 together.
-use crate::extents::covers;
+use crate::sized::covers;
 use paper::Place;
 use paper::TypeNo;
 use rows::tail_words;

@@ -1,7 +1,7 @@
 // Runs the cases of a vector file on standard input: a line for each that differs, and a last line that counts.
 // The committed input is made by `second vectors --large --edges --thin --seed 1 --cases 1000 --small`.
 mod cases; // what a case lends and passes, and what must be seen
-mod lines; // what is written
+mod says; // what is written
 mod ops; // a function for each op
 mod sums; // the fill and the sum of a lent slice
 mod tally; // what becomes of a case, and the count
@@ -28,7 +28,7 @@ fn judge(k: u32, is_room: bool, op: u32, must: Seen, ran: Ran) -> Outcome
     match ran {
         Ran::Unknown => {
             if is_room {
-                lines::unknown(k, op);
+                says::unknown(k, op);
             }
             Outcome::Differed
         }
@@ -37,7 +37,7 @@ fn judge(k: u32, is_room: bool, op: u32, must: Seen, ran: Ran) -> Outcome
                 return Outcome::Agreed;
             }
             if is_room {
-                lines::differs(k, op, must, seen);
+                says::differs(k, op, must, seen);
             }
             Outcome::Differed
         }
@@ -155,12 +155,12 @@ fn replay(
         match turn {
             Turn::Ran(o) => tally = tally.counted(o),
             Turn::Cut => {
-                lines::cut(k);
+                says::cut(k);
                 tally = tally.stopped();
                 last = k;
             }
             Turn::Large => {
-                lines::large(k);
+                says::large(k);
                 tally = tally.stopped();
                 last = k;
             }
@@ -192,10 +192,10 @@ fn run(total: u32) -> Tally {
 fn close(t: Tally) {
     if t.is_whole {
         if !cases::is_end() {
-            lines::more();
+            says::more();
         }
     }
-    lines::last(t);
+    says::last(t);
 }
 
 fn main() {
@@ -203,11 +203,11 @@ fn main() {
     match opening {
         Opening::Cases(n) => close(run(n)),
         Opening::Foreign => {
-            lines::foreign();
+            says::foreign();
             close(Tally::new().stopped());
         }
         Opening::Cut => {
-            lines::cut_opening();
+            says::cut_opening();
             close(Tally::new().stopped());
         }
     }

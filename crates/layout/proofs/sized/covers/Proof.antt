@@ -1,12 +1,12 @@
--- `layout::extents::covers` meets its contract: an answer for each case of the size question.
+-- `layout::sized::covers` meets its contract: an answer for each case of the size question.
 -- Assumes nothing.
 use native.Mathlib.Omega.{arith}
 use denote.Ref.{now}
 use Rattle.views.specs.Shown.{tableBy}
 use Rattle.layout.proofs.Measured.{covers-told}
 use borrow.Author.Needs.{needs}
-use Rattle.layout.proofs.extents.covers.Statement.{statement}
-use Rattle.layout.proofs.extents.covers.Tie as tie
+use Rattle.layout.proofs.sized.covers.Statement.{statement}
+use Rattle.layout.proofs.sized.covers.Tie as tie
 
 size-of-requires : tie.Need-size-of-requires
 size-of-requires c κs = search needs

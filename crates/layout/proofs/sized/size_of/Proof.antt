@@ -1,9 +1,9 @@
--- `layout::extents::size_of` meets its contract: the size question of the table that the index shows.
+-- `layout::sized::size_of` meets its contract: the size question of the table that the index shows.
 -- Assumes nothing.
 use Rattle.layout.proofs.Measured.{measures}
 use borrow.Author.Needs.{needs}
-use Rattle.layout.proofs.extents.size_of.Statement.{statement}
-use Rattle.layout.proofs.extents.size_of.Tie as tie
+use Rattle.layout.proofs.sized.size_of.Statement.{statement}
+use Rattle.layout.proofs.sized.size_of.Tie as tie
 
 size-in-requires : tie.Need-size-in-requires
 size-in-requires c κs = search needs

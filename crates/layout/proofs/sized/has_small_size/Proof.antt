@@ -1,11 +1,11 @@
--- `layout::extents::has_small_size` meets its contract: an answer for each case of the size question.
+-- `layout::sized::has_small_size` meets its contract: an answer for each case of the size question.
 -- Assumes nothing.
 use denote.Ref.{now}
 use Rattle.views.specs.Shown.{tableBy}
 use Rattle.layout.proofs.Measured.{hasSmallSize-told}
 use borrow.Author.Needs.{needs}
-use Rattle.layout.proofs.extents.has_small_size.Statement.{statement}
-use Rattle.layout.proofs.extents.has_small_size.Tie as tie
+use Rattle.layout.proofs.sized.has_small_size.Statement.{statement}
+use Rattle.layout.proofs.sized.has_small_size.Tie as tie
 
 size-of-requires : tie.Need-size-of-requires
 size-of-requires c κs = search needs
