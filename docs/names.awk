@@ -15,7 +15,7 @@ FNR == 1 {
 function declared(name) { any[name]; at[FILENAME, name]; at[folder, file, name] }
 
 # the words in front of the first colon, where nothing but names stands there; the name of a record or data type
-FILENAME ~ /\.antt$|judge\.txt$/ {
+FILENAME ~ /\.antt$|judge(_limits)?\.txt$/ {
     if (/^benches =/) inBenches = 1
     if (/^$/) inBenches = 0
     if (inBenches && /^    ∷ /) benches++   # the last has no bench, the first no ∷

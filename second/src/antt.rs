@@ -1,17 +1,23 @@
 //! Cases written as text for a checker that computes them by itself.
 
-use crate::vectors::{run, Case, Seen, CHECK, SIZE};
+use crate::names::is_identifier;
+use crate::vectors::{run, Case, Seen, CHECK, NAME, SIZE};
 
 /// What stands before the first list: the names it leans on, and how a case
 /// is held against the definitions.
 const HEADER: &str = include_str!("judge.txt");
 
-const CASES_IN_A_LIST: usize = 25;
+/// Cases that the checker builds itself, since they are too long to write.
+const LIMITS: &str = include_str!("judge_limits.txt");
 
-/// The whole file: lists of at most 25 cases, cases1, cases2 and so on.
-pub fn file(cases: &[Case]) -> String {
+/// The whole file: lists of at most so many cases, cases1, cases2 and so on,
+/// behind the long ones, if those are wanted.
+pub fn file(cases: &[Case], in_a_list: usize, with_limits: bool) -> String {
     let mut text = HEADER.to_string();
-    for (before, group) in cases.chunks(CASES_IN_A_LIST).enumerate() {
+    if with_limits {
+        text.push_str(&format!("\n{LIMITS}"));
+    }
+    for (before, group) in cases.chunks(in_a_list).enumerate() {
         let lines: Vec<String> = group.iter().map(line).collect();
         text.push_str(&named_list(before + 1, &lines));
     }
@@ -48,6 +54,15 @@ fn line(case: &Case) -> String {
     format!("case {}", parts.join(" "))
 }
 
+/// How many bytes a name has that is an identifier, else 0.
+fn identifier_length(case: &Case, seen: &Seen) -> u32 {
+    if case.op == NAME && is_identifier(&seen.output) {
+        seen.p
+    } else {
+        0
+    }
+}
+
 /// The five lists of a case. The index is the lent one for a size question,
 /// which is then not written as bytes of b, and the one afterwards for a
 /// check; the output is the one afterwards, or a name's part.
@@ -62,6 +77,7 @@ fn parts(case: &Case, seen: &Seen) -> [Vec<u32>; 5] {
         seen.inner,
         seen.t,
         seen.p,
+        identifier_length(case, seen),
     ];
     let wide = |bytes: &[u8]| {
         bytes

@@ -1,13 +1,14 @@
 //! The command line of the second implementation of paper 01.
 //!
 //!     second vectors --seed S --cases N [--ops 1,2,3,4] [--small|--long] [--only R]
-//!     second antt    --seed S --cases N [--ops 1,2,3,4] [--only R]
+//!     second antt    --seed S --cases N [--ops 1,2,3,4] [--only R] [--each]
 //!     second census  --seed S --cases N [--ops 1,2,3,4] [--small|--long]
 //!     second check FILE
 //!     second changed FILE
 //!
 //! With `--edges` the first three put the fixed cases of every rule's edges in
-//! front; without a count, those are all. `--large` puts the fixed large tables
+//! front; without a count, those are all, and with `--part NAME` one part of
+//! them. `--large` puts the fixed large tables
 //! before them, `--names` every byte at every place of a name. With `--thin`
 //! fewer of the edges and the large are crossed with each other.
 //! A seed's cases are mostly small, with some at the limits; with `--small` no
@@ -23,11 +24,12 @@ use std::process::ExitCode;
 
 const USAGE: &str = "\
 second vectors --seed S --cases N [--ops 1,2,3,4] [--small|--long] [--only R]
-second antt    --seed S --cases N [--ops 1,2,3,4] [--only R]
+second antt    --seed S --cases N [--ops 1,2,3,4] [--only R] [--each]
 second census  --seed S --cases N [--ops 1,2,3,4] [--small|--long]
 second check FILE
 second changed FILE
 (--edges: the fixed cases of every rule's edges in front, and nothing else without --cases;
+--part NAME: one part of them; --each: each case in a list of its own;
 --large: the fixed large tables before them; --thin: fewer of both crossed with each other;
 --names: every byte at every place of a name before the edges;
 --small: no limit is reached; --long: checks and joins of long tables only)";
@@ -50,18 +52,26 @@ fn act(arguments: &[String]) -> Result<Vec<u8>, String> {
     let (command, rest) = arguments.split_first().ok_or(USAGE)?;
     match command.as_str() {
         "vectors" => Ok(vectors::file(&cases(&wanted(rest)?))),
-        "antt" => {
-            let wanted = Wanted {
-                scale: Scale::Tiny,
-                ..wanted(rest)?
-            };
-            Ok(second::antt::file(&cases(&wanted)).into_bytes())
-        }
+        "antt" => antt(rest),
         "census" => Ok(census(&cases(&wanted(rest)?)).into_bytes()),
         "check" => judge_file(rest.first().ok_or(USAGE)?),
         "changed" => changed_answers(rest.first().ok_or(USAGE)?),
         _ => Err(USAGE.to_string()),
     }
+}
+
+/// Cases as text, in lists of 25, or with `--each` each by itself. The part
+/// `limits` is those that the text builds itself.
+fn antt(arguments: &[String]) -> Result<Vec<u8>, String> {
+    let (each, rest): (Vec<String>, Vec<String>) =
+        arguments.iter().cloned().partition(|word| word == "--each");
+    let wanted = Wanted {
+        scale: Scale::Tiny,
+        ..wanted(&rest)?
+    };
+    let in_a_list = if each.is_empty() { 25 } else { 1 };
+    let with_limits = wanted.part.as_deref().is_none_or(|part| part == "limits");
+    Ok(second::antt::file(&cases(&wanted), in_a_list, with_limits).into_bytes())
 }
 
 fn wanted(arguments: &[String]) -> Result<Wanted, String> {
@@ -72,6 +82,7 @@ fn wanted(arguments: &[String]) -> Result<Wanted, String> {
         scale: Scale::Full,
         only: None,
         edges: false,
+        part: None,
         thin: false,
         large: false,
         names: false,
@@ -83,6 +94,10 @@ fn wanted(arguments: &[String]) -> Result<Wanted, String> {
             continue;
         }
         let value = rest.next().ok_or(USAGE)?;
+        if argument == "--part" {
+            wanted.part = Some(value.clone());
+            continue;
+        }
         let numbers: Result<Vec<u64>, _> = value.split(',').map(str::parse).collect();
         let numbers = numbers.map_err(|_| format!("not a number: {value}"))?;
         match argument.as_str() {

@@ -20,6 +20,7 @@ fn wanted(seed: u64, cases: usize) -> Wanted {
         scale: Scale::Full,
         only: None,
         edges: false,
+        part: None,
         thin: false,
         large: false,
         names: false,

@@ -202,6 +202,7 @@ fn generated_places_are_those_of_the_named_types() {
         scale: Scale::Small,
         only: None,
         edges: false,
+        part: None,
         thin: false,
         large: false,
         names: false,

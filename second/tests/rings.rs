@@ -3,6 +3,7 @@
 mod common;
 
 use common::*;
+use second::generate::edges;
 use second::generate::edges_pointers::*;
 use second::make::Make;
 use second::table::Kind;
@@ -189,9 +190,8 @@ fn fixed_tables() {
 
 #[test]
 fn fixed_joins() {
-    let mut found = Vec::new();
-    cases(&mut found);
-    found.retain(|case| case.op == JOIN);
+    let found = edges::cases_of("chain-joins", false);
+    assert!(found.iter().all(|case| case.op == JOIN));
     let seen: Vec<_> = found.iter().map(run).collect();
     let refused_with = |number: u32| {
         seen.iter()

@@ -85,6 +85,7 @@ impl Run {
             scale,
             only: None,
             edges: fixed,
+            part: None,
             thin: false,
             large: fixed,
             names: false,

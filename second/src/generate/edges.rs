@@ -1,45 +1,77 @@
 //! The rules one by one at their edges, without chance: every bit of an info
 //! word, every byte of a name, every reference to every kind.
 
-use crate::generate::{edges_joins, edges_layout, edges_names};
-use crate::generate::{edges_pointers, edges_questions, edges_walks};
+use crate::generate::{edges_faults, edges_joins, edges_layout, edges_names, edges_offsets};
+use crate::generate::{edges_pointers, edges_questions, edges_sections, edges_walks};
 use crate::make::{blob_of, info, int_word, put_word, Make};
 use crate::reference::references;
 use crate::table::{Kind, ALL_KINDS};
 use crate::vectors::{Case, CHECK};
 use std::collections::HashSet;
 
-/// All of them, in a fixed order, each once. Thinned, every rule keeps its
-/// edges, and fewer of them are crossed with each other.
+/// A part of the edges: its name, and what adds its cases. Thinned, every rule
+/// keeps its edges, and fewer of them are crossed with each other.
+pub type Part = (&'static str, fn(&mut Vec<Case>, bool));
+
+const PARTS: &[Part] = &[
+    ("headers", |found, _| headers(found)),
+    ("slices", |found, _| slices(found)),
+    ("heads", |found, _| each_kind(found, heads)),
+    ("cut", |found, _| each_kind(found, cut_tails)),
+    ("references", |found, _| each_kind(found, turned_references)),
+    ("int", |found, _| int_tails(found)),
+    ("parameters", |found, _| linkages_and_parameters(found)),
+];
+
+/// All of them, in a fixed order, each once.
 pub fn cases(thin: bool) -> Vec<Case> {
-    let mut found = Vec::new();
-    headers(&mut found);
-    for kind in ALL_KINDS {
-        heads(&mut found, kind);
-        cut_tails(&mut found, kind);
-        edges_names::names(&mut found, kind);
-        turned_references(&mut found, kind);
-    }
-    edges_names::name_bytes(&mut found, thin);
-    edges_names::name_lengths(&mut found);
-    edges_names::unnamed_members(&mut found);
-    int_tails(&mut found);
-    linkages_and_parameters(&mut found);
-    edges_walks::cases(&mut found);
-    edges_pointers::cases(&mut found);
-    edges_layout::cases(&mut found, thin);
-    edges_questions::cases(&mut found);
-    edges_joins::cases(&mut found);
+    in_parts(thin).into_iter().map(|(_, case)| case).collect()
+}
+
+/// Those of one part.
+pub fn cases_of(part: &str, thin: bool) -> Vec<Case> {
+    let all = in_parts(thin).into_iter();
+    all.filter(|(name, _)| *name == part)
+        .map(|(_, case)| case)
+        .collect()
+}
+
+/// Each with the name of its part.
+pub fn in_parts(thin: bool) -> Vec<(&'static str, Case)> {
+    let parts = [
+        PARTS,
+        edges_names::PARTS,
+        edges_faults::PARTS,
+        edges_walks::PARTS,
+        edges_pointers::PARTS,
+        edges_layout::PARTS,
+        edges_offsets::PARTS,
+        edges_sections::PARTS,
+        edges_questions::PARTS,
+        edges_joins::PARTS,
+    ];
     let mut met = HashSet::new();
-    found.retain(|case| met.insert(case.clone()));
-    found
+    let mut all = Vec::new();
+    for (name, add_cases) in parts.into_iter().flatten() {
+        let mut found = Vec::new();
+        add_cases(&mut found, thin);
+        found.retain(|case| met.insert(case.clone()));
+        all.extend(found.into_iter().map(|case| (*name, case)));
+    }
+    all
+}
+
+pub fn each_kind(found: &mut Vec<Case>, add_cases: fn(&mut Vec<Case>, Kind)) {
+    for kind in ALL_KINDS {
+        add_cases(found, kind);
+    }
 }
 
 pub fn add(found: &mut Vec<Case>, m: &Make) {
     add_blob(found, m.blob(), m.count() + 1);
 }
 
-fn add_blob(found: &mut Vec<Case>, a: Vec<u8>, places: u32) {
+pub fn add_blob(found: &mut Vec<Case>, a: Vec<u8>, places: u32) {
     found.push(Case {
         op: CHECK,
         index_places: places,
@@ -92,7 +124,7 @@ fn add_one(m: &mut Make, kind: Kind) -> u32 {
 }
 
 /// Each header word, a little and a lot off; each length up to 25; string
-/// sections that begin or end wrongly.
+/// sections that begin or end wrongly; lengths whose sum is too large.
 fn headers(found: &mut Vec<Case>) {
     let blob = one_of(Kind::Ptr).blob();
     for place in (0..24).step_by(4) {
@@ -109,22 +141,32 @@ fn headers(found: &mut Vec<Case>) {
     for strings in [&[][..], &[0], &[1], &[0, 0], &[1, 0], &[0, 1], &[0, 1, 0]] {
         add_blob(found, blob_of(&[], strings), 1);
     }
-    for places in 0..8 {
-        let case = Case {
-            op: CHECK,
-            a: blob.clone(),
-            ..Case::default()
-        };
-        found.push(Case {
-            index_places: places,
-            work_places: 7,
-            ..case.clone()
-        });
-        found.push(Case {
-            index_places: 7,
-            work_places: places,
-            ..case
-        });
+    // sums that are right in 32 bits only
+    for type_len in [1 << 31, u32::MAX - 23, u32::MAX - 3, 128] {
+        let mut turned = blob.clone();
+        let left = (blob.len() as u32 - 24).wrapping_sub(type_len);
+        for (place, word) in [(12, type_len), (16, type_len), (20, left)] {
+            put_word(&mut turned, place, word);
+        }
+        add_blob(found, turned, 6);
+    }
+}
+
+/// Each slice with no place, with too few and with enough, of a table of five
+/// types and of the empty one, which needs one place too.
+fn slices(found: &mut Vec<Case>) {
+    for a in [one_of(Kind::Ptr).blob(), Make::new().blob()] {
+        for places in 0..8 {
+            for (index_places, work_places) in [(places, 7), (7, places)] {
+                found.push(Case {
+                    op: CHECK,
+                    index_places,
+                    work_places,
+                    a: a.clone(),
+                    ..Case::default()
+                });
+            }
+        }
     }
 }
 

@@ -1,7 +1,7 @@
 //! Joins at their edges, without chance: every kind behind every other, each
 //! word by its role, every report inside 16 and 17, each length of the output.
 
-use crate::generate::edges::one_of;
+use crate::generate::edges::{one_of, Part};
 use crate::make::{blob_of, field, info, put_word, Make};
 use crate::table::{Kind, ALL_KINDS};
 use crate::vectors::{run, Case, JOIN};
@@ -9,12 +9,16 @@ use crate::vectors::{run, Case, JOIN};
 /// Every report that a table of a few types can get by itself.
 pub const SMALL_REPORTS: [u32; 13] = [1, 2, 3, 4, 5, 6, 7, 10, 11, 12, 13, 14, 15];
 
-pub fn cases(found: &mut Vec<Case>) {
-    kinds(found);
-    roles(found);
-    refusals(found);
-    short_slices(found);
-    outputs(found);
+pub const PARTS: &[Part] = &[
+    ("joined-kinds", |found, _| kinds(found)),
+    ("roles", |found, _| roles(found)),
+    ("refusals", |found, _| refusals(found)),
+    ("short-slices", |found, _| short_slices(found)),
+    ("outputs", |found, _| outputs(found)),
+    ("groups", |found, _| groups(found)),
+];
+
+fn groups(found: &mut Vec<Case>) {
     for [a, b, c] in triples() {
         found.extend(grouped(&a, &b, &c, 12));
     }

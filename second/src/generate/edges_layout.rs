@@ -1,33 +1,42 @@
 //! The layout rules of report 15 at their edges, without chance.
 
-use crate::generate::edges::add;
-use crate::make::{field, Make};
+use crate::generate::edges::{add, Part};
+use crate::make::{field, int_word, Make};
 use crate::table::Kind;
 use crate::vectors::Case;
 
+pub const PARTS: &[Part] = &[
+    ("members", |found, thin| bases(found, thin, members)),
+    ("fields", |found, thin| bases(found, thin, fields)),
+    ("elements", |found, _| elements(found)),
+    ("none-of", |found, _| none_of(found)),
+    ("indexes", |found, _| indexes(found)),
+    ("encodings", |found, _| encodings(found)),
+    ("components", |found, _| components(found)),
+];
+
 /// Thinned, each base is tried bare and behind one of the five layers, and
 /// bare with fewer sizes around it.
-pub fn cases(found: &mut Vec<Case>, thin: bool) {
+fn bases(found: &mut Vec<Case>, thin: bool, add_cases: fn(&mut Vec<Case>, u32, u32, bool)) {
     for base in 0..BASES {
         for layers in 0..=5 {
             if !thin || layers == 0 || layers == 1 + base % 5 {
-                members_with_flag_0(found, base, layers, thin);
-                members_with_flag_1(found, base, layers, thin);
+                add_cases(found, base, layers, thin);
             }
         }
-        elements_and_vars(found, base);
     }
-    orders(found);
-    indexes(found);
-    components(found);
-    sections(found);
-    section_variables(found, thin);
 }
 
-const BASES: u32 = 17;
+fn elements(found: &mut Vec<Case>) {
+    for base in 0..BASES {
+        elements_and_vars(found, base);
+    }
+}
+
+pub const BASES: u32 = 17;
 
 /// Bases of every nature; all tables have a name at 1 and an INT as type 1.
-fn base(m: &mut Make, which: u32) -> u32 {
+pub fn base(m: &mut Make, which: u32) -> u32 {
     let name = m.string("n");
     let int = m.int(1);
     match which {
@@ -91,7 +100,8 @@ fn first(all: &[u32], count: usize, thin: bool) -> &[u32] {
     }
 }
 
-fn members_with_flag_0(found: &mut Vec<Case>, which: u32, layers: u32, thin: bool) {
+/// Without kind_flag.
+fn members(found: &mut Vec<Case>, which: u32, layers: u32, thin: bool) {
     let sizes = first(&[1, 0, 2, 3, 8, 9], 4, thin);
     for offset in some(&[0, 1, 2, 4, 7, 8], layers) {
         for bytes in some(sizes, layers) {
@@ -106,7 +116,8 @@ fn members_with_flag_0(found: &mut Vec<Case>, which: u32, layers: u32, thin: boo
     }
 }
 
-fn members_with_flag_1(found: &mut Vec<Case>, which: u32, layers: u32, thin: bool) {
+/// With kind_flag.
+fn fields(found: &mut Vec<Case>, which: u32, layers: u32, thin: bool) {
     let sizes = first(&[1, 2, 0, 8, 9], 3, thin);
     for width in [0, 1, 7, 8, 9, 16, 17] {
         for offset in some(&[0, 1, 8], layers) {
@@ -137,25 +148,43 @@ fn elements_and_vars(found: &mut Vec<Case>, which: u32) {
     add(found, &m);
 }
 
-/// Pairs of offsets that rise, stand and fall.
-fn orders(found: &mut Vec<Case>) {
-    for flag in [false, true] {
-        for kind in [Kind::Struct, Kind::Union] {
-            for first in [0, 1, 7, 8, 9] {
-                for last in [0, 1, 7, 8, 9] {
-                    let widths = if flag { [3, 1] } else { [0, 0] };
-                    let mut m = Make::new();
-                    let of = base(&mut m, 0);
-                    let members = [
-                        [1, of, field(widths[0], first)],
-                        [1, of, field(widths[1], last)],
-                    ];
-                    m.listed(kind, flag, 0, 4, &members);
-                    add(found, &m);
-                }
+/// Type 1 holds type 3, which is no, one or two elements of type 4, and so
+/// does the VAR behind them. Where type 4 has no size, type 3 has none either,
+/// and the smallest type that asks for one is named.
+fn none_of(found: &mut Vec<Case>) {
+    for holder in 0..6 {
+        for count in 0..3 {
+            for element in 0..6 {
+                let mut m = Make::new();
+                m.string("n");
+                add_holder(&mut m, holder);
+                m.int(4);
+                m.array(4, 2, count);
+                match element {
+                    0 => m.bare(Kind::Fwd, 1, 0, &[]),
+                    1 => m.proto(0, &[]),
+                    2 => m.constant(0),
+                    3 => m.array(6, 2, 0),
+                    4 => m.structure(u32::MAX, false, &[]),
+                    _ => m.int(1),
+                };
+                m.var(1, 3);
+                m.bare(Kind::Fwd, 1, 0, &[]);
+                add(found, &m);
             }
         }
     }
+}
+
+fn add_holder(m: &mut Make, which: u32) {
+    match which {
+        0 => m.structure(0, false, &[[1, 3, 0]]),
+        1 => m.union(8, false, &[[1, 3, 0]]),
+        2 => m.structure(2, true, &[[1, 3, 0]]),
+        3 => m.var(1, 3),
+        4 => m.array(3, 2, 0),
+        _ => m.section(1, 0, &[[5, 0, 0]]),
+    };
 }
 
 /// Index INTs of every width, in their first two offsets.
@@ -168,6 +197,22 @@ fn indexes(found: &mut Vec<Case>) {
                 m.array(1, 1, 2);
                 add(found, &m);
             }
+        }
+    }
+}
+
+/// A regular INT of each encoding as an index and as a bit field's base: the
+/// sign is not asked. Its width is as its size or narrower.
+fn encodings(found: &mut Vec<Case>) {
+    for encoding in [0, 1, 2, 4] {
+        for bytes in [1, 2] {
+            let mut m = Make::new();
+            m.string("n");
+            m.bare(Kind::Int, 0, bytes, &[int_word(encoding, 0, 8)]);
+            m.array(1, 1, 2);
+            add(found, &m);
+            m.structure(2, true, &[[1, 1, field(3, 1)], [1, 1, field(0, 8)]]);
+            add(found, &m);
         }
     }
 }
@@ -185,66 +230,6 @@ fn components(found: &mut Vec<Case>) {
             m.proto(0, &[[1, of], [1, of], [0, 0]]);
             m.tag(1, target, component);
             add(found, &m);
-        }
-    }
-}
-
-/// Two entries of a one-byte variable around each other and the end.
-fn sections(found: &mut Vec<Case>) {
-    for bytes in [0, 1, 2, 3, 4] {
-        for first in [
-            [0, 0],
-            [0, 1],
-            [1, 1],
-            [0, 2],
-            [2, 1],
-            [u32::MAX, 1],
-            [u32::MAX, 2],
-        ] {
-            for last in [
-                [0, 1],
-                [1, 1],
-                [2, 1],
-                [1, 2],
-                [3, 0],
-                [u32::MAX, 1],
-                [2, u32::MAX],
-            ] {
-                let mut m = Make::new();
-                let of = base(&mut m, 0);
-                let var = m.var(1, of);
-                let entries = [[var, first[0], first[1]], [var, last[0], last[1]]];
-                m.section(1, bytes, &entries);
-                add(found, &m);
-            }
-        }
-    }
-}
-
-/// Variables of every nature, before and behind their section; 0-byte ones
-/// too, whose entries may be empty. Thinned, behind in sections of one size.
-fn section_variables(found: &mut Vec<Case>, thin: bool) {
-    for which in 0..BASES {
-        for entry in [0, 1, 2, 8, u32::MAX] {
-            for bytes in [0, 1, 2, u32::MAX] {
-                let mut m = Make::new();
-                let of = base(&mut m, which);
-                let var = m.var(1, of);
-                m.section(1, bytes, &[[var, 0, entry], [var, entry, 0]]);
-                m.section(1, bytes, &[[var, 0, entry]]);
-                add(found, &m);
-                if thin && bytes != 1 {
-                    continue;
-                }
-                m.records.swap(var as usize - 1, var as usize);
-                for number in [var, var + 2] {
-                    m.at(number)
-                        .tail
-                        .chunks_mut(3)
-                        .for_each(|entry| entry[0] = var + 1);
-                }
-                add(found, &m);
-            }
         }
     }
 }

@@ -1,12 +1,19 @@
 //! The rules on names, report 11, at their edges, without chance.
 
-use crate::generate::edges::{add, one_of};
+use crate::generate::edges::{add, each_kind, one_of, Part};
 use crate::make::{int_word, Make};
 use crate::table::{Kind, ALL_KINDS};
 use crate::vectors::Case;
 
+pub const PARTS: &[Part] = &[
+    ("names", |found, _| each_kind(found, names)),
+    ("name-bytes", name_bytes),
+    ("name-lengths", |found, _| each_kind(found, name_lengths)),
+    ("unnamed-members", |found, _| unnamed_members(found)),
+];
+
 /// Every word that can be a name, at every offset and past the strings.
-pub fn names(found: &mut Vec<Case>, kind: Kind) {
+fn names(found: &mut Vec<Case>, kind: Kind) {
     let words = 3 + one_of(kind).records[4].tail.len();
     for at in (0..words).filter(|at| *at == 0 || *at > 2) {
         for offset in (0..6).chain([1 << 31, u32::MAX]) {
@@ -22,7 +29,7 @@ pub fn names(found: &mut Vec<Case>, kind: Kind) {
 
 /// Every byte as the only, the first and a later byte of a name. Thinned,
 /// every 17th where the rule does not look at bytes.
-pub fn name_bytes(found: &mut Vec<Case>, thin: bool) {
+fn name_bytes(found: &mut Vec<Case>, thin: bool) {
     for kind in [Kind::Fwd, Kind::Datasec, Kind::TypeTag, Kind::Int] {
         let step = match kind {
             Kind::TypeTag | Kind::Int if thin => 17,
@@ -43,25 +50,23 @@ pub fn name_bytes(found: &mut Vec<Case>, thin: bool) {
 }
 
 /// Names of 126 to 129 letters, of records and of entries.
-pub fn name_lengths(found: &mut Vec<Case>) {
-    for kind in ALL_KINDS {
-        for length in [126, 127, 128, 129] {
-            let mut m = one_of(kind);
-            let long = m.string(vec![b'a'; length]);
-            m.at(5).name = long;
+fn name_lengths(found: &mut Vec<Case>, kind: Kind) {
+    for length in [126, 127, 128, 129] {
+        let mut m = one_of(kind);
+        let long = m.string(vec![b'a'; length]);
+        m.at(5).name = long;
+        add(found, &m);
+        m.at(5).name = one_of(kind).at(5).name;
+        if kind.entry_words().is_some() && kind != Kind::Datasec {
+            m.at(5).tail[0] = long;
             add(found, &m);
-            m.at(5).name = one_of(kind).at(5).name;
-            if kind.entry_words().is_some() && kind != Kind::Datasec {
-                m.at(5).tail[0] = long;
-                add(found, &m);
-            }
         }
     }
 }
 
 /// A member without a name, and behind it what the later phases judge: void,
 /// each kind, the record itself, an end that fits and one that does not.
-pub fn unnamed_members(found: &mut Vec<Case>) {
+fn unnamed_members(found: &mut Vec<Case>) {
     for kind in ALL_KINDS {
         for (around, bytes) in [(Kind::Struct, 8), (Kind::Union, 8), (Kind::Struct, 0)] {
             for of in [0, 5, 6, 7] {

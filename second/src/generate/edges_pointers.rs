@@ -2,13 +2,18 @@
 //! of walk, without chance: rings, what leads to them, and what is no ring.
 
 use crate::chain::CHAIN_KINDS;
-use crate::generate::edges::add;
+use crate::generate::edges::{add, Part};
 use crate::generate::edges_joins::{call, length};
 use crate::make::Make;
 use crate::table::Kind;
 use crate::vectors::Case;
 
-pub fn cases(found: &mut Vec<Case>) {
+pub const PARTS: &[Part] = &[
+    ("chains", |found, _| chains(found)),
+    ("chain-joins", |found, _| joins(found)),
+];
+
+fn chains(found: &mut Vec<Case>) {
     let tables = [
         rings(),
         leads(),
@@ -21,7 +26,6 @@ pub fn cases(found: &mut Vec<Case>) {
     for m in tables.iter().flatten() {
         add(found, m);
     }
-    joins(found);
 }
 
 /// All tables here have a name at 1.

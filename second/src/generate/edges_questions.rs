@@ -1,20 +1,22 @@
 //! Sizes and names at their edges, without chance.
 
-use crate::generate::edges::one_of;
+use crate::generate::edges::{one_of, Part};
 use crate::generate::pieces::index_of;
 use crate::make::{put_word, Make};
 use crate::table::Kind;
 use crate::vectors::{bytes_of, Case, NAME, SIZE};
 
-pub fn cases(found: &mut Vec<Case>) {
-    benches(found);
-    uniform_blobs(found);
-    every_kind_number(found);
-    array_tails(found);
-    index_lengths(found);
-    products(found);
-    name_offsets(found);
-}
+pub const PARTS: &[Part] = &[
+    ("benches", |found, _| benches(found)),
+    ("uniform", |found, _| uniform_blobs(found)),
+    ("kind-numbers", |found, _| every_kind_number(found)),
+    ("array-tails", |found, _| array_tails(found)),
+    ("in-strings", |found, _| in_strings(found)),
+    ("index-lengths", |found, _| index_lengths(found)),
+    ("products", |found, _| products(found)),
+    ("name-offsets", |found, _| name_offsets(found)),
+    ("identifiers", |found, _| identifiers(found)),
+];
 
 /// The paper's benches that are sizes and names: T, a pointer to itself,
 /// `int a[5][6]` and zero elements of what overflows. `products` has the rest.
@@ -102,6 +104,18 @@ fn array_tails(found: &mut Vec<Case>) {
     }
 }
 
+/// A record whose bytes are strings of a table: no question is asked of where
+/// a place lies, so it is read as any other.
+fn in_strings(found: &mut Vec<Case>) {
+    for kind in 1..20 {
+        let mut m = Make::new();
+        m.ptr(0);
+        let text = [0, 0, 0, 0, 1, 1, 1, kind, 7, 1, 1, 1, 0];
+        let place = 24 + 12 + m.string(text);
+        ask_size(found, &m.blob(), &[0, 24, place], 2);
+    }
+}
+
 /// A chain and a ring, with true, shortened and lengthened indexes.
 fn index_lengths(found: &mut Vec<Case>) {
     for last in [0, 1, 3, 4] {
@@ -157,5 +171,18 @@ fn name_offsets(found: &mut Vec<Case>) {
         let mut turned = blob.clone();
         turned[at] ^= 1;
         ask_name(found, &turned, 1);
+    }
+}
+
+/// Names that are identifiers and names that are none, by each end of theirs.
+fn identifiers(found: &mut Vec<Case>) {
+    let long = [1, 126, 127, 128, 129].map(|length| vec![b'a'; length]);
+    let short = ["", "_", "7", "a7", "7a", "a-b", "Z_9"].map(|text| text.as_bytes().to_vec());
+    for text in long.into_iter().chain(short) {
+        let mut m = Make::new();
+        let at = m.string(&text);
+        for offset in at..=at + text.len().min(3) as u32 {
+            ask_name(found, &m.blob(), offset);
+        }
     }
 }

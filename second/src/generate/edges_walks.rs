@@ -1,12 +1,14 @@
 //! Rings of one type and what leads to them, report 14, without chance.
 
-use crate::generate::edges::add;
+use crate::generate::edges::{add, Part};
 use crate::make::{info, Make};
 use crate::table::Kind;
 use crate::vectors::Case;
 
+pub const PARTS: &[Part] = &[("rings", |found, _| rings(found))];
+
 /// Every kind of lead as type 1, before every kind of ring at type 3.
-pub fn cases(found: &mut Vec<Case>) {
+fn rings(found: &mut Vec<Case>) {
     for lead in 0..10 {
         for ring in 0..9 {
             let mut m = Make::new();

@@ -7,11 +7,14 @@ pub mod damage_layout;
 pub mod damage_references;
 pub mod damage_words;
 pub mod edges;
+pub mod edges_faults;
 pub mod edges_joins;
 pub mod edges_layout;
 pub mod edges_names;
+pub mod edges_offsets;
 pub mod edges_pointers;
 pub mod edges_questions;
+pub mod edges_sections;
 pub mod edges_walks;
 pub mod every_byte;
 pub mod grow;
@@ -55,6 +58,8 @@ pub struct Wanted {
     pub only: Option<u32>,
     /// The fixed cases of every rule's edges, in front of a seed's.
     pub edges: bool,
+    /// Of these, only the part of this name.
+    pub part: Option<String>,
     /// Fewer of the edges crossed with each other, for a short file.
     pub thin: bool,
     /// The fixed tables at the limits, in front of everything.
@@ -77,7 +82,10 @@ pub fn cases(wanted: &Wanted) -> Vec<Case> {
     }
     if wanted.edges {
         // at every scale: an edge left out is a rule that is not tried
-        found.extend(edges::cases(wanted.thin));
+        found.extend(match &wanted.part {
+            Some(part) => edges::cases_of(part, wanted.thin),
+            None => edges::cases(wanted.thin),
+        });
     }
     found.retain(|case| asked_for(case, wanted));
     let all = found.len() + wanted.cases;
