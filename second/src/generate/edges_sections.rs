@@ -50,8 +50,8 @@ fn empty_entries(found: &mut Vec<Case>, thin: bool) {
     let places: Vec<[u32; 2]> = places.collect();
     for first in &places {
         for last in &places {
-            for bytes in [3, 2, 0] {
-                if !thin || bytes == 3 {
+            for bytes in [2, 3, 0] {
+                if !thin || bytes == 2 {
                     with_entries(found, bytes, &[*first, *last]);
                 }
             }
