@@ -10,28 +10,19 @@ pub mod archive;
 #[cfg(feature = "archive")]
 pub mod beside;
 pub mod census;
-pub mod chain;
 pub mod changed;
-pub mod check;
 pub mod generate;
-pub mod head;
-pub mod header;
-pub mod join;
-pub mod layout;
 pub mod make;
-pub mod members;
-pub mod name;
-pub mod names;
-pub mod reference;
-pub mod report;
-pub mod size;
-pub mod table;
-pub mod tail;
+pub mod rules;
 pub mod vectors;
-pub mod walk;
+
+pub use rules::{
+    chain, check, head, header, join, layout, members, name_at, names, reference, report, size,
+    table, tail, walk,
+};
 
 pub use check::check;
 pub use join::{join, JoinRefusal};
-pub use name::name;
+pub use name_at::name;
 pub use report::Report;
 pub use size::{size, SizeAnswer};

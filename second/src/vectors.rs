@@ -2,7 +2,7 @@
 
 use crate::check::check;
 use crate::join::join;
-use crate::name::name;
+use crate::name_at::name;
 use crate::size::{size, SizeAnswer};
 
 pub const CHECK: u32 = 1;

@@ -1,0 +1,18 @@
+//! The paper's rules, a file for each part of it: what is read beside the
+//! paper. All else in this crate makes cases, runs them and compares.
+
+pub mod chain;
+pub mod check;
+pub mod head;
+pub mod header;
+pub mod join;
+pub mod layout;
+pub mod members;
+pub mod name_at;
+pub mod names;
+pub mod reference;
+pub mod report;
+pub mod size;
+pub mod table;
+pub mod tail;
+pub mod walk;
