@@ -1,4 +1,4 @@
-# Reads the crates' files, then the docs; docs/names says what a citation is.
+# Reads the crates' files, then the docs; tools/names says what a citation is.
 BEGIN { for (i = 1; i < ARGC; i++) isFile[ARGV[i]] }
 
 FNR == 1 {
