@@ -24,8 +24,8 @@ use Rattle.paper.specs.Answer.{Answer, report, reportAt, checkedAsPaper}
 use Rattle.paper.specs.Choice.{orElse}
 use Rattle.paper.specs.Fit.{Bytes}
 use Rattle.paper.specs.Gate.{phase1, phase2, shortSlices, phase3, phase4, phase5, phase6, overTypes, tableReport, refusal, zeros, indexOf, Outcome, outcome, gate}
-use Rattle.paper.specs.Table.{Table, count, recordAt}
-use Rattle.paper.specs.Walk.{tableOf, placeAt}
+use Rattle.paper.specs.Table.{Table, count}
+use Rattle.paper.specs.Walk.{tableOf}
 use Rattle.paper.specs.declared.Checked.the-variants.{Accepted, Refused}
 use Rattle.paper.specs.declared.Report.{Report}
 use Rattle.paper.specs.declared.TypeNo.{TypeNo}

@@ -1,27 +1,24 @@
 -- Laws of `Standing`: where a type's record begins, and that the bytes from there on are that record.
 -- Assumes nothing.
-use Prim.Native.Nat.{ℕ, zero, suc, _+_, _≤_, _<_}
+use Prim.Native.Nat.{ℕ, zero, suc, _<_}
 use mathlib.Core.Path.{_≡_, refl, sym, ap, _∙_}
 use mathlib.Core.Bool.{Bool, true, false}
-use mathlib.Core.List.{List, []}
+use mathlib.Core.List.{List}
 use native.Mathlib.Omega.{arith}
 use borrow.Author.Tests.{ltb-true, ltb-false}
 use lib.Dec.{ltb}
 use lib.ListN.{length, getD, drop, List·getD-eq-default}
-use lib.Seq.{drop-length}
 use Rattle.gate.specs.Standing.{Standing}
 use Rattle.paper.proofs.gates.Acceptance.{readable-walk}
 use Rattle.paper.proofs.bytes.Blobs.{strings-tableOf}
 use Rattle.paper.proofs.bytes.Headers.{facts-headerReport}
-use Rattle.paper.proofs.walks.Insides.{recordAt-outside}
-use Rattle.paper.proofs.bytes.Places.{length-placesOf, blob-place-high}
+use Rattle.paper.proofs.bytes.Places.{length-placesOf}
 use Rattle.paper.proofs.bytes.Reading.{recordIn-place}
-use Rattle.paper.specs.Header.{orderOf, typeLen, stringsIn}
-use Rattle.paper.specs.Kind.{rows, rowOf}
+use Rattle.paper.specs.Header.{orderOf}
 use Rattle.paper.specs.Reading.{recordIn}
 use Rattle.paper.specs.Table.{Table, nothing}
 use Rattle.paper.specs.Walk.{tableOf, placesOf, placeAt}
-use Rattle.paper.specs.Word.{lowFirst, wordAt}
+use Rattle.paper.specs.Word.{lowFirst}
 use Rattle.views.proofs.Shows.{getD-else, tableBy-is, placeBy-void, placeBy-above, placeBy-there}
 use Rattle.gate.specs.Said.{overShown}
 use Rattle.paper.specs.Choice.{Rule}

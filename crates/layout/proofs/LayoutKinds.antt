@@ -1,19 +1,17 @@
 -- Laws of report 15: which rule speaks of which kinds.
 -- Assumes nothing.
 use Prim.Native.Nat.{ℕ}
-use mathlib.Core.Path.{_≡_, refl, sym, ap, ap₂, _∙_}
+use mathlib.Core.Path.{_≡_, refl, sym, ap, _∙_}
 use mathlib.Core.Bool.{Bool, true, not, _&&_, _||_}
 use mathlib.Core.List.{[], _∷_}
 use borrow.Author.Tests.{ne-eqb}
 use Rattle.paper.proofs.basics.Choices.{and-nothing}
-use Rattle.paper.specs.Choice.{_when_, firstDue, differ, member}
-use Rattle.paper.specs.Gate.{namingAt, phase6}
+use Rattle.paper.specs.Choice.{differ, member}
 use Rattle.paper.specs.KindNo.{ARRAY, STRUCT, UNION, FUNC, VAR, DATASEC, DECL-TAG}
-use Rattle.paper.specs.Layout.{membersOk, arrayOk, functionOk, tagOk, layoutOk, layoutBad}
+use Rattle.paper.specs.Layout.{membersOk, arrayOk, functionOk, tagOk, layoutOk}
 use Rattle.paper.specs.Section.{sectionOk}
 use Rattle.paper.specs.Size.{hasSmallSize}
-use Rattle.paper.specs.Table.{Record, Table, recordAt, kindOf}
-use Rattle.paper.specs.Walk.{placeAt}
+use Rattle.paper.specs.Table.{Record, Table, kindOf}
 
 -- the six rules, by what each asks of its kinds
 abbrev byKind : ℕ → Bool → Bool → Bool → Bool → Bool → Bool → Bool
@@ -61,9 +59,3 @@ module _ (T : Table) (r : Record) {k : ℕ} (kind : k ≡ kindOf r) where
       sym (rw (ne-eqb k STRUCT s, ne-eqb k UNION u, ne-eqb k ARRAY a, ne-eqb k VAR v, ne-eqb k FUNC f, ne-eqb k DECL-TAG t, ne-eqb k DATASEC d) refl) ∙ by-kind
 
 -- ── phase 6 of one type ──
-
--- from whether its layout keeps to the rules
-pub layout-due : (T : Table) (t : ℕ) {z : Bool} {p : ℕ} → z ≡ layoutOk T (recordAt T t) → p ≡ placeAt T t
-    → namingAt t p (firstDue (15 when not z ∷ [])) ≡ namingAt t (placeAt T t) (firstDue (phase6 T t))
-unfolding phase6 layoutBad
-layout-due T t e at = ap₂ (λ (p : ℕ) (b : Bool). namingAt t p (firstDue (15 when not b ∷ []))) at e

@@ -1,21 +1,19 @@
 -- Laws of `Measures`: what an answer says of the exact size of a type.
 -- Assumes nothing.
-use Prim.Native.Nat.{ℕ, zero, suc, _≤_, _<_}
+use Prim.Native.Nat.{ℕ, _≤_}
 use mathlib.Core.Path.{_≡_, refl, sym, ap, _∙_}
 use mathlib.Core.Bool.{Bool, true, false, cond, false≢true}
-use mathlib.Core.List.{List}
 use mathlib.Core.Option.{Option, none, some}
 use native.Mathlib.Omega.{arith}
 use borrow.Author.Tests.{leb-false, lt-leb, lt-ltb, ltb-true}
 use lib.Dec.{leb, ltb}
-use lib.ListN.{length, getD}
 use Rattle.layout.specs.Measure.{Measures}
 use Rattle.paper.specs.Answer.{Answer, report, value, sizedAsPaper}
 use Rattle.paper.specs.Choice.{isSome}
 use Rattle.paper.specs.Limits.{sizeLimit}
 use Rattle.paper.specs.Section.{coversSize}
-use Rattle.paper.specs.Size.{sizeless, sizeFound, sizeBy, stepBy, stepIn, exactSize, hasSize, within, smallSize, hasSmallSize, answerOf, sizeOf}
-use Rattle.paper.specs.Table.{Record, Table, count, kindOf}
+use Rattle.paper.specs.Size.{exactSize, hasSize, within, smallSize, hasSmallSize, answerOf}
+use Rattle.paper.specs.Table.{Table}
 use Rattle.paper.specs.declared.Sized.{Sized}
 use Rattle.paper.specs.declared.Sized.the-variants.{Exact, NoSize, Overflow, Lost, TooFar}
 

@@ -7,6 +7,13 @@ use crate::sections::section_ok;
 use crate::sized::has_small_size;
 use paper::Place;
 use paper::TypeNo;
+use rows::ARRAY;
+use rows::DATASEC;
+use rows::DECL_TAG;
+use rows::FUNC;
+use rows::STRUCT;
+use rows::UNION;
+use rows::VAR;
 use rows::kind_of;
 use views::View;
 use views::record_of;
@@ -21,13 +28,13 @@ pub fn layout_ok<'a>(base: &'a [u8], b: &'a [u8], index: &[u32], view: View, t: 
 {
     let bytes = record_of(base, b, index, view, t);
     match kind_of(words::read(bytes, Place(4))) {
-        3 => array_ok(base, b, index, view, bytes),
-        4 => members_ok(base, b, index, view, bytes),
-        5 => members_ok(base, b, index, view, bytes),
-        12 => function_ok(base, b, index, view, bytes),
-        14 => has_small_size(base, b, index, view, TypeNo(words::read(bytes, Place(8)))),
-        15 => section_ok(base, b, index, view, bytes),
-        17 => tag_ok(base, b, index, view, bytes),
+        ARRAY => array_ok(base, b, index, view, bytes),
+        STRUCT => members_ok(base, b, index, view, bytes),
+        UNION => members_ok(base, b, index, view, bytes),
+        FUNC => function_ok(base, b, index, view, bytes),
+        VAR => has_small_size(base, b, index, view, TypeNo(words::read(bytes, Place(8)))),
+        DATASEC => section_ok(base, b, index, view, bytes),
+        DECL_TAG => tag_ok(base, b, index, view, bytes),
         _ => true,
     }
 }

@@ -4,6 +4,7 @@ use crate::sized::size_of;
 use paper::Place;
 use paper::Sized;
 use paper::TypeNo;
+use rows::UNION;
 use rows::flag_of;
 use rows::kind_of;
 use rows::tail_words;
@@ -85,7 +86,7 @@ pub(crate) fn members_ok<'a>(
         }
         let third = p + 8;
         let offset = bit_offset(flag, words::read(bytes, Place(third)));
-        if !follows(kind == 5, before, offset) {
+        if !follows(kind == UNION, before, offset) {
             return false;
         }
         before = offset;

@@ -2,6 +2,9 @@
 use crate::sized::has_size;
 use paper::Place;
 use paper::TypeNo;
+use rows::FUNC;
+use rows::STRUCT;
+use rows::UNION;
 use rows::kind_of;
 use rows::tail_words;
 use rows::vlen_of;
@@ -74,13 +77,13 @@ fn parts_of<'a>(base: &'a [u8], b: &'a [u8], index: &[u32], view: View, target: 
 {
     let info = words::read(target, Place(4));
     let kind = kind_of(info);
-    if kind == 4 {
+    if kind == STRUCT {
         return vlen_of(info);
     }
-    if kind == 5 {
+    if kind == UNION {
         return vlen_of(info);
     }
-    if kind != 12 {
+    if kind != FUNC {
         return 0;
     }
     let proto = record_of(base, b, index, view, TypeNo(words::read(target, Place(8))));

@@ -1,7 +1,7 @@
 -- What is held in a blob whose types phases 1 to 4 have passed: types of the table, found behind few words.
 -- Assumes nothing.
 use Prim.Native.Nat.{ℕ, zero, suc, _≤_, _<_}
-use mathlib.Core.Path.{_≡_, refl, sym, ap, subst}
+use mathlib.Core.Path.{_≡_, refl, sym, subst}
 use mathlib.Core.Bool.{Bool, true, false, cond}
 use mathlib.Core.List.{List, [], _∷_, List·Memᴰ, List·Memᴰ·head, List·Memᴰ·tail, List·Memᴰ·not-nil}
 use mathlib.Core.Option.{none}
@@ -14,14 +14,11 @@ use Rattle.paper.specs.Gate.{overTypes, phase4}
 use Rattle.paper.specs.Kind.{Role, names, refers, holds, number}
 use Rattle.paper.specs.References.{refsOk, refBad}
 use Rattle.paper.specs.Table.{Record, Table, count, recordAt, rolesOf, wordsOf}
-use Rattle.paper.specs.Word.{lowFirst, wordAt}
 use Rattle.paper.proofs.gates.Gates.{overTypes-silent}
 use Rattle.paper.proofs.walks.Insides.{held-inside}
-use Rattle.rows.proofs.RoleCodes.{tailLength-few}
 use Rattle.links.specs.declared.held.Held.{Held}
 use Rattle.links.specs.Holding.{heldFrom, HeldIs, NextHeld}
 use Rattle.links.specs.Search.{Followable}
-use Rattle.paper.proofs.bytes.Reading.{length-recordIn}
 
 -- ── what is held from a word on is held ──
 

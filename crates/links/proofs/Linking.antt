@@ -1,8 +1,8 @@
 -- Phase 4 over the types in order, and both phases together.
 -- Assumes nothing.
 use Prim.Native.Nat.{ℕ, _≤_, _<_}
-use mathlib.Core.Path.{_≡_, refl, sym, ap, ap₂, _∙_}
-use mathlib.Core.Bool.{Bool, true, false, not, cond}
+use mathlib.Core.Path.{_≡_, refl, sym, ap, _∙_}
+use mathlib.Core.Bool.{Bool, not, cond}
 use mathlib.Core.List.{List, [], _∷_}
 use mathlib.Core.Option.{Option, none, some}
 use native.Mathlib.Omega.{arith}
@@ -10,11 +10,10 @@ use borrow.Author.Tests.{le-leb, lt-leb, le-ltb, lt-ltb}
 use lib.Dec.{eqb}
 use lib.ListN.{length, drop, length-replicate}
 use Rattle.paper.proofs.bytes.Reading.{length-recordIn}
-use Rattle.paper.specs.Answer.{Answer, reportAt}
+use Rattle.paper.specs.Answer.{Answer}
 use Rattle.paper.specs.Choice.{_when_, firstDue, orElse}
 use Rattle.paper.specs.Gate.{namingAt, firstOf, overTypes, phase4, phase5, zeros}
 use Rattle.paper.specs.Limits.{typeLimit}
-use Rattle.paper.specs.Reading.{recordIn}
 use Rattle.paper.specs.References.{refsOk, refBad}
 use Rattle.paper.specs.Table.{Record, Table, count, recordAt, wordsOf}
 use Rattle.paper.specs.Walk.{placeAt}
@@ -26,11 +25,9 @@ use Rattle.views.specs.declared.View.{View}
 use Rattle.links.specs.Links.{linkedAsPaper, linksSay, LinksOf}
 use Rattle.links.specs.Search.{Unsearched, ringAsPaper}
 use Rattle.links.specs.declared.chains.Ring.{Ring}
-use Rattle.links.specs.declared.chains.Ring.the-variants.{Nowhere, From}
 use Rattle.links.specs.declared.whole.Linked.{Linked}
 use Rattle.links.specs.declared.whole.Linked.the-variants.{Good, Reference, Endless}
 use Rattle.links.proofs.HeldTypes.{followable}
-use Rattle.paper.specs.declared.TypeNo.{TypeNo}
 
 -- ── phase 4 ──
 

@@ -3,6 +3,7 @@
 use crate::chains::Ring;
 use paper::Place;
 use paper::TypeNo;
+use rows::PTR;
 use rows::is_alias;
 use rows::kind_of;
 use views::View;
@@ -19,7 +20,7 @@ ghost use Rattle.views.specs.Shown.{tableBy};
 fn is_link(kind: u32) -> bool
     ensures { λ r. ⌜ r ≡ isLink kind ⌝ }
 {
-    if kind == 2 {
+    if kind == PTR {
         return true;
     }
     is_alias(kind)

@@ -11,6 +11,11 @@ use lines::put;
 use lines::put_wide;
 use lines::put_with;
 use paper::Place;
+use rows::ENUM;
+use rows::ENUM64;
+use rows::FUNC_PROTO;
+use rows::STRUCT;
+use rows::UNION;
 use rows::flag_of;
 use rows::info_of;
 use rows::kind_of;
@@ -90,8 +95,8 @@ pub(crate) fn put_entry(
     let long = long_entry(r, i);
     let short = short_entry(r, i);
     match kind {
-        4 | 5 => put_member(buf, o, blob, index, r, i),
-        6 => put_value(
+        STRUCT | UNION => put_member(buf, o, blob, index, r, i),
+        ENUM => put_value(
             buf,
             o,
             blob,
@@ -99,8 +104,8 @@ pub(crate) fn put_entry(
             short,
             widened(flag, words::read(short, Place(4))),
         ),
-        13 => put_parameter(buf, o, blob, index, short),
-        19 => put_value(buf, o, blob, flag, long, wide_value(long)),
+        FUNC_PROTO => put_parameter(buf, o, blob, index, short),
+        ENUM64 => put_value(buf, o, blob, flag, long, wide_value(long)),
         _ => put_placed(buf, o, blob, index, long),
     }
 }

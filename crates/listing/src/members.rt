@@ -14,6 +14,8 @@ use lines::put_with;
 use paper::Place;
 use paper::Sized;
 use paper::TypeNo;
+use rows::STRUCT;
+use rows::UNION;
 use rows::flag_of;
 use rows::info_of;
 use rows::kind_of;
@@ -112,7 +114,7 @@ fn held_by(blob: &[u8], index: &[u32], e: &[u8]) -> u32 {
     let t = base_of(blob, index, words::read(e, Place(4)));
     let kind = kind_of(info_of(record_of(blob, index, t)));
     match kind {
-        4 | 5 => t,
+        STRUCT | UNION => t,
         _ => 0,
     }
 }

@@ -12,6 +12,13 @@ use lines::put_with;
 use paper::Place;
 use paper::Sized;
 use paper::TypeNo;
+use rows::ARRAY;
+use rows::DECL_TAG;
+use rows::ENUM64;
+use rows::FUNC;
+use rows::FWD;
+use rows::INT;
+use rows::VAR;
 use rows::entry_words;
 use rows::flag_of;
 use rows::info_of;
@@ -84,11 +91,11 @@ fn put_own(buf: &mut [u8; ROOM], o: Out, blob: &[u8], index: &[u32], r: &[u8]) -
     let info = info_of(r);
     let kind = kind_of(info);
     match kind {
-        1 => put_int(buf, o, fourth_of(r)),
-        3 => put_array(buf, o, blob, index, r),
-        7 => put_forward(buf, o, flag_of(info)),
-        12 => put_linkage(buf, o, vlen_of(info)),
-        14 => put_linkage(buf, o, fourth_of(r)),
+        INT => put_int(buf, o, fourth_of(r)),
+        ARRAY => put_array(buf, o, blob, index, r),
+        FWD => put_forward(buf, o, flag_of(info)),
+        FUNC => put_linkage(buf, o, vlen_of(info)),
+        VAR => put_linkage(buf, o, fourth_of(r)),
         _ => o,
     }
 }
@@ -130,10 +137,10 @@ fn put_count(buf: &mut [u8; ROOM], o: Out, r: &[u8]) -> Out {
 fn put_flag(buf: &mut [u8; ROOM], o: Out, r: &[u8]) -> Out {
     let info = info_of(r);
     let kind = kind_of(info);
-    if kind < 17 {
+    if kind < DECL_TAG {
         return o;
     }
-    if kind == 19 {
+    if kind == ENUM64 {
         return o;
     }
     if flag_of(info) == 0 {

@@ -1,7 +1,7 @@
 -- What the parts of phase 4 in code are promised to answer, in the paper's words.
 use Prim.Native.Nat.{ℕ}
 use mathlib.Core.Bool.{Bool, _&&_, _||_}
-use mathlib.Core.List.{List, [], _∷_}
+use mathlib.Core.List.{[], _∷_}
 use lib.Dec.{eqb}
 use lib.ListN.{getD}
 use Rattle.paper.specs.Kind.{RefRule, voidOrPlain, plain, anInt, aProto, aVar, taggable}

@@ -1,6 +1,15 @@
 // Phase 4, report 13: "a reference above n or to a forbidden kind". A record's words are gone over three at a time, each by its role.
 use paper::Place;
 use paper::TypeNo;
+use rows::DATASEC;
+use rows::DECL_TAG;
+use rows::FUNC;
+use rows::FUNC_PROTO;
+use rows::INT;
+use rows::STRUCT;
+use rows::TYPEDEF;
+use rows::UNION;
+use rows::VAR;
 use rows::entry_role;
 use rows::entry_words;
 use rows::is_known;
@@ -32,11 +41,11 @@ fn is_plain(kind: u32) -> bool
     if !is_known(kind) {
         return false;
     }
-    if kind == 14 {
+    if kind == VAR {
         return false;
     }
     match kind {
-        12 | 15 | 17 => false,
+        FUNC | DATASEC | DECL_TAG => false,
         _ => true,
     }
 }
@@ -45,11 +54,11 @@ fn is_plain(kind: u32) -> bool
 fn is_taggable(kind: u32) -> bool
     ensures { λ r. ⌜ r ≡ mayBeKind taggable kind ⌝ }
 {
-    if kind == 4 {
+    if kind == STRUCT {
         return true;
     }
     match kind {
-        5 | 8 | 12 | 14 => true,
+        UNION | TYPEDEF | FUNC | VAR => true,
         _ => false,
     }
 }
@@ -61,9 +70,9 @@ fn by_rule(rule: u32, t: u32, kind: u32) -> bool
     match rule {
         0 => t == 0 || is_plain(kind),
         1 => is_plain(kind),
-        2 => kind == 1,
-        3 => kind == 13,
-        4 => kind == 14,
+        2 => kind == INT,
+        3 => kind == FUNC_PROTO,
+        4 => kind == VAR,
         _ => is_taggable(kind),
     }
 }

@@ -8,6 +8,7 @@ use lines::put_with;
 use listing::put_kind;
 use listing::put_many;
 use paper::NameOff;
+use rows::FUNC;
 use rows::entry_words;
 use rows::flag_of;
 use rows::info_of;
@@ -53,7 +54,7 @@ fn put_vlen(buf: &mut [u8; ROOM], o: Out, kind: u32, vlen: u32) -> Out {
         let o = put(buf, o, b", ");
         return put_many(buf, o, vlen as u64, b" entry", b" entries");
     }
-    if kind == 12 {
+    if kind == FUNC {
         return put_with(buf, o, b", linkage ", vlen as u64);
     }
     if vlen == 0 {

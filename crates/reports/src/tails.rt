@@ -8,6 +8,10 @@ use lines::put_number;
 use lines::put_wide;
 use lines::put_with;
 use paper::NameOff;
+use rows::ENUM64;
+use rows::INT;
+use rows::STRUCT;
+use rows::UNION;
 use rows::entry_role;
 use rows::entry_words;
 use rows::flag_of;
@@ -98,7 +102,7 @@ fn put_labelled(buf: &mut [u8; ROOM], o: Out, kind: u32, which: u32, w: u32) -> 
         component \n\n\n\
         \n\n\n\
         \nlow \nhigh \n";
-    if 19 < kind {
+    if ENUM64 < kind {
         return put_number(buf, o, w);
     }
     if 2 < which {
@@ -127,7 +131,7 @@ fn put_field_word(buf: &mut [u8; ROOM], o: Out, w: u32) -> Out {
 // The offset word of a member that has a field width.
 fn is_field(info: u32, which: u32) -> bool {
     match kind_of(info) {
-        4 | 5 => flag_of(info) == 1 && which == 2,
+        STRUCT | UNION => flag_of(info) == 1 && which == 2,
         _ => false,
     }
 }
@@ -135,7 +139,7 @@ fn is_field(info: u32, which: u32) -> bool {
 // A word that is no name; in its parts where it has several.
 fn put_plain(buf: &mut [u8; ROOM], o: Out, info: u32, which: u32, w: u32) -> Out {
     let kind = kind_of(info);
-    if kind == 1 {
+    if kind == INT {
         return put_int_word(buf, o, w);
     }
     if is_field(info, which) {

@@ -1,4 +1,6 @@
 // The parts of an info word: "bits 0 to 15 vlen, 24 to 28 kind, 31 kind_flag".
+use crate::kinds::ENUM64;
+use crate::kinds::INT;
 ghost use mathlib.Core.Path.{_≡_};
 ghost use Rattle.paper.specs.Table.{flagIn, kindIn, vlenIn};
 ghost use Rattle.paper.specs.Walk.{known};
@@ -28,5 +30,5 @@ pub fn flag_of(info: u32) -> u32
 pub fn is_known(kind: u32) -> bool
     ensures { λ r. ⌜ r ≡ known kind ⌝ }
 {
-    1 <= kind && kind <= 19
+    INT <= kind && kind <= ENUM64
 }

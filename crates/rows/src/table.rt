@@ -1,5 +1,24 @@
 // The rows of the kinds, a line for each and a byte for each column, as in the definition; what a number means stands in
 // specs/Codes.antt. A match and no const array: that would be laid on the stack at each look.
+use crate::kinds::ARRAY;
+use crate::kinds::CONST;
+use crate::kinds::DATASEC;
+use crate::kinds::DECL_TAG;
+use crate::kinds::ENUM;
+use crate::kinds::ENUM64;
+use crate::kinds::FLOAT;
+use crate::kinds::FUNC;
+use crate::kinds::FUNC_PROTO;
+use crate::kinds::FWD;
+use crate::kinds::INT;
+use crate::kinds::PTR;
+use crate::kinds::RESTRICT;
+use crate::kinds::STRUCT;
+use crate::kinds::TYPE_TAG;
+use crate::kinds::TYPEDEF;
+use crate::kinds::UNION;
+use crate::kinds::VAR;
+use crate::kinds::VOLATILE;
 ghost use mathlib.Core.Path.{_≡_};
 ghost use Prim.Native.Nat.{_%_, _/_, _<_};
 ghost use Rattle.paper.specs.Kind.{rowOf};
@@ -11,25 +30,25 @@ pub(crate) fn head_row(kind: u32) -> u64
     ensures { λ r. ⌜ r ≡ headCode (rowOf kind) ⌝ }
 {
     match kind {
-        1 => 0x00_00_02_00_02_02, // INT
-        2 => 0x00_00_05_07_01_01, // PTR
-        3 => 0x00_00_00_00_01_03, // ARRAY
-        4 => 0x05_05_05_00_03_02, // STRUCT
-        5 => 0x05_05_05_00_03_02, // UNION
-        6 => 0x05_05_03_00_03_02, // ENUM
-        7 => 0x05_00_00_00_04_00, // FWD
-        8 => 0x00_00_05_0d_04_04, // TYPEDEF
-        9 => 0x00_00_05_0d_01_04, // VOLATILE
-        10 => 0x00_00_05_0d_01_04, // CONST
-        11 => 0x00_00_05_0d_01_04, // RESTRICT
-        12 => 0x00_01_05_0a_04_00, // FUNC
-        13 => 0x00_05_05_07_01_00, // FUNC_PROTO
-        14 => 0x00_00_05_0e_04_04, // VAR
-        15 => 0x00_05_05_00_06_02, // DATASEC
-        16 => 0x00_00_04_00_02_02, // FLOAT
-        17 => 0x05_00_05_0c_05_00, // DECL_TAG
-        18 => 0x05_00_05_0d_05_04, // TYPE_TAG
-        19 => 0x05_05_03_00_03_02, // ENUM64
+        INT => 0x00_00_02_00_02_02,
+        PTR => 0x00_00_05_07_01_01,
+        ARRAY => 0x00_00_00_00_01_03,
+        STRUCT => 0x05_05_05_00_03_02,
+        UNION => 0x05_05_05_00_03_02,
+        ENUM => 0x05_05_03_00_03_02,
+        FWD => 0x05_00_00_00_04_00,
+        TYPEDEF => 0x00_00_05_0d_04_04,
+        VOLATILE => 0x00_00_05_0d_01_04,
+        CONST => 0x00_00_05_0d_01_04,
+        RESTRICT => 0x00_00_05_0d_01_04,
+        FUNC => 0x00_01_05_0a_04_00,
+        FUNC_PROTO => 0x00_05_05_07_01_00,
+        VAR => 0x00_00_05_0e_04_04,
+        DATASEC => 0x00_05_05_00_06_02,
+        FLOAT => 0x00_00_04_00_02_02,
+        DECL_TAG => 0x05_00_05_0c_05_00,
+        TYPE_TAG => 0x05_00_05_0d_05_04,
+        ENUM64 => 0x05_05_03_00_03_02,
         _ => 0x00_00_05_00_01_00, // no kind
     }
 }
@@ -41,25 +60,25 @@ pub(crate) fn tail_row(kind: u32) -> u64
     ensures { λ r. ⌜ r ≡ tailCode (rowOf kind) ⌝ }
 {
     match kind {
-        1 => 0x01_00_00_00_00_00_00_00, // INT
-        2 => 0x00_00_00_00_00_00_00_00, // PTR
-        3 => 0x03_0e_09_00_00_00_00_00, // ARRAY
-        4 => 0x00_00_00_00_03_03_0e_00, // STRUCT
-        5 => 0x00_00_00_00_03_03_0e_00, // UNION
-        6 => 0x00_00_00_00_02_04_00_00, // ENUM
-        7 => 0x00_00_00_00_00_00_00_00, // FWD
-        8 => 0x00_00_00_00_00_00_00_00, // TYPEDEF
-        9 => 0x00_00_00_00_00_00_00_00, // VOLATILE
-        10 => 0x00_00_00_00_00_00_00_00, // CONST
-        11 => 0x00_00_00_00_00_00_00_00, // RESTRICT
-        12 => 0x00_00_00_00_00_00_00_00, // FUNC
-        13 => 0x00_00_00_00_02_03_07_00, // FUNC_PROTO
-        14 => 0x01_00_00_00_00_00_00_00, // VAR
-        15 => 0x00_00_00_00_03_0b_00_00, // DATASEC
-        16 => 0x00_00_00_00_00_00_00_00, // FLOAT
-        17 => 0x01_00_00_00_00_00_00_00, // DECL_TAG
-        18 => 0x00_00_00_00_00_00_00_00, // TYPE_TAG
-        19 => 0x00_00_00_00_03_04_00_00, // ENUM64
+        INT => 0x01_00_00_00_00_00_00_00,
+        PTR => 0x00_00_00_00_00_00_00_00,
+        ARRAY => 0x03_0e_09_00_00_00_00_00,
+        STRUCT => 0x00_00_00_00_03_03_0e_00,
+        UNION => 0x00_00_00_00_03_03_0e_00,
+        ENUM => 0x00_00_00_00_02_04_00_00,
+        FWD => 0x00_00_00_00_00_00_00_00,
+        TYPEDEF => 0x00_00_00_00_00_00_00_00,
+        VOLATILE => 0x00_00_00_00_00_00_00_00,
+        CONST => 0x00_00_00_00_00_00_00_00,
+        RESTRICT => 0x00_00_00_00_00_00_00_00,
+        FUNC => 0x00_00_00_00_00_00_00_00,
+        FUNC_PROTO => 0x00_00_00_00_02_03_07_00,
+        VAR => 0x01_00_00_00_00_00_00_00,
+        DATASEC => 0x00_00_00_00_03_0b_00_00,
+        FLOAT => 0x00_00_00_00_00_00_00_00,
+        DECL_TAG => 0x01_00_00_00_00_00_00_00,
+        TYPE_TAG => 0x00_00_00_00_00_00_00_00,
+        ENUM64 => 0x00_00_00_00_03_04_00_00,
         _ => 0x00_00_00_00_00_00_00_00, // no kind
     }
 }

@@ -1,5 +1,8 @@
 // Report 12: "a tail word breaks the list".
 use paper::Place;
+use rows::FUNC_PROTO;
+use rows::INT;
+use rows::VAR;
 use rows::kind_of;
 use rows::vlen_of;
 ghost use mathlib.Core.Path.{_≡_};
@@ -73,9 +76,9 @@ pub fn tail_ok(bytes: &[u8]) -> bool
 {
     let info = words::read(bytes, Place(4));
     match kind_of(info) {
-        1 => int_ok(words::read(bytes, Place(12)), words::read(bytes, Place(8))),
-        13 => voids_last(bytes, vlen_of(info)),
-        14 => linkage_ok(words::read(bytes, Place(12))),
+        INT => int_ok(words::read(bytes, Place(12)), words::read(bytes, Place(8))),
+        FUNC_PROTO => voids_last(bytes, vlen_of(info)),
+        VAR => linkage_ok(words::read(bytes, Place(12))),
         _ => true,
     }
 }

@@ -4,6 +4,7 @@ mod shown; // of a type of the table that an index shows
 use paper::Place;
 use paper::Sized;
 use paper::TypeNo;
+use rows::ARRAY;
 use rows::is_known;
 use rows::kind_of;
 use rows::size_rule;
@@ -44,7 +45,7 @@ fn unreadable(kind: u32, len: usize) -> bool
     if !is_known(kind) {
         return true;
     }
-    if kind != 3 {
+    if kind != ARRAY {
         return false;
     }
     !(24 <= len)

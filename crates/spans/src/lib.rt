@@ -1,5 +1,8 @@
 // A member's span: which bits of a record it takes, and whether it ends in time. Sums are in 64 bits, since an offset and a span pass 2^32 together.
 use paper::Place;
+use rows::ENUM;
+use rows::ENUM64;
+use rows::INT;
 use rows::kind_of;
 ghost use mathlib.Core.Path.{_≡_};
 ghost use mathlib.Core.Bool.{not, _||_};
@@ -37,7 +40,7 @@ fn regular_word(w: u32) -> bool
 pub fn is_regular(s: &[u8]) -> bool
     ensures { λ r. ⌜ r ≡ isRegular (recordIn lowFirst (now (s .entry))) ⌝ }
 {
-    if kind_of(words::read(s, Place(4))) != 1 {
+    if kind_of(words::read(s, Place(4))) != INT {
         return false;
     }
     regular_word(words::read(s, Place(12)))
@@ -47,7 +50,7 @@ pub fn is_regular(s: &[u8]) -> bool
 fn regular_or_other(s: &[u8]) -> bool
     ensures { λ r. ⌜ r ≡ not (eqb (kindOf (recordIn lowFirst (now (s .entry)))) INT) || isRegular (recordIn lowFirst (now (s .entry))) ⌝ }
 {
-    if kind_of(words::read(s, Place(4))) != 1 {
+    if kind_of(words::read(s, Place(4))) != INT {
         return true;
     }
     is_regular(s)
@@ -58,7 +61,7 @@ fn takes_field(kind: u32) -> bool
     ensures { λ r. ⌜ r ≡ member kind (INT ∷ ENUM ∷ ENUM64 ∷ []) ⌝ }
 {
     match kind {
-        1 | 6 | 19 => true,
+        INT | ENUM | ENUM64 => true,
         _ => false,
     }
 }
@@ -87,7 +90,7 @@ fn whole_ends(from: u32, size: u32, end: u64) -> bool
 fn plain_ends(bytes: &[u8], offset: u32, size: u32, end: u64) -> bool
     ensures { λ r. ⌜ r ≡ endsBy end (plainSpan (recordIn lowFirst (now (bytes .entry))) (withOffset offset) size) ⌝ }
 {
-    if kind_of(words::read(bytes, Place(4))) != 1 {
+    if kind_of(words::read(bytes, Place(4))) != INT {
         return whole_ends(offset, size, end);
     }
     let w = words::read(bytes, Place(12));

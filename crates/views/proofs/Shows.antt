@@ -14,7 +14,7 @@ use Rattle.paper.proofs.walks.Insides.{recordAt-outside}
 use Rattle.paper.specs.Header.{headerLength, orderOf, typeLen, stringsIn}
 use Rattle.paper.specs.Kind.{rows, rowOf}
 use Rattle.paper.specs.Reading.{recordIn}
-use Rattle.paper.specs.Table.{Record, Table, count, nothing, recordAt, tailLength}
+use Rattle.paper.specs.Table.{Table, count, nothing, recordAt, tailLength}
 use Rattle.paper.specs.Word.{lowFirst, wordAt}
 use Rattle.views.specs.Shown.{outside, placeBy, within, recordBy, recordsBy, tableBy, startBy, Starts, stringsStart, ShownAs, StringsAs}
 use Rattle.views.specs.declared.View.{View}

@@ -1,6 +1,6 @@
 -- `refs::word_ok` meets its contract: a code that is no reference passes, and another goes by its rule.
 -- Assumes nothing.
-use Prim.Native.Nat.{ℕ, _-_, _%_}
+use Prim.Native.Nat.{_-_, _%_}
 use mathlib.Core.Path.{ap, _∙_}
 use denote.Ref.{now}
 use Rattle.refs.proofs.References.{word-before, word-behind, word-rule}

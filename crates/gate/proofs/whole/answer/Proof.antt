@@ -1,6 +1,6 @@
 -- `gate::whole::answer` meets its contract: what `scan` refuses is refused, and what it counts is judged.
 -- Assumes nothing.
-use mathlib.Core.Path.{sym, ap, _∙_}
+use mathlib.Core.Path.{ap, _∙_}
 use denote.Ref.{now}
 use Rattle.gate.proofs.Checks.{scan-refused, scan-standing, scan-room, scan-accepted, scan-judged}
 use Rattle.paper.proofs.bytes.Bytes.{slice-bytes}
