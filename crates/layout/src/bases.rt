@@ -7,28 +7,11 @@ use views::View;
 use views::record_of;
 ghost use mathlib.Core.Path.{_≡_};
 ghost use Rattle.paper.specs.Reading.{recordIn};
-ghost use Rattle.paper.specs.Span.{baseFrom, baseOf};
+ghost use Rattle.paper.specs.Span.{baseOf};
 ghost use Rattle.paper.specs.Word.{lowFirst};
 ghost use Rattle.views.specs.Shown.{tableBy};
 
-// The number of the base. No chain of aliases is longer than there are types, so that many steps are enough.
-fn base_of<'a>(base: &'a [u8], b: &'a [u8], index: &[u32], view: View, t: TypeNo) -> TypeNo
-    ensures { λ r. ⌜ r .0 ≡ baseFrom (tableBy (now (base .entry)) (now (b .entry)) (now (index .entry)) view) (view .n) (t .0) ⌝ }
-{
-    let mut at = t.0;
-    let mut left = view.n;
-    while 0 < left {
-        let s = record_of(base, b, index, view, TypeNo(at));
-        if !is_alias(kind_of(words::read(s, Place(4)))) {
-            return TypeNo(at);
-        }
-        at = words::read(s, Place(8));
-        left -= 1;
-    }
-    TypeNo(at)
-}
-
-// The record of the base.
+// The record of the base. No chain of aliases is longer than there are types, so that many steps are enough.
 pub(crate) fn base_record<'a>(
     base: &'a [u8],
     b: &'a [u8],
@@ -38,6 +21,15 @@ pub(crate) fn base_record<'a>(
 ) -> &'a [u8]
     ensures { λ r. ⌜ recordIn lowFirst (now r) ≡ baseOf (tableBy (now (base .entry)) (now (b .entry)) (now (index .entry)) view) (t .0) ⌝ }
 {
-    let last = base_of(base, b, index, view, t);
-    record_of(base, b, index, view, last)
+    let mut at = t.0;
+    let mut left = view.n;
+    while 0 < left {
+        let s = record_of(base, b, index, view, TypeNo(at));
+        if !is_alias(kind_of(words::read(s, Place(4)))) {
+            return s;
+        }
+        at = words::read(s, Place(8));
+        left -= 1;
+    }
+    record_of(base, b, index, view, TypeNo(at))
 }

@@ -15,6 +15,7 @@ ghost use mathlib.Core.Bool.{not};
 ghost use Rattle.sizes.specs.SizeStep.{cut, readable, stepAsPaper, stepOf, stepWords};
 ghost use Rattle.paper.specs.Answer.{sizedAsPaper};
 ghost use Rattle.paper.specs.Size.{exactly, sizeAnswer, sizeOf, stepAt, stepBy};
+ghost use Rattle.paper.specs.Word.{lowFirst, wordAt};
 ghost use Rattle.rows.specs.Codes.{sizeRuleOf};
 
 // What one record says of a size: it, so many times another type's, none, or that it cannot be read.
@@ -25,15 +26,15 @@ pub(crate) enum Step {
     Lost,
 }
 
-// By rule: from a record's third word, its element and its element count.
-fn step_by(rule: u32, third: u32, element: u32, n: u32) -> Step
-    ensures { λ r. ⌜ stepAsPaper r ≡ stepBy (sizeRuleOf rule) third element n ⌝ }
+// By rule: from a record's third word, or its element and its element count. Only what the rule asks for is read.
+fn step_by(rule: u32, s: &[u8]) -> Step
+    ensures { λ r. ⌜ stepAsPaper r ≡ stepBy (sizeRuleOf rule) (wordAt lowFirst (now (s .entry)) 8) (wordAt lowFirst (now (s .entry)) 12) (wordAt lowFirst (now (s .entry)) 20) ⌝ }
 {
     match rule {
         1 => Step::Is(8),
-        2 => Step::Is(third),
-        3 => Step::ManyOf(n, TypeNo(element)),
-        4 => Step::ManyOf(1, TypeNo(third)),
+        2 => Step::Is(words::read(s, Place(8))),
+        3 => Step::ManyOf(words::read(s, Place(20)), TypeNo(words::read(s, Place(12)))),
+        4 => Step::ManyOf(1, TypeNo(words::read(s, Place(8)))),
         _ => Step::Sizeless,
     }
 }
@@ -56,10 +57,7 @@ pub(crate) fn step_words(s: &[u8]) -> Step
     ensures { λ r. ⌜ stepAsPaper r ≡ stepWords (now (s .entry)) ⌝ }
 {
     let kind = kind_of(words::read(s, Place(4)));
-    let third = words::read(s, Place(8));
-    let element = words::read(s, Place(12));
-    let n = words::read(s, Place(20));
-    step_by(size_rule(kind), third, element, n)
+    step_by(size_rule(kind), s)
 }
 
 // The same, where the record can be read. Its words are read from its place on, so that no place wraps.

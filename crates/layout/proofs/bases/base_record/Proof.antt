@@ -1,24 +1,85 @@
--- `layout::bases::base_record` meets its contract: the record of the number that was found.
+-- `layout::bases::base_record` meets its contract. The loop's invariant: what is left of the way leads to the base.
 -- Assumes nothing.
-use mathlib.Core.Path.{sym}
-use denote.Ref.{now}
+use mathlib.Core.Path.{refl, sym}
+use native.Mathlib.Omega.{arith}
 use Rattle.views.proofs.Shows.{tableBy-count}
 use Rattle.views.specs.Shown.{tableBy}
-use Rattle.layout.proofs.Leads.{base-found}
+use Rattle.layout.proofs.Leads.{Leading, leading-done, leading-stop, leading-next, base-found}
 use borrow.Author.Needs.{needs}
 use Rattle.layout.proofs.bases.base_record.Statement.{statement}
 use Rattle.layout.proofs.bases.base_record.Tie as tie
 
-base-of-requires : tie.Need-base-of-requires
-base-of-requires c κs = search needs
+abbrev Inv-loop : tie.InvT-loop
+Inv-loop base b index view at₀ left₀ at left = Leading (tableBy base b index view) (view .n) at₀ left at
 
-record-of-requires : tie.Need-record-of-requires
+abbrev μ-loop : tie.MeasureT-loop
+μ-loop base b index view at₀ left₀ at left = left
+
+loop-holds : tie.Need-loop-holds Inv-loop μ-loop
+loop-holds c = record { rest = refl }
+
+record-of-requires : tie.Need-record-of-requires Inv-loop μ-loop
 record-of-requires c κs = search needs
 
-returns : tie.Need-returns
+read-requires : tie.Need-read-requires Inv-loop μ-loop
+read-requires c κs = search needs
+
+kind-of-requires : tie.Need-kind-of-requires Inv-loop μ-loop
+kind-of-requires c κs = search needs
+
+is-alias-requires : tie.Need-is-alias-requires Inv-loop μ-loop
+is-alias-requires c κs = search needs
+
+returns : tie.Need-returns Inv-loop μ-loop
 returns c =
-    let start = c .before .before .before .before .before in
-    base-found (tableBy (now (start .args .base)) (now (start .args .b)) (now (start .args .index)) (start .args .view)) (start .args .t .0) (sym (tableBy-count _ _ _ _)) (c .before .base-of .ensures) (c .record-of .ensures .shows)
+    let k = c .before .before in
+    let r = k .before .before in
+    let l = r .before .before in
+    base-found _ _ (sym (tableBy-count _ _ _ _))
+    (leading-stop (l .loop .inv) (r .before .loop-test .taken) _ (r .record-of .ensures .shows) (k .before .read .ensures) (k .kind-of .ensures)
+    (c .before .is-alias .ensures) (c .if1 .taken))
+    (r .record-of .ensures .shows)
+
+read-requires-2 : tie.Need-read-requires-2 Inv-loop μ-loop
+read-requires-2 c κs = search needs
+
+sub-left : tie.Need-sub-left Inv-loop μ-loop
+sub-left c = omega arith
+
+loop-less : tie.Need-loop-less Inv-loop μ-loop
+loop-less c = omega arith
+
+loop-again : tie.Need-loop-again Inv-loop μ-loop
+loop-again c =
+    let e = c .before in
+    let k = e .before .before in
+    let r = k .before .before in
+    let l = r .before .before in
+    leading-next (l .loop .inv) (r .before .loop-test .taken) _ (r .record-of .ensures .shows) (k .before .read .ensures) (k .kind-of .ensures) (e .before .is-alias .ensures) (e .if1 .left) (c .read2 .ensures)
+
+record-of-requires-2 : tie.Need-record-of-requires-2 Inv-loop μ-loop
+record-of-requires-2 c κs = search needs
+
+returns-2 : tie.Need-returns-2 Inv-loop μ-loop
+returns-2 c =
+    let l = c .before in
+    base-found _ _ (sym (tableBy-count _ _ _ _)) (leading-done (l .before .loop .inv) (l .loop-test .left)) (c .record-of2 .ensures .shows)
 
 pub base-record-spec : {M : Type 1} → statement M
-base-record-spec = tie.close (tie.spec base-of-requires record-of-requires returns)
+base-record-spec =
+    tie.close
+    (tie.spec
+    Inv-loop
+    μ-loop
+    loop-holds
+    record-of-requires
+    read-requires
+    kind-of-requires
+    is-alias-requires
+    returns
+    read-requires-2
+    sub-left
+    loop-less
+    loop-again
+    record-of-requires-2
+    returns-2)
