@@ -2,7 +2,9 @@
 -- Assumes nothing.
 use Prim.Native.Nat.{ℕ, suc, _+_, _*_, _%_, _≤_, _<_}
 use mathlib.Core.Path.{_≡_, refl, sym, ap, ap₂, _∙_}
+use mathlib.Core.Bool.{Bool, true, false}
 use mathlib.Core.List.{List, [], _∷_, _++_}
+use mathlib.Core.Logic.{⊎-elim}
 use native.Mathlib.Omega.{arith}
 use lib.ListN.{length, getD, take, length-append}
 use lib.Seq.{length-take-le, take-suc, take-all}
@@ -14,12 +16,13 @@ use Rattle.paper.proofs.bytes.Puts.{put-none, length-put, put-put}
 use Rattle.paper.proofs.bytes.Reading.{length-times}
 use Rattle.paper.specs.Choice.{times}
 use Rattle.paper.specs.Fit.{wordBound}
-use Rattle.paper.specs.Kind.{NameRule, offset0, anyName, offset0OrIdentifier, identifier, nonEmpty, sectionName, RefRule, voidOrPlain, plain, anInt, aProto, aVar, taggable, Role, names, refers, holds, number, rowOf}
+use Rattle.paper.specs.Kind.{Role, names, refers, holds, number, rowOf}
 use Rattle.paper.specs.Put.{put}
 use Rattle.paper.specs.Reading.{recordIn, wordsFrom}
 use Rattle.paper.specs.Rename.{rename, raise}
 use Rattle.paper.specs.Table.{kindIn, vlenIn, tailLength, tailRoles}
-use Rattle.rows.specs.Codes.{nameCode, refCode, roleCode, roleAt}
+use Rattle.rows.proofs.RoleCodes.{nameCode-range, refCode-range, roleCode-high, between-in, between-out}
+use Rattle.rows.specs.Codes.{roleCode, roleAt, isNameCode, isRefCode}
 use Rattle.paper.specs.Word.{lowFirst, wordBytes, bytesOfWords, wordAt, putWord}
 
 module _ (by : Shift) (s : List ℕ) where
@@ -64,49 +67,45 @@ module _ (by : Shift) (s : List ℕ) where
 
 -- ── one word, by the code of its role ──
 
-name-codes : (rule : NameRule) → (1 ≤ nameCode rule) × (nameCode rule ≤ 6)
-name-codes offset0 = omega arith
-name-codes anyName = omega arith
-name-codes offset0OrIdentifier = omega arith
-name-codes identifier = omega arith
-name-codes nonEmpty = omega arith
-name-codes sectionName = omega arith
-
-ref-codes : (rule : RefRule) → 7 ≤ refCode rule
-ref-codes voidOrPlain = omega arith
-ref-codes plain = omega arith
-ref-codes anInt = omega arith
-ref-codes aProto = omega arith
-ref-codes aVar = omega arith
-ref-codes taggable = omega arith
-
 module _ (by : Shift) {role w : ℕ} where
-  pub raised-number : role ≡ 0 → w < wordBound → WordRaised by role w w
-  raised-number e fits = record { raises = go }
+  pub raised-name : {z : Bool} → z ≡ isNameCode role → z ≡ true → {r : ℕ} → r ≡ raise (by .names .0) w % wordBound → WordRaised by role w r
+  raised-name asked is {r} e = record { raises = go }
     where
-      go : (ρ : Role) → role ≡ roleCode ρ → w ≡ raisedWord by ρ w % wordBound
-      go number f = omega arith
-      go (names rule) f = absurd (omega (arith, name-codes rule))
-      go (refers rule) f = absurd (omega (arith, ref-codes rule))
-      go (holds rule) f = absurd (omega (arith, ref-codes rule))
+      at : (1 ≤ role) × (role ≤ 6)
+      at = between-in 1 6 role (sym asked ∙ is)
 
-  pub raised-name : (role ≡ 0 → ⊥) → role < 7 → {r : ℕ} → r ≡ raise (by .names .0) w % wordBound → WordRaised by role w r
-  raised-name some low {r} e = record { raises = go }
-    where
       go : (ρ : Role) → role ≡ roleCode ρ → r ≡ raisedWord by ρ w % wordBound
-      go number f = absurd (some f)
+      go number f = absurd (omega (arith, at))
       go (names rule) f = e
-      go (refers rule) f = absurd (omega (arith, ref-codes rule))
-      go (holds rule) f = absurd (omega (arith, ref-codes rule))
+      go (refers rule) f = absurd (omega (arith, at, refCode-range rule))
+      go (holds rule) f = absurd (omega (arith, at, refCode-range rule))
 
-  pub raised-type : 7 ≤ role → {r : ℕ} → r ≡ raise (by .types .0) w % wordBound → WordRaised by role w r
-  raised-type high {r} e = record { raises = go }
+  pub raised-type : {z : Bool} → z ≡ isRefCode role → z ≡ true → {r : ℕ} → r ≡ raise (by .types .0) w % wordBound → WordRaised by role w r
+  raised-type asked is {r} e = record { raises = go }
     where
+      at : (7 ≤ role) × (role ≤ 18)
+      at = between-in 7 18 role (sym asked ∙ is)
+
       go : (ρ : Role) → role ≡ roleCode ρ → r ≡ raisedWord by ρ w % wordBound
-      go number f = absurd (omega arith)
-      go (names rule) f = absurd (omega (arith, name-codes rule))
+      go number f = absurd (omega (arith, at))
+      go (names rule) f = absurd (omega (arith, at, nameCode-range rule))
       go (refers rule) f = e
       go (holds rule) f = e
+
+  pub raised-number : {y z : Bool} → y ≡ isNameCode role → y ≡ false → z ≡ isRefCode role → z ≡ false → w < wordBound → WordRaised by role w w
+  raised-number named n referred m fits = record { raises = go }
+    where
+      plain : (ρ : Role) → role ≡ roleCode ρ → role ≡ 0
+      plain ρ f =
+          let high = roleCode-high ρ in
+          ⊎-elim (λ h. omega arith) (λ h. ⊎-elim (λ l. absurd (omega arith)) (λ l. absurd (omega arith)) (between-out 7 18 role (sym referred ∙ m)))
+          (between-out 1 6 role (sym named ∙ n))
+
+      go : (ρ : Role) → role ≡ roleCode ρ → w ≡ raisedWord by ρ w % wordBound
+      go number f = omega arith
+      go (names rule) f = absurd (omega (arith, plain (names rule) f, nameCode-range rule))
+      go (refers rule) f = absurd (omega (arith, plain (refers rule) f, refCode-range rule))
+      go (holds rule) f = absurd (omega (arith, plain (holds rule) f, refCode-range rule))
 
   pub raised-put : {r w′ at : ℕ} {before after : List ℕ} → w ≡ w′ → WordRaised by role w r → after ≡ putWord lowFirst before at r → WordPut by role w′ at before after
   raised-put {r} {w′} {at} {before} {after} same raised e = record { puts = go }

@@ -2,6 +2,8 @@
 use paper::NameOff;
 use paper::Place;
 use paper::TypeNo;
+use rows::is_name;
+use rows::is_reference;
 ghost use lib.ListN.{length};
 ghost use Rattle.join.specs.Raising.{EntriesAsk, EntriesPut, GroupAsk, GroupPut, WordPut, WordRaised};
 ghost use Rattle.paper.specs.Word.{lowFirst, wordAt};
@@ -20,17 +22,17 @@ pub(crate) struct Group {
     pub(crate) third: u32,
 }
 
-// A word raised by its role: codes 1 to 6 are names, those from 7 on references.
+// A word raised by its role: a name, a reference, or a number that stays.
 fn raised(by: Shift, role: u32, w: u32) -> u32
     ensures { λ r. ⌜ WordRaised by role w r ⌝ }
 {
-    if role == 0 {
-        return w;
-    }
-    if role < 7 {
+    if is_name(role) {
         return words::raise_name(NameOff(w), by.names).0;
     }
-    words::raise_type(TypeNo(w), by.types).0
+    if is_reference(role) {
+        return words::raise_type(TypeNo(w), by.types).0;
+    }
+    w
 }
 
 // The word at a place of some bytes is put, raised, at a place of the output.

@@ -2,24 +2,26 @@
 -- Assumes nothing.
 use Prim.Native.Nat.{ℕ, zero, suc, _+_, _-_, _*_, _%_, _≤_, _<_}
 use mathlib.Core.Path.{_≡_, refl, sym, ap, ap₂, _∙_}
-use mathlib.Core.Bool.{Bool, true, false, cond}
+use mathlib.Core.Bool.{Bool, true, false, not, cond}
+use mathlib.Core.Logic.{⊎-elim}
 use mathlib.Core.List.{List, [], _∷_, _++_}
 use native.Mathlib.Nat.{mod-eq-of-lt, mod-eq-sub-mod}
 use native.Mathlib.Numerals.{add-one}
 use native.Mathlib.Omega.{arith}
-use borrow.Author.Tests.{ltb-true, ltb-false, eq-eqb, ne-eqb}
+use borrow.Author.Tests.{ltb-true, ltb-false, eq-eqb, ne-eqb, not-true, not-false}
 use lib.Dec.{ltb}
 use lib.ListN.{length, getD, drop, length-append, List·getD-append, drop-of-length-le}
 use lib.Seq.{drop-cons, getD-append-add}
 use Rattle.paper.specs.Chain.{stepTo, heldWord, heldIn}
 use Rattle.paper.specs.Choice.{times}
-use Rattle.paper.specs.Kind.{NameRule, offset0, anyName, offset0OrIdentifier, identifier, nonEmpty, sectionName, RefRule, voidOrPlain, plain, anInt, aProto, aVar, taggable, Role, names, refers, holds, number, rowOf}
+use Rattle.paper.specs.Kind.{Role, names, refers, holds, number, rowOf}
 use Rattle.paper.specs.Reading.{wordsFrom, recordIn}
 use Rattle.paper.specs.Table.{Record, kindIn, vlenIn, tailLength, tailRoles, rolesOf, wordsOf}
 use Rattle.paper.specs.Word.{lowFirst, wordAt}
 use Rattle.paper.proofs.bytes.Reading.{length-times, length-recordIn}
 use Rattle.rows.proofs.RecordWords.{getD-wordsFrom}
-use Rattle.rows.specs.Codes.{nameCode, refCode, roleCode, roleAt}
+use Rattle.rows.proofs.RoleCodes.{nameCode-range, refCode-range, roleCode-high, between-in, between-out}
+use Rattle.rows.specs.Codes.{nameCode, roleCode, roleAt, isHeldCode}
 use Rattle.links.specs.Holding.{tailRolesBy, rolesBy, heldFrom, NextHeld, WordOf}
 
 -- ── the role of a word by its number ──
@@ -126,33 +128,17 @@ module _ (info : ℕ) {i : ℕ} where
 
 -- ── one word ──
 
-nameCode-low : (rule : NameRule) → nameCode rule < 13
-nameCode-low offset0 = omega arith
-nameCode-low anyName = omega arith
-nameCode-low offset0OrIdentifier = omega arith
-nameCode-low identifier = omega arith
-nameCode-low nonEmpty = omega arith
-nameCode-low sectionName = omega arith
-
-refCode-low : (rule : RefRule) → (7 ≤ refCode rule) × (refCode rule < 13)
-refCode-low voidOrPlain = omega arith
-refCode-low plain = omega arith
-refCode-low anInt = omega arith
-refCode-low aProto = omega arith
-refCode-low aVar = omega arith
-refCode-low taggable = omega arith
-
 -- a word of another role holds nothing
 heldWord-other : (ρ : Role) (w : ℕ) (us : List ℕ) → roleCode ρ < 13 → heldWord ρ w us ≡ us
 heldWord-other number w us h = refl
 heldWord-other (names rule) w us h = refl
 heldWord-other (refers rule) w us h = refl
-heldWord-other (holds rule) w us h = absurd (omega (arith, refCode-low rule))
+heldWord-other (holds rule) w us h = absurd (omega (arith, refCode-range rule))
 
 heldWord-held : (ρ : Role) (w : ℕ) (us : List ℕ) → 13 ≤ roleCode ρ → heldWord ρ w us ≡ stepTo w us
 heldWord-held number w us h = absurd (omega arith)
-heldWord-held (names rule) w us h = absurd (omega (arith, nameCode-low rule))
-heldWord-held (refers rule) w us h = absurd (omega (arith, refCode-low rule))
+heldWord-held (names rule) w us h = absurd (omega (arith, nameCode-range rule))
+heldWord-held (refers rule) w us h = absurd (omega (arith, refCode-range rule))
 heldWord-held (holds rule) w us h = refl
 
 -- ── the words of the record that some bytes begin with ──
@@ -201,12 +187,17 @@ module _ (s : List ℕ) where
         heldFrom-step i within-here
         ∙ ap (λ (w : ℕ). heldWord (getD (rolesBy w) i number) (wordAt lowFirst s (4 * i)) (heldFrom rec (i + 1))) (sym (at .read))
 
-    pub held-not : {code : ℕ} → code ≡ roleAt (rolesBy info) i → code < 13 → heldFrom rec i ≡ stepTo 0 (heldFrom rec (i + 1))
-    held-not e h = step-here ∙ heldWord-other (getD (rolesBy info) i number) _ _ (omega arith)
+    pub held-not : {code : ℕ} {z : Bool} → code ≡ roleAt (rolesBy info) i → z ≡ isHeldCode code → not z ≡ true → heldFrom rec i ≡ stepTo 0 (heldFrom rec (i + 1))
+    held-not {code} {z} e asked n =
+        let ρ = getD (rolesBy info) i number in
+        let high = roleCode-high ρ in
+        let low : code < 13 = ⊎-elim (λ h. h) (λ h. absurd (omega arith)) (between-out 13 18 code (sym asked ∙ not-true z n)) in
+        step-here ∙ heldWord-other ρ _ _ (omega arith)
 
-    pub held-word : {code : ℕ} → code ≡ roleAt (rolesBy info) i → 13 ≤ code → {w : ℕ} → w ≡ wordAt lowFirst s (4 * i)
+    pub held-word : {code : ℕ} {z : Bool} → code ≡ roleAt (rolesBy info) i → z ≡ isHeldCode code → not z ≡ false → {w : ℕ} → w ≡ wordAt lowFirst s (4 * i)
         → heldFrom rec i ≡ stepTo w (heldFrom rec (i + 1))
-    held-word e h d =
+    held-word {code} {z} e asked n d =
+        let h = between-in 13 18 code (sym asked ∙ not-false z n) in
         step-here
         ∙ heldWord-held (getD (rolesBy info) i number) _ _ (omega arith)
         ∙ ap (λ (w : ℕ). stepTo w (heldFrom rec (i + 1))) (sym d)

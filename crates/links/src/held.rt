@@ -3,6 +3,7 @@ use paper::Place;
 use paper::TypeNo;
 use rows::entry_role;
 use rows::entry_words;
+use rows::is_held;
 use rows::kind_of;
 use rows::name_role;
 use rows::once_role;
@@ -50,15 +51,16 @@ fn role_of(info: u32, i: u32) -> u32
     }
 }
 
-// The type that a word holds by value: 0 for none and for a word of another role. Codes from 13 on are those of by-value references.
+// The type that a word holds by value: 0 for none and for a word of another role.
 fn held_at(bytes: &[u8], info: u32, i: u32) -> u32
     requires { ⌜ WordOf (now bytes) info i ⌝ }
     ensures { λ r. ⌜ heldFrom (recordIn lowFirst (now (bytes .entry))) i ≡ stepTo r (heldFrom (recordIn lowFirst (now (bytes .entry))) (i + 1)) ⌝ }
 {
-    if role_of(info, i) < 13 {
+    if !is_held(role_of(info, i)) {
         return 0;
     }
-    words::read(bytes, Place(4 * i))
+    let at = 4 * i;
+    words::read(bytes, Place(at))
 }
 
 // The first type that a record holds from a word on.

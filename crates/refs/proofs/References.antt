@@ -14,7 +14,8 @@ use Rattle.paper.specs.Kind.{taggable}
 use Rattle.paper.specs.References.{isPlain, refOk, refWordOk, mayBeKind}
 use Rattle.paper.specs.Table.{Table, kindAt}
 use Rattle.paper.specs.Walk.{known}
-use Rattle.rows.specs.Codes.{roleOf}
+use Rattle.rows.proofs.RoleCodes.{between-in, between-out}
+use Rattle.rows.specs.Codes.{roleOf, isRefCode, ruleCode}
 use Rattle.rows.proofs.Members.{member-key, member-no-key}
 
 -- ── plain kinds ──
@@ -69,7 +70,7 @@ refRuleOf-other (suc (suc (suc (suc (suc n))))) a b c d e = refl
 
 module _ (T : Table) (w : ℕ) where
   -- codes below 7 are no references
-  pub word-before : (role : ℕ) → role < 7 → true ≡ refWordOk T (roleOf role) w
+  word-before : (role : ℕ) → role < 7 → true ≡ refWordOk T (roleOf role) w
   word-before zero h = refl
   word-before (suc zero) h = refl
   word-before (suc (suc zero)) h = refl
@@ -80,15 +81,15 @@ module _ (T : Table) (w : ℕ) where
   word-before (suc (suc (suc (suc (suc (suc (suc n))))))) h = absurd (omega arith)
 
   -- nor are those above 18
-  pub word-behind : (role : ℕ) → 18 < role → true ≡ refWordOk T (roleOf role) w
+  word-behind : (role : ℕ) → 18 < role → true ≡ refWordOk T (roleOf role) w
   word-behind role h =
       let at : role ≡ suc (suc (suc (suc (suc (suc (suc (suc (suc (suc (suc (suc (suc (suc (suc (suc (suc (suc (suc (role - 19))))))))))))))))))) = omega arith in
       sym (ap (λ (n : ℕ). refWordOk T (roleOf n) w) at)
 
   -- one of the others has the rule of its number from 7 on: twelve codes, one computed list
-  pub word-rule : (role : ℕ) → 7 ≤ role → role ≤ 18 → {r : Bool} → r ≡ refBy (refRuleOf ((role - 7) % 6)) w (kindAt T w) → r ≡ refWordOk T (roleOf role) w
+  rule-there : (role : ℕ) → 7 ≤ role → role ≤ 18 → {r : Bool} → r ≡ refBy (refRuleOf (ruleCode role)) w (kindAt T w) → r ≡ refWordOk T (roleOf role) w
   unfolding refOk
-  word-rule role low high e =
+  rule-there role low high e =
       let at : role ≡ 7 + (role - 7) = omega arith in
       e ∙ twelve (role - 7) (omega arith) ∙ ap (λ (n : ℕ). refWordOk T (roleOf n) w) (sym at)
     where
@@ -106,3 +107,11 @@ module _ (T : Table) (w : ℕ) where
       twelve (suc (suc (suc (suc (suc (suc (suc (suc (suc (suc zero)))))))))) h = refl
       twelve (suc (suc (suc (suc (suc (suc (suc (suc (suc (suc (suc zero))))))))))) h = refl
       twelve (suc (suc (suc (suc (suc (suc (suc (suc (suc (suc (suc (suc m)))))))))))) h = absurd (omega arith)
+
+  -- a code that is no reference passes, and another goes by its rule
+  pub word-other : (role : ℕ) {z : Bool} → z ≡ isRefCode role → not z ≡ true → true ≡ refWordOk T (roleOf role) w
+  word-other role {z} asked e = ⊎-elim (λ h. word-before role h) (λ h. word-behind role h) (between-out 7 18 role (sym asked ∙ not-true z e))
+
+  pub word-rule : (role : ℕ) {z : Bool} → z ≡ isRefCode role → not z ≡ false → {r : Bool} → r ≡ refBy (refRuleOf (ruleCode role)) w (kindAt T w)
+      → r ≡ refWordOk T (roleOf role) w
+  word-rule role {z} asked e d = let at = between-in 7 18 role (sym asked ∙ not-false z e) in rule-there role (at .0) (at .1) d

@@ -13,10 +13,12 @@ use rows::VAR;
 use rows::entry_role;
 use rows::entry_words;
 use rows::is_known;
+use rows::is_reference;
 use rows::kind_of;
 use rows::name_role;
 use rows::once_role;
 use rows::once_words;
+use rows::rule_of;
 use rows::third_role;
 use rows::vlen_of;
 use views::View;
@@ -89,14 +91,11 @@ fn word_ok<'a>(
 ) -> bool
     ensures { λ r. ⌜ r ≡ refWordOk (tableBy (now (base .entry)) (now (b .entry)) (now (index .entry)) view) (roleOf role) (wordAt lowFirst (now (bytes .entry)) (at .0)) ⌝ }
 {
-    if role < 7 {
-        return true;
-    }
-    if 18 < role {
+    if !is_reference(role) {
         return true;
     }
     let t = words::read(bytes, at);
-    by_rule((role - 7) % 6, t, kind_at(base, b, index, view, TypeNo(t)))
+    by_rule(rule_of(role), t, kind_at(base, b, index, view, TypeNo(t)))
 }
 
 // Three words from a place on.

@@ -15,6 +15,9 @@ use rows::UNION;
 use rows::entry_role;
 use rows::entry_words;
 use rows::flag_of;
+use rows::is_held;
+use rows::is_name;
+use rows::is_reference;
 use rows::kind_of;
 use rows::once_role;
 use rows::once_words;
@@ -60,9 +63,9 @@ pub(crate) fn spot_of(kind: u32, i: u32) -> Spot {
 pub(crate) fn is_about(number: u32, role: u32) -> bool {
     match number {
         6 | 12 | 15 => true,
-        11 => 1 <= role && role <= 6,
-        13 => 7 <= role,
-        14 => 13 <= role,
+        11 => is_name(role),
+        13 => is_reference(role),
+        14 => is_held(role),
         _ => false,
     }
 }
@@ -160,7 +163,7 @@ pub(crate) fn put_role(
     let kind = kind_of(info);
     let spot = spot_of(kind, i);
     let o = put_entry_number(buf, o, kind, spot.entry);
-    if 1 <= spot.role && spot.role <= 6 {
+    if is_name(spot.role) {
         return put_offset(buf, o, blob, NameOff(w));
     }
     put_plain(buf, o, info, spot.which, w)

@@ -2,16 +2,18 @@
 -- Assumes nothing.
 use Prim.Native.Nat.{ℕ, zero, suc, _+_, _*_, _≤_, _<_}
 use mathlib.Core.Path.{_≡_, refl, sym, ap}
+use mathlib.Core.Bool.{Bool, true, false, _&&_, false≢true}
+use mathlib.Core.Logic.{_⊎_, inl, inr}
 use native.Mathlib.Nat.{mul-le-mul}
 use native.Mathlib.Omega.{arith}
-use borrow.Author.Tests.{leb-true}
+use borrow.Author.Tests.{leb-true, leb-false}
 use lib.Dec.{leb}
 use lib.ListN.{length, List·getD-eq-default}
 use mathlib.Core.List.{List}
 use Rattle.paper.specs.Kind.{NameRule, offset0, anyName, offset0OrIdentifier, identifier, nonEmpty, sectionName, RefRule, voidOrPlain, plain, anInt, aProto, aVar, taggable, Role, names, refers, holds, number, SizeRule, eight, sizeWord, countTimes, referent, noSize, Row, rows, rowOf}
 use Rattle.paper.specs.Table.{kindIn, vlenIn, tailLength}
 use Rattle.paper.proofs.basics.Rows.{rowOf-every}
-use Rattle.rows.specs.Codes.{nameCode, refCode, roleCode, roleOf, roleAt, sizeCode, sizeRuleOf}
+use Rattle.rows.specs.Codes.{nameCode, refCode, roleCode, roleOf, roleAt, between, sizeCode, sizeRuleOf}
 
 -- ── codes and what they stand for ──
 
@@ -52,6 +54,44 @@ sizeRuleOf-sizeCode sizeWord = refl
 sizeRuleOf-sizeCode countTimes = refl
 sizeRuleOf-sizeCode referent = refl
 sizeRuleOf-sizeCode noSize = refl
+
+-- ── which codes are what ──
+
+pub nameCode-range : (rule : NameRule) → (1 ≤ nameCode rule) × (nameCode rule ≤ 6)
+nameCode-range offset0 = omega arith
+nameCode-range anyName = omega arith
+nameCode-range offset0OrIdentifier = omega arith
+nameCode-range identifier = omega arith
+nameCode-range nonEmpty = omega arith
+nameCode-range sectionName = omega arith
+
+pub refCode-range : (rule : RefRule) → (7 ≤ refCode rule) × (refCode rule ≤ 12)
+refCode-range voidOrPlain = omega arith
+refCode-range plain = omega arith
+refCode-range anInt = omega arith
+refCode-range aProto = omega arith
+refCode-range aVar = omega arith
+refCode-range taggable = omega arith
+
+pub roleCode-high : (ρ : Role) → roleCode ρ ≤ 18
+roleCode-high number = omega arith
+roleCode-high (names rule) = omega (arith, nameCode-range rule)
+roleCode-high (refers rule) = omega (arith, refCode-range rule)
+roleCode-high (holds rule) = omega (arith, refCode-range rule)
+
+pub between-in : (low high code : ℕ) → between low high code ≡ true → (low ≤ code) × (code ≤ high)
+between-in low high code e = go (leb low code) refl e
+  where
+    go : (z : Bool) → leb low code ≡ z → z && leb code high ≡ true → (low ≤ code) × (code ≤ high)
+    go true p q = (leb-true low code p, leb-true code high q)
+    go false p q = absurd (false≢true q)
+
+pub between-out : (low high code : ℕ) → between low high code ≡ false → (code < low) ⊎ (high < code)
+between-out low high code e = go (leb low code) refl e
+  where
+    go : (z : Bool) → leb low code ≡ z → z && leb code high ≡ false → (code < low) ⊎ (high < code)
+    go true p q = inr (leb-false code high q)
+    go false p q = inl (leb-false low code p)
 
 -- ── how many words a row has ──
 

@@ -1,7 +1,8 @@
 -- The rows of the kinds as numbers: what each column of the code's table says.
-use Prim.Native.Nat.{ℕ, _+_, _*_}
-use mathlib.Core.Bool.{cond}
+use Prim.Native.Nat.{ℕ, _+_, _-_, _*_, _%_}
+use mathlib.Core.Bool.{Bool, cond, _&&_}
 use mathlib.Core.List.{List, [], _∷_}
+use lib.Dec.{leb}
 use lib.ListN.{length, getD}
 use Rattle.paper.specs.Choice.{same}
 use Rattle.paper.specs.Kind.{NameRule, offset0, anyName, offset0OrIdentifier, identifier, nonEmpty, sectionName, RefRule, voidOrPlain, plain, anInt, aProto, aVar, taggable, Role, names, refers, holds, number, Values, free, oneOf, SizeRule, eight, sizeWord, countTimes, referent, noSize, Row}
@@ -45,6 +46,23 @@ roleOf code =
 -- the role of a word by its place among others: what is outside is a plain number
 abbrev pub roleAt : List Role → ℕ → ℕ
 roleAt ρs i = roleCode (getD ρs i number)
+
+-- which codes are those of a name, of a reference, and of one by value
+abbrev pub between : ℕ → ℕ → ℕ → Bool
+between low high code = leb low code && leb code high
+
+abbrev pub isNameCode : ℕ → Bool
+isNameCode code = between 1 6 code
+
+abbrev pub isRefCode : ℕ → Bool
+isRefCode code = between 7 18 code
+
+abbrev pub isHeldCode : ℕ → Bool
+isHeldCode code = between 13 18 code
+
+-- the number of a reference's rule, from 0 on, by value or not
+abbrev pub ruleCode : ℕ → ℕ
+ruleCode code = (code - 7) % 6
 
 -- ── where a size comes from ──
 

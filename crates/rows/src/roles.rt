@@ -8,7 +8,7 @@ ghost use mathlib.Core.Path.{_≡_};
 ghost use lib.ListN.{length};
 ghost use Rattle.paper.specs.Kind.{rowOf};
 ghost use Rattle.paper.specs.Table.{tailLength};
-ghost use Rattle.rows.specs.Codes.{nameCode, roleAt, roleCode, sizeCode};
+ghost use Rattle.rows.specs.Codes.{isHeldCode, isNameCode, isRefCode, nameCode, roleAt, roleCode, ruleCode, sizeCode};
 
 // The role of a head's third word.
 pub fn third_role(kind: u32) -> u32
@@ -75,4 +75,36 @@ pub fn tail_words(info: u32) -> u32
 {
     let kind = kind_of(info);
     once_words(kind) + vlen_of(info) * entry_words(kind)
+}
+
+// A code of a name's role.
+pub fn is_name(role: u32) -> bool
+    ensures { λ r. ⌜ r ≡ isNameCode role ⌝ }
+{
+    1 <= role && role <= 6
+}
+
+// A code of a reference's role, by value or not.
+pub fn is_reference(role: u32) -> bool
+    ensures { λ r. ⌜ r ≡ isRefCode role ⌝ }
+{
+    7 <= role && role <= 18
+}
+
+// A code of a by-value reference's role.
+pub fn is_held(role: u32) -> bool
+    ensures { λ r. ⌜ r ≡ isHeldCode role ⌝ }
+{
+    13 <= role && role <= 18
+}
+
+// The number of a reference's rule, from 0 on.
+pub fn rule_of(role: u32) -> u32
+    ensures { λ r. ⌜ r ≡ ruleCode role ⌝ }
+{
+    if role < 7 {
+        return 0;
+    }
+    let from = role - 7;
+    from % 6
 }

@@ -2,16 +2,18 @@
 -- Assumes nothing.
 use Prim.Native.Nat.{ℕ, zero, suc, _<_, _≤_}
 use mathlib.Core.Path.{_≡_, refl, sym, ap, _∙_}
-use mathlib.Core.Bool.{Bool, true, false, _&&_}
+use mathlib.Core.Bool.{Bool, true, false, not, _&&_}
+use mathlib.Core.Logic.{⊎-elim}
 use mathlib.Core.List.{List, [], _∷_}
 use native.Mathlib.Omega.{arith}
-use borrow.Author.Tests.{lt-ltb, le-ltb}
+use borrow.Author.Tests.{lt-ltb, le-ltb, not-true, not-false}
 use lib.ListN.{length}
 use Rattle.paper.specs.Kind.{Role, names, refers, holds, number, voidOrPlain, plain, anInt, aProto, aVar, taggable}
 use Rattle.paper.specs.Name.{nameIn}
 use Rattle.paper.specs.Names.{nameFits, nameOk, nameWordOk}
 use Rattle.paper.proofs.basics.Choices.{every-getD}
-use Rattle.rows.specs.Codes.{roleOf}
+use Rattle.rows.proofs.RoleCodes.{between-in, between-out}
+use Rattle.rows.specs.Codes.{roleOf, isNameCode}
 use Rattle.rules.specs.Parts.{nameRuleOf}
 
 -- a code of 1 to 6 is that of a name
@@ -36,28 +38,42 @@ nameRuleOf-other (suc (suc (suc (suc (suc zero))))) a b c d e = absurd (e refl)
 nameRuleOf-other (suc (suc (suc (suc (suc (suc n)))))) a b c d e = refl
 
 module _ (strings : List ℕ) where
-  -- any other word passes
-  pub word-other : (role w : ℕ) → 6 < role → true ≡ nameWordOk strings (roleOf role) w
-  word-other zero w h = absurd (omega arith)
-  word-other (suc zero) w h = absurd (omega arith)
-  word-other (suc (suc zero)) w h = absurd (omega arith)
-  word-other (suc (suc (suc zero))) w h = absurd (omega arith)
-  word-other (suc (suc (suc (suc zero)))) w h = absurd (omega arith)
-  word-other (suc (suc (suc (suc (suc zero))))) w h = absurd (omega arith)
-  word-other (suc (suc (suc (suc (suc (suc zero)))))) w h = absurd (omega arith)
-  word-other (suc (suc (suc (suc (suc (suc (suc n))))))) w h =
+  -- a word of a reference passes, and one past all codes
+  word-behind : (role w : ℕ) → 6 < role → true ≡ nameWordOk strings (roleOf role) w
+  word-behind zero w h = absurd (omega arith)
+  word-behind (suc zero) w h = absurd (omega arith)
+  word-behind (suc (suc zero)) w h = absurd (omega arith)
+  word-behind (suc (suc (suc zero))) w h = absurd (omega arith)
+  word-behind (suc (suc (suc (suc zero)))) w h = absurd (omega arith)
+  word-behind (suc (suc (suc (suc (suc zero))))) w h = absurd (omega arith)
+  word-behind (suc (suc (suc (suc (suc (suc zero)))))) w h = absurd (omega arith)
+  word-behind (suc (suc (suc (suc (suc (suc (suc n))))))) w h =
       sym
       (every-getD (λ (ρ : Role). nameWordOk strings ρ w)
       (refers voidOrPlain ∷ refers plain ∷ refers anInt ∷ refers aProto ∷ refers aVar ∷ refers taggable
       ∷ holds voidOrPlain ∷ holds plain ∷ holds anInt ∷ holds aProto ∷ holds aVar ∷ holds taggable ∷ [])
       number refl refl n)
 
-  module _ (role w : ℕ) (some : role ≡ 0 → ⊥) (few : role ≤ 6) where
+  word-number : (role w : ℕ) → role < 1 → true ≡ nameWordOk strings (roleOf role) w
+  word-number zero w h = refl
+  word-number (suc n) w h = absurd (omega arith)
+
+  -- any other word passes
+  pub word-other : (role w : ℕ) {z : Bool} → z ≡ isNameCode role → not z ≡ true → true ≡ nameWordOk strings (roleOf role) w
+  word-other role w {z} asked e = ⊎-elim (λ h. word-number role w h) (λ h. word-behind role w h) (between-out 1 6 role (sym asked ∙ not-true z e))
+
+  module _ (role w : ℕ) {z : Bool} (asked : z ≡ isNameCode role) (e : not z ≡ false) where
+    at : (1 ≤ role) × (role ≤ 6)
+    at = between-in 1 6 role (sym asked ∙ not-false z e)
+
+    named : roleOf role ≡ names (nameRuleOf role)
+    named = role-names role (λ n. omega (arith, at)) (at .1)
+
     -- "Each offset is below the string length"
     pub word-outside : length strings ≤ w → false ≡ nameWordOk strings (roleOf role) w
     unfolding nameOk
-    word-outside h = sym (ap (λ (ρ : Role). nameWordOk strings ρ w) (role-names role some few) ∙ ap (λ (t : Bool). t && nameFits (nameRuleOf role) w (nameIn strings w)) (le-ltb w (length strings) h))
+    word-outside h = sym (ap (λ (ρ : Role). nameWordOk strings ρ w) named ∙ ap (λ (t : Bool). t && nameFits (nameRuleOf role) w (nameIn strings w)) (le-ltb w (length strings) h))
 
     pub word-inside : w < length strings → {r : Bool} → r ≡ nameFits (nameRuleOf role) w (nameIn strings w) → r ≡ nameWordOk strings (roleOf role) w
     unfolding nameOk
-    word-inside h e = e ∙ sym (ap (λ (ρ : Role). nameWordOk strings ρ w) (role-names role some few) ∙ ap (λ (t : Bool). t && nameFits (nameRuleOf role) w (nameIn strings w)) (lt-ltb w (length strings) h))
+    word-inside h e = e ∙ sym (ap (λ (ρ : Role). nameWordOk strings ρ w) named ∙ ap (λ (t : Bool). t && nameFits (nameRuleOf role) w (nameIn strings w)) (lt-ltb w (length strings) h))

@@ -6,6 +6,7 @@ use paper::NameOff;
 use paper::Place;
 use rows::entry_role;
 use rows::entry_words;
+use rows::is_name;
 use rows::kind_of;
 use rows::name_role;
 use rows::once_role;
@@ -55,10 +56,7 @@ fn fits(strings: &[u8], rule: u32, at: NameOff) -> bool
 fn word_ok(bytes: &[u8], strings: &[u8], at: Place, role: u32) -> bool
     ensures { λ r. ⌜ r ≡ nameWordOk (now (strings .entry)) (roleOf role) (wordAt lowFirst (now (bytes .entry)) (at .0)) ⌝ }
 {
-    if role == 0 {
-        return true;
-    }
-    if 6 < role {
+    if !is_name(role) {
         return true;
     }
     let off = words::read(bytes, at);

@@ -9,37 +9,42 @@ use borrow.Author.Needs.{needs}
 use Rattle.rules.proofs.names.word_ok.Statement.{statement}
 use Rattle.rules.proofs.names.word_ok.Tie as tie
 
-returns : tie.Need-returns
-returns c = search needs
+is-name-requires : tie.Need-is-name-requires
+is-name-requires c κs = search needs
 
-returns-2 : tie.Need-returns-2
-returns-2 c = let a = c .before .before .before .before .args in word-other (now (a .strings)) (a .role) _ (c .if2 .taken)
+returns : tie.Need-returns
+returns c =
+    let i = c .before in
+    let a = i .before .before .before .args in
+    word-other (now (a .strings)) (a .role) _ (i .is-name .ensures) (c .if1 .taken)
 
 read-requires : tie.Need-read-requires
 read-requires c κs = search needs
 
-cast-if3 : tie.Need-cast-if3
-cast-if3 c = search needs
+cast-if2 : tie.Need-cast-if2
+cast-if2 c = search needs
 
-returns-3 : tie.Need-returns-3
-returns-3 c =
+returns-2 : tie.Need-returns-2
+returns-2 c =
     let r = c .before in
     let e = r .before in
-    let a = e .before .before .before .before .args in
-    word-outside (now (a .strings)) (a .role) (r .read .result) (e .before .if1 .left) (e .if2 .left) (c .if3 .taken)
+    let i = e .before in
+    let a = i .before .before .before .args in
+    word-outside (now (a .strings)) (a .role) (r .read .result) (i .is-name .ensures) (e .if1 .left) (c .if2 .taken)
     ∙ ap (nameWordOk (now (a .strings)) (roleOf (a .role))) (r .read .ensures)
 
 fits-requires : tie.Need-fits-requires
 fits-requires c κs = search needs
 
-returns-4 : tie.Need-returns-4
-returns-4 c =
+returns-3 : tie.Need-returns-3
+returns-3 c =
     let r = c .before .before in
     let e = r .before in
-    let a = e .before .before .before .before .args in
-    word-inside (now (a .strings)) (a .role) (r .read .result) (e .before .if1 .left) (e .if2 .left) (c .before .if3 .left) (c .fits2 .ensures)
+    let i = e .before in
+    let a = i .before .before .before .args in
+    word-inside (now (a .strings)) (a .role) (r .read .result) (i .is-name .ensures) (e .if1 .left) (c .before .if2 .left) (c .fits2 .ensures)
     ∙ ap (nameWordOk (now (a .strings)) (roleOf (a .role))) (r .read .ensures)
 
 pub word-ok-spec : {M : Type 1} → statement M
 word-ok-spec =
-    tie.close (tie.spec returns returns-2 read-requires cast-if3 returns-3 fits-requires returns-4)
+    tie.close (tie.spec is-name-requires returns read-requires cast-if2 returns-2 fits-requires returns-3)
