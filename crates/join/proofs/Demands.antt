@@ -10,13 +10,13 @@ use lib.ListN.{length, take, drop}
 use lib.Seq.{take-at}
 use native.Mathlib.Omega.{arith}
 use Rattle.gate.specs.Check.{CheckOf}
-use Rattle.gate.proofs.Demands.{paper-accepted, accepted-count, accepted-sizes}
+use Rattle.gate.proofs.Demands.{paper-accepted, accepted-paper, accepted-count, accepted-sizes}
 use Rattle.join.specs.Joins.{JoinOf, handedBack}
 use Rattle.paper.proofs.Demands.{join-bytes, join-count, join-accepted, join-first, join-second, join-size-first, join-size-second}
 use Rattle.paper.proofs.Outcomes.{join-refused, join-made}
 use Rattle.paper.proofs.Questions.{join-named-first, join-named-second, raise-inside}
 use Rattle.paper.proofs.basics.Answers.{sized-one, joined-one}
-use Rattle.paper.proofs.gates.Acceptance.{accepted-meets}
+use Rattle.paper.proofs.gates.Acceptance.{accepted-meets, meets-accepted}
 use Rattle.paper.proofs.gates.Answered.{joined-whole, joined-refused}
 use Rattle.paper.proofs.joins.FullJoins.{joinFull-any}
 use Rattle.paper.proofs.joins.Grouping.{join-assoc}
@@ -198,10 +198,22 @@ join-grouping a b c x y z {j₁} {j₂} {j₃} {j₄} {o₁} {o₂} {o₃} {o₄
     ∙ sym (ap (λ (o : Option (List ℕ)). andThen o (λ (bc : List ℕ). joinFull o₃ a bc)) (handed-full j₃ (f₃ .joins)))
     ∙ sym (then (handedBack j₃ out₃) (λ bc q. handed-full j₄ (f₄ bc q .joins) ∙ joinFull-any o₄ o₃ a bc (f₄ bc q .full) (f₃ .full)))
 
--- joined with the empty table, on either side, an accepted table comes back byte for byte
-module _ (b : List ℕ) (bytes : Bytes b) (p : refusal b fullPlaces fullPlaces ≡ none) {out : List ℕ} {j : Joined} {output : List ℕ} where
-  pub empty-left : FullJoin out (emptyBlob (orderOf b)) b j output → handedBack j output ≡ some b
-  empty-left f = handed-full j (f .joins) ∙ join-empty-left out (f .full) b bytes p
+-- joined with the empty table, on either side, a table that a check has accepted, with whatever slices, comes back byte for byte
+module _ {b : List ℕ} (bytes : Bytes b) {c : Checked} {places work : ℕ} {index left : List ℕ} (k : CheckOf c b places work index left) (n : ℕ) (p : c ≡ Accepted n) where
+  -- slices of full size have places for every table
+  accepted-full : refusal b fullPlaces fullPlaces ≡ none
+  accepted-full =
+      let m = accepted-paper k n p in
+      let few = m .readable .section .few-found in
+      meets-accepted b fullPlaces fullPlaces
+      (record {
+        readable = record { header = m .readable .header; section = m .readable .section; enough-places = omega arith; enough-work = omega arith };
+        sound = m .sound;
+      })
 
-  pub empty-right : FullJoin out b (emptyBlob (orderOf b)) j output → handedBack j output ≡ some b
-  empty-right f = handed-full j (f .joins) ∙ join-empty-right out (f .full) b bytes p
+  module _ {out : List ℕ} {j : Joined} {output : List ℕ} where
+    pub empty-left : FullJoin out (emptyBlob (orderOf b)) b j output → handedBack j output ≡ some b
+    empty-left f = handed-full j (f .joins) ∙ join-empty-left out (f .full) b bytes accepted-full
+
+    pub empty-right : FullJoin out b (emptyBlob (orderOf b)) j output → handedBack j output ≡ some b
+    empty-right f = handed-full j (f .joins) ∙ join-empty-right out (f .full) b bytes accepted-full
