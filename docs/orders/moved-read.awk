@@ -125,7 +125,7 @@ function readUse(words,    open, from, n, m, i, j, names, part) {
     }
 }
 
-# Rattle.paper.specs.Kind and Rattle.paper.specs.Kind are paper/specs/Kind
+# Rattle.paper.specs.rules.Kind and Rattle.paper.specs.rules.Kind are paper/specs/rules/Kind
 function fileAt(path,    dot, part) {
     if (path !~ /^Rattle·/) return path
     dot = index(path, ".")

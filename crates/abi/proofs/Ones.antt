@@ -4,7 +4,7 @@ use Prim.Native.Nat.{ℕ}
 use mathlib.Core.Path.{_≡_, sym, _∙_}
 use mathlib.Core.List.{List}
 use Rattle.abi.specs.Told.{CheckTold, JoinTold, partAnswer, toldIn}
-use Rattle.paper.specs.Size.{sizeOf}
+use Rattle.paper.specs.rules.Size.{sizeOf}
 
 pub check-told-one : {b told : List ℕ} {places workPlaces : ℕ} {index index′ work work′ answer answer′ : List ℕ}
     → CheckTold b places workPlaces told index work answer → CheckTold b places workPlaces told index′ work′ answer′

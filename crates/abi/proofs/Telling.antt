@@ -7,7 +7,7 @@ use native.Mathlib.Omega.{arith}
 use lib.ListN.{length, set}
 use lib.Seq.{take-nil}
 use Rattle.abi.specs.Told.{toldIn}
-use Rattle.paper.specs.Answer.{Answer}
+use Rattle.paper.specs.rules.Answer.{Answer}
 
 module _ (r : Answer) where
   pub told-none : (s : List ℕ) → length s ≡ 0 → s ≡ toldIn r s

@@ -4,10 +4,10 @@ use mathlib.Core.Path.{_≡_}
 use mathlib.Core.Bool.{cond}
 use mathlib.Core.List.{List, [], _∷_, _++_}
 use lib.ListN.{length, take, drop}
-use Rattle.paper.specs.Answer.{Answer}
-use Rattle.paper.specs.Gate.{gate}
-use Rattle.paper.specs.Join.{join}
-use Rattle.paper.specs.Name.{nameless, nameAt, nameStart}
+use Rattle.paper.specs.rules.Answer.{Answer}
+use Rattle.paper.specs.rules.Gate.{gate}
+use Rattle.paper.specs.rules.Join.{join}
+use Rattle.paper.specs.rules.Name.{nameless, nameAt, nameStart}
 
 -- the four numbers of an answer, as many as fit, over the first places of a slice
 unfoldable pub toldIn : Answer → List ℕ → List ℕ

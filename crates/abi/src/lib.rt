@@ -9,7 +9,7 @@ ghost use mathlib.Core.Path.{_≡_};
 ghost use lib.ListN.{length};
 ghost use Rattle.abi.specs.Told.{CheckTold, JoinTold, partAnswer, toldIn};
 ghost use Rattle.answers.specs.Numbers.{asPaper};
-ghost use Rattle.paper.specs.Size.{sizeOf};
+ghost use Rattle.paper.specs.rules.Size.{sizeOf};
 
 // The four numbers, in the first places of a lent slice.
 fn tell(n: Numbers, answer: &mut [u32])

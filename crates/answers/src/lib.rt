@@ -6,7 +6,7 @@ use paper::Report;
 use paper::Sized;
 use paper::TypeNo;
 ghost use mathlib.Core.Path.{_≡_};
-ghost use Rattle.paper.specs.Answer.{checkedAsPaper, inside, joinedAsPaper, report, reportAsPaper, reportAt, sizedAsPaper, value};
+ghost use Rattle.paper.specs.rules.Answer.{checkedAsPaper, inside, joinedAsPaper, report, reportAsPaper, reportAt, sizedAsPaper, value};
 ghost use Rattle.answers.specs.Numbers.{asPaper};
 
 // The number, the number of the report inside a join's refusal, the type or the count, the size, the length or the place.

@@ -13,19 +13,19 @@ use Rattle.links.proofs.Linking.{links-say}
 use Rattle.links.specs.Links.{linkedAsPaper, linksSay}
 use Rattle.links.specs.declared.whole.Linked.{Linked}
 use Rattle.links.specs.declared.whole.Linked.the-variants.{Good, Reference, Endless}
-use Rattle.paper.specs.Limits.{typeLimit}
+use Rattle.paper.specs.rules.Limits.{typeLimit}
 use Rattle.views.specs.Shown.{placeBy, tableBy}
 use Rattle.views.specs.declared.View.{View}
 use Rattle.gate.specs.Standing.{Standing}
 use Rattle.gate.specs.declared.phases.Said.{Said}
 use Rattle.gate.specs.declared.phases.Said.the-variants.{Nothing, Says}
 use Rattle.paper.proofs.Outcomes.{gate-refused, gate-accepted, length-indexOf, getD-indexOf}
-use Rattle.paper.specs.Answer.{Answer, report, reportAt, checkedAsPaper}
-use Rattle.paper.specs.Choice.{orElse}
-use Rattle.paper.specs.Fit.{Bytes}
-use Rattle.paper.specs.Gate.{phase1, phase2, shortSlices, phase3, phase4, phase5, phase6, overTypes, tableReport, refusal, zeros, indexOf, Outcome, outcome, gate}
-use Rattle.paper.specs.Table.{Table, count}
-use Rattle.paper.specs.Walk.{tableOf}
+use Rattle.paper.specs.rules.Answer.{Answer, report, reportAt, checkedAsPaper}
+use Rattle.paper.specs.rules.Choice.{orElse}
+use Rattle.paper.specs.terms.Fit.{Bytes}
+use Rattle.paper.specs.rules.Gate.{phase1, phase2, shortSlices, phase3, phase4, phase5, phase6, overTypes, tableReport, refusal, zeros, indexOf, Outcome, outcome, gate}
+use Rattle.paper.specs.rules.Table.{Table, count}
+use Rattle.paper.specs.rules.Walk.{tableOf}
 use Rattle.paper.specs.declared.Checked.the-variants.{Accepted, Refused}
 use Rattle.paper.specs.declared.Report.{Report}
 use Rattle.paper.specs.declared.TypeNo.{TypeNo}

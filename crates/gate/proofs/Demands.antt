@@ -17,19 +17,19 @@ use Rattle.paper.proofs.Outcomes.{gate-refused, gate-accepted, index-place, who
 use Rattle.paper.proofs.gates.Earlies.{refusal-early}
 use Rattle.paper.proofs.gates.Reports.{refusal-spoken, report-14}
 use Rattle.paper.proofs.gates.Wheres.{report-stands, report-inside, report-bytes}
-use Rattle.paper.specs.Answer.{reportAsPaper, checkedAsPaper, sizedAsPaper}
-use Rattle.paper.specs.Chain.{heldBy, pointedBy, Chain}
-use Rattle.paper.specs.Early.{SpokenEarly}
-use Rattle.paper.specs.Fit.{Bytes}
-use Rattle.paper.specs.Gate.{refusal, zeros, Outcome, gate}
-use Rattle.paper.specs.Good.{Readable, Meets}
-use Rattle.paper.specs.Header.{orderOf}
-use Rattle.paper.specs.Size.{exactSize, answerOf, sizeOf}
-use Rattle.paper.specs.Smallest.{Spoken}
-use Rattle.paper.specs.Table.{count, recordAt, wordsOf}
-use Rattle.paper.specs.Walk.{tableOf}
-use Rattle.paper.specs.Where.{StandsAt}
-use Rattle.paper.specs.Word.{bytesOfWords}
+use Rattle.paper.specs.rules.Answer.{reportAsPaper, checkedAsPaper, sizedAsPaper}
+use Rattle.paper.specs.rules.Chain.{heldBy, pointedBy, Chain}
+use Rattle.paper.specs.terms.Early.{SpokenEarly}
+use Rattle.paper.specs.terms.Fit.{Bytes}
+use Rattle.paper.specs.rules.Gate.{refusal, zeros, Outcome, gate}
+use Rattle.paper.specs.terms.Good.{Readable, Meets}
+use Rattle.paper.specs.rules.Header.{orderOf}
+use Rattle.paper.specs.rules.Size.{exactSize, answerOf, sizeOf}
+use Rattle.paper.specs.terms.Smallest.{Spoken}
+use Rattle.paper.specs.rules.Table.{count, recordAt, wordsOf}
+use Rattle.paper.specs.rules.Walk.{tableOf}
+use Rattle.paper.specs.terms.Where.{StandsAt}
+use Rattle.paper.specs.rules.Word.{bytesOfWords}
 use Rattle.paper.specs.declared.Checked.{Checked}
 use Rattle.paper.specs.declared.Checked.the-variants.{Accepted, Refused}
 use Rattle.paper.specs.declared.Report.{Report}

@@ -14,15 +14,15 @@ use Rattle.paper.proofs.bytes.Blobs.{strings-tableOf}
 use Rattle.paper.proofs.bytes.Headers.{facts-headerReport}
 use Rattle.paper.proofs.bytes.Places.{length-placesOf}
 use Rattle.paper.proofs.bytes.Reading.{recordIn-place}
-use Rattle.paper.specs.Header.{orderOf}
-use Rattle.paper.specs.Reading.{recordIn}
-use Rattle.paper.specs.Table.{Table, nothing}
-use Rattle.paper.specs.Walk.{tableOf, placesOf, placeAt}
-use Rattle.paper.specs.Word.{lowFirst}
+use Rattle.paper.specs.rules.Header.{orderOf}
+use Rattle.paper.specs.terms.Reading.{recordIn}
+use Rattle.paper.specs.rules.Table.{Table, nothing}
+use Rattle.paper.specs.rules.Walk.{tableOf, placesOf, placeAt}
+use Rattle.paper.specs.rules.Word.{lowFirst}
 use Rattle.views.proofs.Shows.{getD-else, tableBy-is, placeBy-void, placeBy-above, placeBy-there}
 use Rattle.gate.specs.Said.{overShown}
-use Rattle.paper.specs.Choice.{Rule}
-use Rattle.paper.specs.Gate.{firstOf, overTypes}
+use Rattle.paper.specs.rules.Choice.{Rule}
+use Rattle.paper.specs.rules.Gate.{firstOf, overTypes}
 use Rattle.views.specs.Shown.{recordBy, tableBy, placeBy}
 use Rattle.views.specs.declared.View.{View}
 

@@ -4,13 +4,13 @@ use Prim.Native.Nat.{ℕ}
 use mathlib.Core.Path.{_≡_, ap₂, _∙_}
 use mathlib.Core.Bool.{Bool, not}
 use mathlib.Core.List.{List, [], _∷_}
-use Rattle.paper.specs.Choice.{_when_, firstDue}
-use Rattle.paper.specs.Gate.{namingAt, phase3, phase6}
-use Rattle.paper.specs.Heads.{headBad}
-use Rattle.paper.specs.Layout.{layoutOk, layoutBad}
-use Rattle.paper.specs.Names.{nameBad}
-use Rattle.paper.specs.Table.{Record, Table, recordAt}
-use Rattle.paper.specs.Tails.{tailBad}
+use Rattle.paper.specs.rules.Choice.{_when_, firstDue}
+use Rattle.paper.specs.rules.Gate.{namingAt, phase3, phase6}
+use Rattle.paper.specs.rules.Heads.{headBad}
+use Rattle.paper.specs.rules.Layout.{layoutOk, layoutBad}
+use Rattle.paper.specs.rules.Names.{nameBad}
+use Rattle.paper.specs.rules.Table.{Record, Table, recordAt}
+use Rattle.paper.specs.rules.Tails.{tailBad}
 use Rattle.rules.specs.Phase.{dueAsPaper, rulesOf}
 use Rattle.rules.specs.declared.phase.Due.{Due}
 

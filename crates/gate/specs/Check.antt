@@ -4,8 +4,8 @@ use mathlib.Core.Path.{_≡_}
 use mathlib.Core.List.{List}
 use lib.ListN.{length}
 use Rattle.gate.specs.Standing.{Standing}
-use Rattle.paper.specs.Answer.{checkedAsPaper}
-use Rattle.paper.specs.Gate.{gate}
+use Rattle.paper.specs.rules.Answer.{checkedAsPaper}
+use Rattle.paper.specs.rules.Gate.{gate}
 use Rattle.paper.specs.declared.Checked.{Checked}
 
 -- a blob that phases 1 and 2 have passed, and a work slice with a place for each type

@@ -5,10 +5,10 @@ use mathlib.Core.List.{List}
 use mathlib.Core.Option.{Option, none, some}
 use Rattle.gate.specs.declared.phases.Said.{Said}
 use Rattle.gate.specs.declared.phases.Said.the-variants.{Nothing, Says}
-use Rattle.paper.specs.Answer.{Answer, reportAsPaper}
-use Rattle.paper.specs.Choice.{Rule}
-use Rattle.paper.specs.Gate.{firstOf}
-use Rattle.paper.specs.Table.{Table}
+use Rattle.paper.specs.rules.Answer.{Answer, reportAsPaper}
+use Rattle.paper.specs.rules.Choice.{Rule}
+use Rattle.paper.specs.rules.Gate.{firstOf}
+use Rattle.paper.specs.rules.Table.{Table}
 use Rattle.views.specs.Shown.{placeBy, tableBy}
 use Rattle.views.specs.declared.View.{View}
 

@@ -3,10 +3,10 @@ use Prim.Native.Nat.{ℕ, suc, _<_}
 use mathlib.Core.Path.{_≡_}
 use mathlib.Core.List.{List}
 use lib.ListN.{length, getD}
-use Rattle.paper.specs.Fit.{Bytes}
-use Rattle.paper.specs.Good.{Readable}
-use Rattle.paper.specs.Table.{count}
-use Rattle.paper.specs.Walk.{tableOf, placesOf}
+use Rattle.paper.specs.terms.Fit.{Bytes}
+use Rattle.paper.specs.terms.Good.{Readable}
+use Rattle.paper.specs.rules.Table.{count}
+use Rattle.paper.specs.rules.Walk.{tableOf, placesOf}
 
 -- a blob of n types, and an index that has their places
 pub record Standing (b index : List ℕ) (n : ℕ) : Type 0 where

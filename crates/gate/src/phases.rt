@@ -9,8 +9,8 @@ use views::record_of;
 use views::strings_of;
 ghost use mathlib.Core.Path.{_≡_};
 ghost use Rattle.gate.specs.Said.{overShown, saidAsPaper};
-ghost use Rattle.paper.specs.Choice.{firstDue};
-ghost use Rattle.paper.specs.Gate.{namingAt, phase3, phase6};
+ghost use Rattle.paper.specs.rules.Choice.{firstDue};
+ghost use Rattle.paper.specs.rules.Gate.{namingAt, phase3, phase6};
 ghost use Rattle.views.specs.Shown.{placeBy, tableBy};
 
 // What a phase says: nothing, or a report.

@@ -15,8 +15,8 @@ ghost use mathlib.Core.Path.{_≡_};
 ghost use lib.ListN.{length};
 ghost use Rattle.gate.specs.Check.{AnswerOf, CheckOf, Judgeable};
 ghost use Rattle.gate.specs.Said.{saidAsPaper};
-ghost use Rattle.paper.specs.Gate.{tableReport};
-ghost use Rattle.paper.specs.Walk.{tableOf};
+ghost use Rattle.paper.specs.rules.Gate.{tableReport};
+ghost use Rattle.paper.specs.rules.Walk.{tableOf};
 
 // What phases 3 to 6 say: the earliest speaks.
 fn judge<'a>(base: &'a [u8], b: &'a [u8], index: &[u32], view: View, work: &mut [u32]) -> Said

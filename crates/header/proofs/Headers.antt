@@ -12,11 +12,11 @@ use lib.Dec.{eqb}
 use lib.ListN.{length, getD, take, length-take}
 use lib.Seq.{getD-drop}
 use Rattle.paper.proofs.basics.Choices.{or-left, or-right, same-true}
-use Rattle.paper.specs.Answer.{report}
-use Rattle.paper.specs.Choice.{differ, same}
-use Rattle.paper.specs.Gate.{phase1}
-use Rattle.paper.specs.Header.{orderOf, opening, typeOff, typeLen, strOff, strLen, stringsIn, lengthBad, openingBad, headerLengthBad, sectionsBad, stringsBad, headerReport}
-use Rattle.paper.specs.Word.{lowFirst, wordAt}
+use Rattle.paper.specs.rules.Answer.{report}
+use Rattle.paper.specs.rules.Choice.{differ, same}
+use Rattle.paper.specs.rules.Gate.{phase1}
+use Rattle.paper.specs.rules.Header.{orderOf, opening, typeOff, typeLen, strOff, strLen, stringsIn, lengthBad, openingBad, headerLengthBad, sectionsBad, stringsBad, headerReport}
+use Rattle.paper.specs.rules.Word.{lowFirst, wordAt}
 
 -- numbers that are not equal differ
 differ-other : (m n : ℕ) → (m ≡ n → ⊥) → differ m n ≡ true

@@ -20,12 +20,12 @@ use Rattle.header.specs.declared.first.Header.{Header}
 use Rattle.header.specs.declared.first.Header.the-variants.{Good, Bad}
 use Rattle.header.specs.declared.first.Sections.{Sections}
 use Rattle.paper.specs.declared.Report.{Report}
-use Rattle.paper.specs.Answer.{Answer}
-use Rattle.paper.specs.Gate.{naming, phase1}
-use Rattle.paper.specs.Header.{orderOf, strLen, typeLen, stringsIn, headerReport}
-use Rattle.paper.specs.Name.{untilZero, nameIn, nameless, nameAt, nameStart}
-use Rattle.paper.specs.Choice.{isSome}
-use Rattle.paper.specs.Word.{lowFirst, wordAt}
+use Rattle.paper.specs.rules.Answer.{Answer}
+use Rattle.paper.specs.rules.Gate.{naming, phase1}
+use Rattle.paper.specs.rules.Header.{orderOf, strLen, typeLen, stringsIn, headerReport}
+use Rattle.paper.specs.rules.Name.{untilZero, nameIn, nameless, nameAt, nameStart}
+use Rattle.paper.specs.rules.Choice.{isSome}
+use Rattle.paper.specs.rules.Word.{lowFirst, wordAt}
 
 -- ── a scan ──
 

@@ -6,9 +6,9 @@ use mathlib.Core.Option.{none, some}
 use Rattle.header.specs.declared.first.Header.{Header}
 use Rattle.header.specs.declared.first.Header.the-variants.{Good, Bad}
 use Rattle.header.specs.declared.first.Sections.{Sections}
-use Rattle.paper.specs.Answer.{reportAsPaper}
-use Rattle.paper.specs.Gate.{phase1}
-use Rattle.paper.specs.Header.{typeLen, strLen}
+use Rattle.paper.specs.rules.Answer.{reportAsPaper}
+use Rattle.paper.specs.rules.Gate.{phase1}
+use Rattle.paper.specs.rules.Header.{typeLen, strLen}
 
 -- phase 1 has nothing to say, and how long the two sections are
 pub record SectionsOf (s : Sections) (b : List ℕ) : Type 0 where

@@ -4,7 +4,7 @@ use mathlib.Core.Path.{_≡_}
 use mathlib.Core.List.{List}
 use denote.Ref.{RefT, now, ptr}
 use lib.ListN.{length, take}
-use Rattle.paper.specs.Name.{untilZero, nameAt, nameStart}
+use Rattle.paper.specs.rules.Name.{untilZero, nameAt, nameStart}
 use Rattle.paper.specs.declared.Part.{Part}
 
 -- the first n bytes are what stands up to the first zero byte

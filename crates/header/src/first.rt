@@ -4,7 +4,7 @@ use paper::Report;
 ghost use mathlib.Core.Path.{_≡_};
 ghost use lib.ListN.{getD};
 ghost use Rattle.header.specs.Header.{HeaderOf};
-ghost use Rattle.paper.specs.Header.{lengthBad, openingBad, headerLengthBad, sectionsBad, stringsBad};
+ghost use Rattle.paper.specs.rules.Header.{lengthBad, openingBad, headerLengthBad, sectionsBad, stringsBad};
 
 // How long the two sections behind a good header are.
 pub struct Sections {

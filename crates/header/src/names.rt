@@ -6,7 +6,7 @@ use paper::Part;
 use paper::Place;
 ghost use mathlib.Core.Path.{_≡_};
 ghost use Rattle.header.specs.Part.{Ending, NamePart, PartOf};
-ghost use Rattle.paper.specs.Name.{nameless};
+ghost use Rattle.paper.specs.rules.Name.{nameless};
 
 // How many bytes stand before the first zero byte, or the end.
 fn until_zero(s: &[u8]) -> usize

@@ -11,8 +11,8 @@ use lib.Dec.{eqb, leb}
 use lib.ListN.{length, getD, drop, drop-of-length-le}
 use lib.Seq.{drop-cons}
 use Rattle.paper.proofs.basics.Choices.{or-nothing}
-use Rattle.paper.specs.Choice.{every, isEmpty, isSome}
-use Rattle.paper.specs.Name.{untilZero, nameIn, between, isDigit, isLetter, identifierLength, isSectionName}
+use Rattle.paper.specs.rules.Choice.{every, isEmpty, isSome}
+use Rattle.paper.specs.rules.Name.{untilZero, nameIn, between, isDigit, isLetter, identifierLength, isSectionName}
 use Rattle.idents.specs.Spelling.{runs, runLength}
 use Rattle.idents.proofs.Runs.{runLength-runs}
 use Rattle.idents.proofs.Sets.{identifierByte, between-past}

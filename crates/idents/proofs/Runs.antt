@@ -12,8 +12,8 @@ use lib.Dec.{leb}
 use lib.ListN.{length, getD, drop, drop-of-length-le}
 use lib.Seq.{drop-cons}
 use Rattle.paper.proofs.basics.Choices.{and-false}
-use Rattle.paper.specs.Choice.{every, isSome}
-use Rattle.paper.specs.Name.{untilZero}
+use Rattle.paper.specs.rules.Choice.{every, isSome}
+use Rattle.paper.specs.rules.Name.{untilZero}
 use Rattle.idents.specs.declared.Spelt.{Spelt}
 use Rattle.idents.specs.declared.Spelt.the-variants.{Bytes, Not}
 use Rattle.idents.specs.Spelling.{runs, runLength, speltAsPaper}

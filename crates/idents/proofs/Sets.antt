@@ -11,7 +11,7 @@ use borrow.Author.Tests.{ne-eqb, lt-leb, eqb-true, eqb-false, leb-true, leb-fals
 use lib.Dec.{eqb, leb}
 use lib.ListN.{length, List·getD-eq-default}
 use Rattle.paper.proofs.basics.Choices.{and-left, and-right, and-false}
-use Rattle.paper.specs.Name.{between, isDigit, isLetter}
+use Rattle.paper.specs.rules.Name.{between, isDigit, isLetter}
 use Rattle.idents.specs.Spelling.{among, runLength}
 
 -- a byte of an identifier, as its definition says it

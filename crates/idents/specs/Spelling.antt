@@ -7,8 +7,8 @@ use lib.Dec.{eqb, leb}
 use lib.ListN.{length, getD}
 use Rattle.idents.specs.declared.Spelt.{Spelt}
 use Rattle.idents.specs.declared.Spelt.the-variants.{Bytes, Not}
-use Rattle.paper.specs.Choice.{every}
-use Rattle.paper.specs.Name.{untilZero}
+use Rattle.paper.specs.rules.Choice.{every}
+use Rattle.paper.specs.rules.Name.{untilZero}
 
 -- a byte is of a set: four words, of a bit for each byte
 unfoldable pub among : List ℕ → ℕ → Bool

@@ -4,7 +4,7 @@ use paper::NameOff;
 ghost use mathlib.Core.Path.{_≡_};
 ghost use mathlib.Core.Bool.{false};
 ghost use lib.ListN.{drop};
-ghost use Rattle.paper.specs.Name.{identifierLength, isSectionName, nameIn};
+ghost use Rattle.paper.specs.rules.Name.{identifierLength, isSectionName, nameIn};
 ghost use Rattle.idents.specs.Spelling.{among, runLength, speltAsPaper};
 
 // How many bytes a name has, or that it is not what was asked for.

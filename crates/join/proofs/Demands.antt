@@ -22,19 +22,19 @@ use Rattle.paper.proofs.joins.FullJoins.{joinFull-any}
 use Rattle.paper.proofs.joins.Grouping.{join-assoc}
 use Rattle.paper.proofs.joins.JoinRefusals.{joinRefusal-joinable, joinable-joinRefusal, inside-16, inside-17}
 use Rattle.paper.proofs.joins.Neutral.{join-empty-left, join-empty-right}
-use Rattle.paper.specs.Answer.{Answer, inside, sizedAsPaper, joinedAsPaper}
-use Rattle.paper.specs.Fit.{Bytes}
-use Rattle.paper.specs.Full.{joinFull, andThen, emptyBlob}
-use Rattle.paper.specs.Gate.{refusal, zeros}
-use Rattle.paper.specs.Good.{Joinable}
-use Rattle.paper.specs.Header.{orderOf, strLen}
-use Rattle.paper.specs.Join.{raised, joinedBytes, joinRefusal, JoinOutcome, joinOutcome, join}
-use Rattle.paper.specs.Limits.{byteLimit, fullPlaces}
-use Rattle.paper.specs.Name.{nameAt}
-use Rattle.paper.specs.Rename.{raise}
-use Rattle.paper.specs.Size.{exactSize, answerOf, sizeOf}
-use Rattle.paper.specs.Table.{count, recordAt}
-use Rattle.paper.specs.Walk.{tableOf}
+use Rattle.paper.specs.rules.Answer.{Answer, inside, sizedAsPaper, joinedAsPaper}
+use Rattle.paper.specs.terms.Fit.{Bytes}
+use Rattle.paper.specs.terms.Full.{joinFull, andThen, emptyBlob}
+use Rattle.paper.specs.rules.Gate.{refusal, zeros}
+use Rattle.paper.specs.terms.Good.{Joinable}
+use Rattle.paper.specs.rules.Header.{orderOf, strLen}
+use Rattle.paper.specs.rules.Join.{raised, joinedBytes, joinRefusal, JoinOutcome, joinOutcome, join}
+use Rattle.paper.specs.rules.Limits.{byteLimit, fullPlaces}
+use Rattle.paper.specs.rules.Name.{nameAt}
+use Rattle.paper.specs.rules.Rename.{raise}
+use Rattle.paper.specs.rules.Size.{exactSize, answerOf, sizeOf}
+use Rattle.paper.specs.rules.Table.{count, recordAt}
+use Rattle.paper.specs.rules.Walk.{tableOf}
 use Rattle.paper.specs.declared.Checked.{Checked}
 use Rattle.paper.specs.declared.Checked.the-variants.{Accepted}
 use Rattle.paper.specs.declared.Joined.{Joined}

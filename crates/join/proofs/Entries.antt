@@ -11,9 +11,9 @@ use Rattle.join.specs.declared.groups.Group.{Group}
 use Rattle.join.specs.declared.groups.Shift.{Shift}
 use Rattle.paper.proofs.bytes.Puts.{put-none, put-put}
 use Rattle.join.proofs.RaisedWords.{length-raisedFrom, raisedFrom-append}
-use Rattle.paper.specs.Choice.{times}
-use Rattle.paper.specs.Kind.{Role}
-use Rattle.paper.specs.Put.{put}
+use Rattle.paper.specs.rules.Choice.{times}
+use Rattle.paper.specs.rules.Kind.{Role}
+use Rattle.paper.specs.terms.Put.{put}
 
 -- so many entries are left, of v from a place on
 pub record Entering (by : Shift) (g : Group) (s : List ℕ) (v from at : ℕ) (before : List ℕ) (p q left : ℕ) (after : List ℕ) : Type 0 where

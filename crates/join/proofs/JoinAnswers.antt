@@ -14,15 +14,15 @@ use Rattle.paper.proofs.gates.Acceptance.{accepted-meets, accepted-bytes, accep
 use Rattle.paper.proofs.gates.Answered.{checked-accepted, checked-refused}
 use Rattle.paper.proofs.joins.Grouping.{length-join}
 use Rattle.paper.proofs.joins.JoinRefusals.{joinRefusal-limits, joinable-joinRefusal, join-16, join-17, join-18, join-19, join-20}
-use Rattle.paper.specs.Answer.{Answer, value, joinedAsPaper}
-use Rattle.paper.specs.Fit.{Bytes}
-use Rattle.paper.specs.Gate.{Outcome, refusal, zeros}
-use Rattle.paper.specs.Good.{Joinable}
-use Rattle.paper.specs.Header.{orderOf}
-use Rattle.paper.specs.Join.{joinTables, joinedBytes, limitReport, joinRefusal, JoinOutcome, joinOutcome, join}
-use Rattle.paper.specs.Limits.{typeLimit, byteLimit}
-use Rattle.paper.specs.Table.{count}
-use Rattle.paper.specs.Walk.{tableOf}
+use Rattle.paper.specs.rules.Answer.{Answer, value, joinedAsPaper}
+use Rattle.paper.specs.terms.Fit.{Bytes}
+use Rattle.paper.specs.rules.Gate.{Outcome, refusal, zeros}
+use Rattle.paper.specs.terms.Good.{Joinable}
+use Rattle.paper.specs.rules.Header.{orderOf}
+use Rattle.paper.specs.rules.Join.{joinTables, joinedBytes, limitReport, joinRefusal, JoinOutcome, joinOutcome, join}
+use Rattle.paper.specs.rules.Limits.{typeLimit, byteLimit}
+use Rattle.paper.specs.rules.Table.{count}
+use Rattle.paper.specs.rules.Walk.{tableOf}
 use Rattle.paper.specs.declared.Checked.the-variants.{Accepted, Refused}
 use Rattle.paper.specs.declared.Joined.{Joined}
 use Rattle.paper.specs.declared.Joined.the-variants.{Whole, FirstRefused, SecondRefused, TooMany, TooLong, OutputShort}

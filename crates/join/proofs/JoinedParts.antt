@@ -18,14 +18,14 @@ use Rattle.paper.proofs.bytes.Tables.{headerOf, bytesOf-parts, length-bytesOf}
 use Rattle.paper.proofs.gates.Acceptance.{accepted-meets, accepted-closed}
 use Rattle.paper.proofs.joins.Grouping.{words-join}
 use Rattle.paper.proofs.joins.Joining.{length-strings}
-use Rattle.paper.specs.Good.{Readable}
-use Rattle.paper.specs.Header.{orderOf, typeLen, strLen, stringsIn}
-use Rattle.paper.specs.Join.{raised, joinTables, joinedBytes}
-use Rattle.paper.specs.Limits.{byteLimit}
-use Rattle.paper.specs.Put.{put}
-use Rattle.paper.specs.Rename.{rename, raise}
-use Rattle.paper.specs.Walk.{tableOf, flat, typeLenOf}
-use Rattle.paper.specs.Word.{lowFirst, wordAt, bytesOfWords}
+use Rattle.paper.specs.terms.Good.{Readable}
+use Rattle.paper.specs.rules.Header.{orderOf, typeLen, strLen, stringsIn}
+use Rattle.paper.specs.rules.Join.{raised, joinTables, joinedBytes}
+use Rattle.paper.specs.rules.Limits.{byteLimit}
+use Rattle.paper.specs.terms.Put.{put}
+use Rattle.paper.specs.rules.Rename.{rename, raise}
+use Rattle.paper.specs.rules.Walk.{tableOf, flat, typeLenOf}
+use Rattle.paper.specs.rules.Word.{lowFirst, wordAt, bytesOfWords}
 
 -- ── the lengths ──
 

@@ -7,9 +7,9 @@ use mathlib.Core.Bool.{cond}
 use native.Mathlib.Omega.{arith}
 use lib.Dec.{leb}
 use lib.ListN.{length, take, drop, length-append}
-use Rattle.paper.specs.Fit.{wordBound}
-use Rattle.paper.specs.Put.{put}
-use Rattle.paper.specs.Word.{lowFirst, wordBytes, bytesOfWords, putWord}
+use Rattle.paper.specs.terms.Fit.{wordBound}
+use Rattle.paper.specs.terms.Put.{put}
+use Rattle.paper.specs.rules.Word.{lowFirst, wordBytes, bytesOfWords, putWord}
 use Rattle.paper.proofs.bytes.Words.{putWord-inside}
 use Rattle.paper.proofs.bytes.Puts.{length-put, put-put}
 

@@ -18,14 +18,14 @@ use Rattle.paper.proofs.bytes.Puts.{put-none, length-put, put-put}
 use Rattle.paper.proofs.bytes.Reading.{length-recordIn, recordIn-place}
 use Rattle.paper.proofs.gates.Acceptance.{readable-walk}
 use Rattle.paper.proofs.joins.Grouping.{flat-rename}
-use Rattle.paper.specs.Choice.{times}
-use Rattle.paper.specs.Header.{orderOf}
-use Rattle.paper.specs.Kind.{rowOf}
-use Rattle.paper.specs.Put.{put}
-use Rattle.paper.specs.Reading.{recordIn}
-use Rattle.paper.specs.Table.{Record, count, nothing, kindIn, vlenIn, tailLength, wordsOf}
-use Rattle.paper.specs.Walk.{tableOf, flat, typeLenOf, placesOf}
-use Rattle.paper.specs.Word.{lowFirst, bytesOfWords, wordAt}
+use Rattle.paper.specs.rules.Choice.{times}
+use Rattle.paper.specs.rules.Header.{orderOf}
+use Rattle.paper.specs.rules.Kind.{rowOf}
+use Rattle.paper.specs.terms.Put.{put}
+use Rattle.paper.specs.terms.Reading.{recordIn}
+use Rattle.paper.specs.rules.Table.{Record, count, nothing, kindIn, vlenIn, tailLength, wordsOf}
+use Rattle.paper.specs.rules.Walk.{tableOf, flat, typeLenOf, placesOf}
+use Rattle.paper.specs.rules.Word.{lowFirst, bytesOfWords, wordAt}
 
 -- ── a record ──
 

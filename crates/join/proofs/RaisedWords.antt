@@ -14,16 +14,16 @@ use Rattle.join.specs.declared.groups.Shift.{Shift}
 use Rattle.join.proofs.PutWords.{put-word, putWord-cut}
 use Rattle.paper.proofs.bytes.Puts.{put-none, length-put, put-put}
 use Rattle.paper.proofs.bytes.Reading.{length-times}
-use Rattle.paper.specs.Choice.{times}
-use Rattle.paper.specs.Fit.{wordBound}
-use Rattle.paper.specs.Kind.{Role, names, refers, holds, number, rowOf}
-use Rattle.paper.specs.Put.{put}
-use Rattle.paper.specs.Reading.{recordIn, wordsFrom}
-use Rattle.paper.specs.Rename.{rename, raise}
-use Rattle.paper.specs.Table.{kindIn, vlenIn, tailLength, tailRoles}
+use Rattle.paper.specs.rules.Choice.{times}
+use Rattle.paper.specs.terms.Fit.{wordBound}
+use Rattle.paper.specs.rules.Kind.{Role, names, refers, holds, number, rowOf}
+use Rattle.paper.specs.terms.Put.{put}
+use Rattle.paper.specs.terms.Reading.{recordIn, wordsFrom}
+use Rattle.paper.specs.rules.Rename.{rename, raise}
+use Rattle.paper.specs.rules.Table.{kindIn, vlenIn, tailLength, tailRoles}
 use Rattle.rows.proofs.RoleCodes.{nameCode-range, refCode-range, roleCode-high, between-in, between-out}
 use Rattle.rows.specs.Codes.{roleCode, roleAt, isNameCode, isRefCode}
-use Rattle.paper.specs.Word.{lowFirst, wordBytes, bytesOfWords, wordAt, putWord}
+use Rattle.paper.specs.rules.Word.{lowFirst, wordBytes, bytesOfWords, wordAt, putWord}
 
 module _ (by : Shift) (s : List ℕ) where
   pub raisedFrom-one : (p : ℕ) (ρ : Role) (ρs : List Role) → raisedFrom by s p (ρ ∷ ρs) ≡ wordBytes lowFirst (raisedWord by ρ (wordAt lowFirst s p)) ++ raisedFrom by s (p + 4) ρs

@@ -4,13 +4,13 @@ use mathlib.Core.Path.{_≡_}
 use mathlib.Core.List.{List}
 use mathlib.Core.Option.{Option, none, some}
 use lib.ListN.{length, take}
-use Rattle.paper.specs.Answer.{joinedAsPaper}
-use Rattle.paper.specs.Fit.{Bytes}
-use Rattle.paper.specs.Gate.{refusal}
-use Rattle.paper.specs.Join.{joinedBytes, limitReport, JoinOutcome, joinOutcome, join}
-use Rattle.paper.specs.Limits.{byteLimit}
-use Rattle.paper.specs.Table.{count}
-use Rattle.paper.specs.Walk.{tableOf}
+use Rattle.paper.specs.rules.Answer.{joinedAsPaper}
+use Rattle.paper.specs.terms.Fit.{Bytes}
+use Rattle.paper.specs.rules.Gate.{refusal}
+use Rattle.paper.specs.rules.Join.{joinedBytes, limitReport, JoinOutcome, joinOutcome, join}
+use Rattle.paper.specs.rules.Limits.{byteLimit}
+use Rattle.paper.specs.rules.Table.{count}
+use Rattle.paper.specs.rules.Walk.{tableOf}
 use Rattle.paper.specs.declared.Joined.{Joined}
 use Rattle.paper.specs.declared.Joined.the-variants.{Whole, FirstRefused, SecondRefused, TooMany, TooLong, OutputShort}
 

@@ -5,16 +5,16 @@ use mathlib.Core.List.{List, [], _∷_, map}
 use lib.ListN.{length}
 use Rattle.join.specs.declared.groups.Group.{Group}
 use Rattle.join.specs.declared.groups.Shift.{Shift}
-use Rattle.paper.specs.Choice.{times}
-use Rattle.paper.specs.Fit.{Bytes, wordBound}
-use Rattle.paper.specs.Good.{Readable}
-use Rattle.paper.specs.Kind.{Role, names, number, rowOf}
-use Rattle.paper.specs.Put.{put}
-use Rattle.paper.specs.Reading.{wordsFrom, recordIn}
-use Rattle.paper.specs.Rename.{renameWord, renameWords, rename, raise}
-use Rattle.paper.specs.Table.{Record, count, wordsOf}
-use Rattle.paper.specs.Walk.{tableOf, flat, typeLenOf}
-use Rattle.paper.specs.Word.{lowFirst, bytesOfWords, putWord}
+use Rattle.paper.specs.rules.Choice.{times}
+use Rattle.paper.specs.terms.Fit.{Bytes, wordBound}
+use Rattle.paper.specs.terms.Good.{Readable}
+use Rattle.paper.specs.rules.Kind.{Role, names, number, rowOf}
+use Rattle.paper.specs.terms.Put.{put}
+use Rattle.paper.specs.terms.Reading.{wordsFrom, recordIn}
+use Rattle.paper.specs.rules.Rename.{renameWord, renameWords, rename, raise}
+use Rattle.paper.specs.rules.Table.{Record, count, wordsOf}
+use Rattle.paper.specs.rules.Walk.{tableOf, flat, typeLenOf}
+use Rattle.paper.specs.rules.Word.{lowFirst, bytesOfWords, putWord}
 use Rattle.rows.specs.Codes.{roleAt, roleCode}
 
 -- the raising that a shift stands for: of a word, of a run of words, of a record

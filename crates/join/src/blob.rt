@@ -11,9 +11,9 @@ ghost use mathlib.Core.List.{[], _∷_, _++_};
 ghost use Prim.Native.Nat.{_≤_};
 ghost use lib.ListN.{length, take};
 ghost use Rattle.join.specs.Joins.{WriteAsk};
-ghost use Rattle.paper.specs.Join.{joinedBytes};
-ghost use Rattle.paper.specs.Put.{put};
-ghost use Rattle.paper.specs.Word.{bytesOfWords, lowFirst};
+ghost use Rattle.paper.specs.rules.Join.{joinedBytes};
+ghost use Rattle.paper.specs.terms.Put.{put};
+ghost use Rattle.paper.specs.rules.Word.{bytesOfWords, lowFirst};
 
 // The header is the first's but for its last three words, the lengths of the sections.
 fn write_header(a: &[u8], types: u32, strings: u32, out: &mut [u8])

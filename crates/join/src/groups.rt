@@ -6,7 +6,7 @@ use rows::is_name;
 use rows::is_reference;
 ghost use lib.ListN.{length};
 ghost use Rattle.join.specs.Raising.{EntriesAsk, EntriesPut, GroupAsk, GroupPut, WordPut, WordRaised};
-ghost use Rattle.paper.specs.Word.{lowFirst, wordAt};
+ghost use Rattle.paper.specs.rules.Word.{lowFirst, wordAt};
 
 // By how much type numbers and name offsets are raised.
 pub(crate) struct Shift {

@@ -17,9 +17,9 @@ ghost use mathlib.Core.Path.{_≡_};
 ghost use Prim.Native.Nat.{_+_};
 ghost use lib.ListN.{length};
 ghost use Rattle.join.specs.Raising.{GroupOf, RecordAsk, RecordPut, RecordsAsk, headRoles, recordsBytes};
-ghost use Rattle.paper.specs.Kind.{rowOf};
-ghost use Rattle.paper.specs.Put.{put};
-ghost use Rattle.paper.specs.Walk.{tableOf};
+ghost use Rattle.paper.specs.rules.Kind.{rowOf};
+ghost use Rattle.paper.specs.terms.Put.{put};
+ghost use Rattle.paper.specs.rules.Walk.{tableOf};
 
 // The head of a record of a kind: its name, its info word, its third word.
 fn head_of(kind: u32) -> Group

@@ -3,7 +3,7 @@ use paper::Place;
 ghost use mathlib.Core.Path.{_≡_};
 ghost use Prim.Native.Nat.{_+_, _≤_};
 ghost use lib.ListN.{length};
-ghost use Rattle.paper.specs.Put.{put};
+ghost use Rattle.paper.specs.terms.Put.{put};
 
 // All of `s`, from a place of the output on.
 pub(crate) fn copy(s: &[u8], out: &mut [u8], at: Place)

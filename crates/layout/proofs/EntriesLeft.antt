@@ -9,12 +9,12 @@ use borrow.Author.Tests.{eq-eqb, ne-eqb, le-leb, lt-leb, not-true, not-false}
 use lib.Dec.{eqb, leb}
 use Rattle.paper.proofs.basics.Choices.{and-false}
 use Rattle.rows.proofs.RecordWords.{tail-read}
-use Rattle.paper.specs.Choice.{every}
-use Rattle.paper.specs.Reading.{wordsFrom, recordIn}
-use Rattle.paper.specs.Section.{Entry, entriesIn, coversSize, entryCovers, placedFrom, sectionOk}
-use Rattle.paper.specs.Size.{exactSize}
-use Rattle.paper.specs.Table.{Record, Table, tailLength}
-use Rattle.paper.specs.Word.{lowFirst, wordAt}
+use Rattle.paper.specs.rules.Choice.{every}
+use Rattle.paper.specs.terms.Reading.{wordsFrom, recordIn}
+use Rattle.paper.specs.rules.Section.{Entry, entriesIn, coversSize, entryCovers, placedFrom, sectionOk}
+use Rattle.paper.specs.rules.Size.{exactSize}
+use Rattle.paper.specs.rules.Table.{Record, Table, tailLength}
+use Rattle.paper.specs.rules.Word.{lowFirst, wordAt}
 use Rattle.rows.proofs.RoleCodes.{tailLength-few}
 
 -- ── one entry's place ──

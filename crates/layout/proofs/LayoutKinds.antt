@@ -6,12 +6,12 @@ use mathlib.Core.Bool.{Bool, true, not, _&&_, _||_}
 use mathlib.Core.List.{[], _∷_}
 use borrow.Author.Tests.{ne-eqb}
 use Rattle.paper.proofs.basics.Choices.{and-nothing}
-use Rattle.paper.specs.Choice.{differ, member}
-use Rattle.paper.specs.KindNo.{ARRAY, STRUCT, UNION, FUNC, VAR, DATASEC, DECL-TAG}
-use Rattle.paper.specs.Layout.{membersOk, arrayOk, functionOk, tagOk, layoutOk}
-use Rattle.paper.specs.Section.{sectionOk}
-use Rattle.paper.specs.Size.{hasSmallSize}
-use Rattle.paper.specs.Table.{Record, Table, kindOf}
+use Rattle.paper.specs.rules.Choice.{differ, member}
+use Rattle.paper.specs.rules.KindNo.{ARRAY, STRUCT, UNION, FUNC, VAR, DATASEC, DECL-TAG}
+use Rattle.paper.specs.rules.Layout.{membersOk, arrayOk, functionOk, tagOk, layoutOk}
+use Rattle.paper.specs.rules.Section.{sectionOk}
+use Rattle.paper.specs.rules.Size.{hasSmallSize}
+use Rattle.paper.specs.rules.Table.{Record, Table, kindOf}
 
 -- the six rules, by what each asks of its kinds
 abbrev byKind : ℕ → Bool → Bool → Bool → Bool → Bool → Bool → Bool

@@ -6,10 +6,10 @@ use mathlib.Core.Bool.{Bool, true, false, not, cond}
 use mathlib.Core.List.{List}
 use native.Mathlib.Omega.{arith}
 use borrow.Author.Tests.{not-true, not-false}
-use Rattle.paper.specs.Reading.{recordIn}
-use Rattle.paper.specs.Span.{isAlias, baseFrom, baseOf}
-use Rattle.paper.specs.Table.{Record, Table, count, recordAt, kindIn}
-use Rattle.paper.specs.Word.{lowFirst, wordAt}
+use Rattle.paper.specs.terms.Reading.{recordIn}
+use Rattle.paper.specs.rules.Span.{isAlias, baseFrom, baseOf}
+use Rattle.paper.specs.rules.Table.{Record, Table, count, recordAt, kindIn}
+use Rattle.paper.specs.rules.Word.{lowFirst, wordAt}
 use Rattle.rows.proofs.RecordWords.{kind-read, third-read}
 
 -- so many steps are left at a type, and lead where all lead from the first

@@ -8,12 +8,12 @@ use native.Mathlib.Omega.{arith}
 use borrow.Author.Tests.{leb-false, lt-leb, lt-ltb, ltb-true}
 use lib.Dec.{leb, ltb}
 use Rattle.layout.specs.Measure.{Measures}
-use Rattle.paper.specs.Answer.{Answer, report, value, sizedAsPaper}
-use Rattle.paper.specs.Choice.{isSome}
-use Rattle.paper.specs.Limits.{sizeLimit}
-use Rattle.paper.specs.Section.{coversSize}
-use Rattle.paper.specs.Size.{exactSize, hasSize, within, smallSize, hasSmallSize, answerOf}
-use Rattle.paper.specs.Table.{Table}
+use Rattle.paper.specs.rules.Answer.{Answer, report, value, sizedAsPaper}
+use Rattle.paper.specs.rules.Choice.{isSome}
+use Rattle.paper.specs.rules.Limits.{sizeLimit}
+use Rattle.paper.specs.rules.Section.{coversSize}
+use Rattle.paper.specs.rules.Size.{exactSize, hasSize, within, smallSize, hasSmallSize, answerOf}
+use Rattle.paper.specs.rules.Table.{Table}
 use Rattle.paper.specs.declared.Sized.{Sized}
 use Rattle.paper.specs.declared.Sized.the-variants.{Exact, NoSize, Overflow, Lost, TooFar}
 

@@ -11,14 +11,14 @@ use lib.Dec.{eqb, leb}
 use Rattle.rows.proofs.RecordWords.{tail-read}
 use Rattle.spans.specs.Spanned.{memberAt, withOffset, spanWith}
 use Rattle.paper.proofs.basics.Choices.{and-false}
-use Rattle.paper.specs.Choice.{every}
-use Rattle.paper.specs.KindNo.{UNION}
-use Rattle.paper.specs.Layout.{memberOk, notFalling, offsetsOk, membersOk}
-use Rattle.paper.specs.Reading.{wordsFrom, recordIn}
-use Rattle.paper.specs.Size.{smallSize}
-use Rattle.paper.specs.Span.{Member, membersIn, baseOf, bitOffset, plainSpan, fieldSpan, spanOfSize, spanOf, endsBy}
-use Rattle.paper.specs.Table.{Record, Table, kindOf, flagOf, tailLength}
-use Rattle.paper.specs.Word.{lowFirst, wordAt}
+use Rattle.paper.specs.rules.Choice.{every}
+use Rattle.paper.specs.rules.KindNo.{UNION}
+use Rattle.paper.specs.rules.Layout.{memberOk, notFalling, offsetsOk, membersOk}
+use Rattle.paper.specs.terms.Reading.{wordsFrom, recordIn}
+use Rattle.paper.specs.rules.Size.{smallSize}
+use Rattle.paper.specs.rules.Span.{Member, membersIn, baseOf, bitOffset, plainSpan, fieldSpan, spanOfSize, spanOf, endsBy}
+use Rattle.paper.specs.rules.Table.{Record, Table, kindOf, flagOf, tailLength}
+use Rattle.paper.specs.rules.Word.{lowFirst, wordAt}
 use Rattle.rows.proofs.RoleCodes.{tailLength-few}
 
 -- ── one member ──

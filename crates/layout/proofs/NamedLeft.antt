@@ -8,12 +8,12 @@ use native.Mathlib.Omega.{arith}
 use borrow.Author.Tests.{eq-eqb, ne-eqb}
 use lib.Dec.{eqb}
 use Rattle.rows.proofs.RecordWords.{tail-read}
-use Rattle.paper.specs.Choice.{isEmpty}
-use Rattle.paper.specs.Layout.{allNamed}
-use Rattle.paper.specs.Reading.{wordsFrom, recordIn}
-use Rattle.paper.specs.Table.{tailLength}
-use Rattle.paper.specs.Tails.{Parameter, parametersIn, parametersOf, isLast00}
-use Rattle.paper.specs.Word.{lowFirst, wordAt}
+use Rattle.paper.specs.rules.Choice.{isEmpty}
+use Rattle.paper.specs.rules.Layout.{allNamed}
+use Rattle.paper.specs.terms.Reading.{wordsFrom, recordIn}
+use Rattle.paper.specs.rules.Table.{tailLength}
+use Rattle.paper.specs.rules.Tails.{Parameter, parametersIn, parametersOf, isLast00}
+use Rattle.paper.specs.rules.Word.{lowFirst, wordAt}
 use Rattle.rows.proofs.RoleCodes.{tailLength-few}
 
 module _ (s : List ℕ) where

@@ -7,13 +7,13 @@ use mathlib.Core.List.{[], _∷_}
 use borrow.Author.Tests.{eq-eqb, ne-eqb, not-true, not-false}
 use lib.Dec.{eqb, ltb}
 use lib.ListN.{getD}
-use Rattle.paper.specs.Choice.{member}
-use Rattle.paper.specs.KindNo.{STRUCT, UNION, FUNC}
-use Rattle.paper.specs.Layout.{allNamed, arrayOk, functionOk, partsOf, tagOk}
-use Rattle.paper.specs.Size.{hasSize}
-use Rattle.paper.specs.Span.{isRegular}
-use Rattle.paper.specs.Table.{Record, Table, recordAt, kindOf, vlenOf}
-use Rattle.paper.specs.Tails.{parametersOf}
+use Rattle.paper.specs.rules.Choice.{member}
+use Rattle.paper.specs.rules.KindNo.{STRUCT, UNION, FUNC}
+use Rattle.paper.specs.rules.Layout.{allNamed, arrayOk, functionOk, partsOf, tagOk}
+use Rattle.paper.specs.rules.Size.{hasSize}
+use Rattle.paper.specs.rules.Span.{isRegular}
+use Rattle.paper.specs.rules.Table.{Record, Table, recordAt, kindOf, vlenOf}
+use Rattle.paper.specs.rules.Tails.{parametersOf}
 
 module _ (T : Table) (r : Record) where
   -- ── arrays ──

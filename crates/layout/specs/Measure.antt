@@ -4,8 +4,8 @@ use mathlib.Core.Path.{_≡_}
 use mathlib.Core.Bool.{Bool, true, false}
 use mathlib.Core.Option.{Option, none, some}
 use lib.Dec.{ltb}
-use Rattle.paper.specs.Limits.{sizeLimit}
-use Rattle.paper.specs.Size.{within}
+use Rattle.paper.specs.rules.Limits.{sizeLimit}
+use Rattle.paper.specs.rules.Size.{within}
 use Rattle.paper.specs.declared.Sized.{Sized}
 use Rattle.paper.specs.declared.Sized.the-variants.{Exact, NoSize, Overflow, Lost, TooFar}
 

@@ -6,9 +6,9 @@ use rows::kind_of;
 use views::View;
 use views::record_of;
 ghost use mathlib.Core.Path.{_≡_};
-ghost use Rattle.paper.specs.Reading.{recordIn};
-ghost use Rattle.paper.specs.Span.{baseOf};
-ghost use Rattle.paper.specs.Word.{lowFirst};
+ghost use Rattle.paper.specs.terms.Reading.{recordIn};
+ghost use Rattle.paper.specs.rules.Span.{baseOf};
+ghost use Rattle.paper.specs.rules.Word.{lowFirst};
 ghost use Rattle.views.specs.Shown.{tableBy};
 
 // The record of the base. No chain of aliases is longer than there are types, so that many steps are enough.

@@ -18,8 +18,8 @@ use rows::kind_of;
 use views::View;
 use views::record_of;
 ghost use mathlib.Core.Path.{_≡_};
-ghost use Rattle.paper.specs.Layout.{layoutOk};
-ghost use Rattle.paper.specs.Table.{recordAt};
+ghost use Rattle.paper.specs.rules.Layout.{layoutOk};
+ghost use Rattle.paper.specs.rules.Table.{recordAt};
 ghost use Rattle.views.specs.Shown.{tableBy};
 
 // The layout of a type keeps to the rules.

@@ -16,10 +16,10 @@ ghost use mathlib.Core.Bool.{cond};
 ghost use Prim.Native.Nat.{_*_, _<_};
 ghost use lib.Dec.{eqb, leb};
 ghost use Rattle.spans.specs.Spanned.{memberAt};
-ghost use Rattle.paper.specs.Layout.{membersOk};
-ghost use Rattle.paper.specs.Reading.{recordIn};
-ghost use Rattle.paper.specs.Span.{endsBy, spanOf};
-ghost use Rattle.paper.specs.Word.{lowFirst};
+ghost use Rattle.paper.specs.rules.Layout.{membersOk};
+ghost use Rattle.paper.specs.terms.Reading.{recordIn};
+ghost use Rattle.paper.specs.rules.Span.{endsBy, spanOf};
+ghost use Rattle.paper.specs.rules.Word.{lowFirst};
 ghost use Rattle.views.specs.Shown.{tableBy};
 
 // The member whose words stand at a place ends by so many bytes.

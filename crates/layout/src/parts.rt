@@ -12,12 +12,12 @@ use spans::is_regular;
 use views::View;
 use views::record_of;
 ghost use mathlib.Core.Path.{_≡_};
-ghost use Rattle.paper.specs.KindNo.{ARRAY, DECL-TAG};
-ghost use Rattle.paper.specs.Layout.{allNamed, arrayOk, functionOk, partsOf, tagOk};
-ghost use Rattle.paper.specs.Reading.{recordIn};
-ghost use Rattle.paper.specs.Table.{kindOf};
-ghost use Rattle.paper.specs.Tails.{parametersOf};
-ghost use Rattle.paper.specs.Word.{lowFirst};
+ghost use Rattle.paper.specs.rules.KindNo.{ARRAY, DECL-TAG};
+ghost use Rattle.paper.specs.rules.Layout.{allNamed, arrayOk, functionOk, partsOf, tagOk};
+ghost use Rattle.paper.specs.terms.Reading.{recordIn};
+ghost use Rattle.paper.specs.rules.Table.{kindOf};
+ghost use Rattle.paper.specs.rules.Tails.{parametersOf};
+ghost use Rattle.paper.specs.rules.Word.{lowFirst};
 ghost use Rattle.views.specs.Shown.{tableBy};
 
 // "An array element must have a size"; "An array index INT is regular".

@@ -8,9 +8,9 @@ ghost use mathlib.Core.Path.{_≡_};
 ghost use mathlib.Core.Bool.{_&&_, _||_};
 ghost use Prim.Native.Nat.{_+_};
 ghost use lib.Dec.{eqb, leb};
-ghost use Rattle.paper.specs.Reading.{recordIn};
-ghost use Rattle.paper.specs.Section.{sectionOk};
-ghost use Rattle.paper.specs.Word.{lowFirst};
+ghost use Rattle.paper.specs.terms.Reading.{recordIn};
+ghost use Rattle.paper.specs.rules.Section.{sectionOk};
+ghost use Rattle.paper.specs.rules.Word.{lowFirst};
 ghost use Rattle.views.specs.Shown.{tableBy};
 
 // Where the section's size is not 0, an entry begins where the one before ends or later, and ends inside.

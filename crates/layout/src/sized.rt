@@ -4,8 +4,8 @@ use paper::TypeNo;
 use views::View;
 ghost use mathlib.Core.Path.{_≡_};
 ghost use Rattle.layout.specs.Measure.{Measures};
-ghost use Rattle.paper.specs.Section.{coversSize};
-ghost use Rattle.paper.specs.Size.{exactSize, hasSize, hasSmallSize};
+ghost use Rattle.paper.specs.rules.Section.{coversSize};
+ghost use Rattle.paper.specs.rules.Size.{exactSize, hasSize, hasSmallSize};
 ghost use Rattle.views.specs.Shown.{tableBy};
 
 // The exact size of a type. A number above n has none, as its record has no kind: no caller has to show that its number is inside.

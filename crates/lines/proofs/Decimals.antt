@@ -10,7 +10,7 @@ use borrow.Author.Tests.{lt-ltb, le-ltb, le-leb, lt-leb}
 use lib.ListN.{length, getD, drop}
 use lib.Seq.{drop-cons, drop-length}
 use Rattle.paper.proofs.basics.Choices.{and-false}
-use Rattle.paper.specs.Name.{isDigit}
+use Rattle.paper.specs.rules.Name.{isDigit}
 use Rattle.lines.specs.Decimal.{areDigits, valueFrom, numberOf}
 use Rattle.lines.specs.declared.numbers.Number.the-variants.{Is, Not}
 

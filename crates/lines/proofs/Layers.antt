@@ -6,7 +6,7 @@ use mathlib.Core.List.{List, [], _∷_}
 use native.Mathlib.Omega.{arith}
 use borrow.Author.Tests.{le-leb, lt-leb}
 use lib.ListN.{length, set}
-use Rattle.paper.specs.Put.{put}
+use Rattle.paper.specs.terms.Put.{put}
 use Rattle.paper.proofs.bytes.Puts.{put-stores}
 use Rattle.lines.specs.Lay.{laid}
 

@@ -10,8 +10,8 @@ use borrow.Author.Tests.{eq-eqb, ne-eqb, le-leb, lt-leb, ltb-true, leb-true}
 use lib.Dec.{eqb, leb, ltb}
 use lib.ListN.{length, getD, take, set, length-append}
 use lib.Seq.{take-suc, take-length}
-use Rattle.paper.specs.Fit.{Bytes}
-use Rattle.paper.specs.Put.{put}
+use Rattle.paper.specs.terms.Fit.{Bytes}
+use Rattle.paper.specs.terms.Put.{put}
 use Rattle.paper.proofs.basics.Choices.{and-left, and-right}
 use Rattle.paper.proofs.bytes.Puts.{put-none, put-put}
 use Rattle.lines.specs.Escape.{Appended, Escaped, EscapeOf, escaped, escapedByte, fits, hexDigit, isPrintable}

@@ -3,8 +3,8 @@ use Prim.Native.Nat.{ℕ, _+_, _*_, _-_}
 use mathlib.Core.Bool.{Bool, true, cond, not, _&&_}
 use mathlib.Core.List.{List, [], _∷_}
 use lib.Dec.{ltb}
-use Rattle.paper.specs.Choice.{isEmpty}
-use Rattle.paper.specs.Name.{isDigit}
+use Rattle.paper.specs.rules.Choice.{isEmpty}
+use Rattle.paper.specs.rules.Name.{isDigit}
 use Rattle.lines.specs.declared.numbers.Number.{Number}
 use Rattle.lines.specs.declared.numbers.Number.the-variants.{Is, Not}
 

@@ -5,7 +5,7 @@ use mathlib.Core.List.{List, [], _∷_, _++_}
 use mathlib.Core.Path.{_≡_}
 use lib.Dec.{eqb, leb, ltb}
 use lib.ListN.{length}
-use Rattle.paper.specs.Put.{put}
+use Rattle.paper.specs.terms.Put.{put}
 
 -- 0 to 9, then a to f
 unfoldable pub hexDigit : ℕ → ℕ

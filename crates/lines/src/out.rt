@@ -5,7 +5,7 @@ ghost use mathlib.Core.Bool.{true};
 ghost use mathlib.Core.Path.{_≡_};
 ghost use Prim.Native.Nat.{_+_, _≤_, _<_};
 ghost use lib.ListN.{length};
-ghost use Rattle.paper.specs.Put.{put};
+ghost use Rattle.paper.specs.terms.Put.{put};
 ghost use Rattle.lines.specs.Lay.{laid};
 
 // The bytes of the buffer. An array's length is known, so that no function need prove that it keeps it.

@@ -12,12 +12,12 @@ use Rattle.links.proofs.Roots.{firstRing, firstRing-next}
 use Rattle.links.specs.Search.{ringsBy, smallerOf, ringAsPaper}
 use Rattle.links.specs.declared.chains.Ring.{Ring}
 use Rattle.links.specs.declared.chains.Ring.the-variants.{Nowhere, From}
-use Rattle.paper.specs.Answer.{Answer, reportAt}
-use Rattle.paper.specs.Chain.{heldBy, pointedBy, walks, endless}
-use Rattle.paper.specs.Choice.{_when_, firstDue, orElse}
-use Rattle.paper.specs.Gate.{namingAt, firstOf, overTypes, phase5}
-use Rattle.paper.specs.Table.{Table, count}
-use Rattle.paper.specs.Walk.{placeAt}
+use Rattle.paper.specs.rules.Answer.{Answer, reportAt}
+use Rattle.paper.specs.rules.Chain.{heldBy, pointedBy, walks, endless}
+use Rattle.paper.specs.rules.Choice.{_when_, firstDue, orElse}
+use Rattle.paper.specs.rules.Gate.{namingAt, firstOf, overTypes, phase5}
+use Rattle.paper.specs.rules.Table.{Table, count}
+use Rattle.paper.specs.rules.Walk.{placeAt}
 use Rattle.paper.specs.declared.TypeNo.{TypeNo}
 
 -- ── the answer that names the smaller type ──

@@ -6,8 +6,8 @@ use mathlib.Core.Bool.{true, false}
 use mathlib.Core.List.{List}
 use native.Mathlib.Omega.{arith}
 use lib.ListN.{length, getD, set, length-set}
-use Rattle.paper.specs.Chain.{heldBy, walks}
-use Rattle.paper.specs.Table.{Table, recordAt}
+use Rattle.paper.specs.rules.Chain.{heldBy, walks}
+use Rattle.paper.specs.rules.Table.{Table, recordAt}
 use Rattle.links.specs.Holding.{heldFrom}
 use Rattle.links.specs.Search.{asRoot, done, markOf, Followable, AtRoot, OnWay, Moved, along, into, back, RingMet, RootDone, Clean}
 use Rattle.links.proofs.HeldTypes.{held-from-first, few-types, held-types, next-held, next-type, next-small}

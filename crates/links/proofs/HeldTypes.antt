@@ -9,11 +9,11 @@ use native.Mathlib.Omega.{arith}
 use borrow.Author.Tests.{not-false}
 use lib.Dec.{eqb}
 use lib.ListN.{length, drop}
-use Rattle.paper.specs.Chain.{heldWord, heldIn, heldBy}
-use Rattle.paper.specs.Gate.{overTypes, phase4}
-use Rattle.paper.specs.Kind.{Role, names, refers, holds, number}
-use Rattle.paper.specs.References.{refsOk, refBad}
-use Rattle.paper.specs.Table.{Record, Table, count, recordAt, rolesOf, wordsOf}
+use Rattle.paper.specs.rules.Chain.{heldWord, heldIn, heldBy}
+use Rattle.paper.specs.rules.Gate.{overTypes, phase4}
+use Rattle.paper.specs.rules.Kind.{Role, names, refers, holds, number}
+use Rattle.paper.specs.rules.References.{refsOk, refBad}
+use Rattle.paper.specs.rules.Table.{Record, Table, count, recordAt, rolesOf, wordsOf}
 use Rattle.paper.proofs.gates.Gates.{overTypes-silent}
 use Rattle.paper.proofs.walks.Insides.{held-inside}
 use Rattle.links.specs.declared.held.Held.{Held}

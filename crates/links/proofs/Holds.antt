@@ -12,12 +12,12 @@ use borrow.Author.Tests.{ltb-true, ltb-false, eq-eqb, ne-eqb, not-true, not-fals
 use lib.Dec.{ltb}
 use lib.ListN.{length, getD, drop, length-append, List·getD-append, drop-of-length-le}
 use lib.Seq.{drop-cons, getD-append-add}
-use Rattle.paper.specs.Chain.{stepTo, heldWord, heldIn}
-use Rattle.paper.specs.Choice.{times}
-use Rattle.paper.specs.Kind.{Role, names, refers, holds, number, rowOf}
-use Rattle.paper.specs.Reading.{wordsFrom, recordIn}
-use Rattle.paper.specs.Table.{Record, kindIn, vlenIn, tailLength, tailRoles, rolesOf, wordsOf}
-use Rattle.paper.specs.Word.{lowFirst, wordAt}
+use Rattle.paper.specs.rules.Chain.{stepTo, heldWord, heldIn}
+use Rattle.paper.specs.rules.Choice.{times}
+use Rattle.paper.specs.rules.Kind.{Role, names, refers, holds, number, rowOf}
+use Rattle.paper.specs.terms.Reading.{wordsFrom, recordIn}
+use Rattle.paper.specs.rules.Table.{Record, kindIn, vlenIn, tailLength, tailRoles, rolesOf, wordsOf}
+use Rattle.paper.specs.rules.Word.{lowFirst, wordAt}
 use Rattle.paper.proofs.bytes.Reading.{length-times, length-recordIn}
 use Rattle.rows.proofs.RecordWords.{getD-wordsFrom}
 use Rattle.rows.proofs.RoleCodes.{nameCode-range, refCode-range, roleCode-high, between-in, between-out}

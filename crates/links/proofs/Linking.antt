@@ -10,14 +10,14 @@ use borrow.Author.Tests.{le-leb, lt-leb, le-ltb, lt-ltb}
 use lib.Dec.{eqb}
 use lib.ListN.{length, drop, length-replicate}
 use Rattle.paper.proofs.bytes.Reading.{length-recordIn}
-use Rattle.paper.specs.Answer.{Answer}
-use Rattle.paper.specs.Choice.{_when_, firstDue, orElse}
-use Rattle.paper.specs.Gate.{namingAt, firstOf, overTypes, phase4, phase5, zeros}
-use Rattle.paper.specs.Limits.{typeLimit}
-use Rattle.paper.specs.References.{refsOk, refBad}
-use Rattle.paper.specs.Table.{Record, Table, count, recordAt, wordsOf}
-use Rattle.paper.specs.Walk.{placeAt}
-use Rattle.paper.specs.Word.{lowFirst, wordAt}
+use Rattle.paper.specs.rules.Answer.{Answer}
+use Rattle.paper.specs.rules.Choice.{_when_, firstDue, orElse}
+use Rattle.paper.specs.rules.Gate.{namingAt, firstOf, overTypes, phase4, phase5, zeros}
+use Rattle.paper.specs.rules.Limits.{typeLimit}
+use Rattle.paper.specs.rules.References.{refsOk, refBad}
+use Rattle.paper.specs.rules.Table.{Record, Table, count, recordAt, wordsOf}
+use Rattle.paper.specs.rules.Walk.{placeAt}
+use Rattle.paper.specs.rules.Word.{lowFirst, wordAt}
 use Rattle.rows.proofs.RoleCodes.{tailLength-few}
 use Rattle.views.proofs.Shows.{tableBy-count, startBy-record}
 use Rattle.views.specs.Shown.{tableBy, startBy}

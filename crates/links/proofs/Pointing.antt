@@ -18,14 +18,14 @@ use Rattle.links.specs.Search.{Followable, Unsearched, ringsBy}
 use Rattle.links.specs.Trail.{Passed, AtTrail, Trailed}
 use Rattle.paper.proofs.walks.Chains.{pointedBy-link, pointedBy-none}
 use Rattle.paper.proofs.walks.Insides.{pointed-inside}
-use Rattle.paper.specs.Answer.{reportAt}
-use Rattle.paper.specs.Chain.{isLink, pointedBy, stepTo, walks}
-use Rattle.paper.specs.Gate.{overTypes, zeros}
-use Rattle.paper.specs.Reading.{recordIn}
-use Rattle.paper.specs.Span.{isAlias}
-use Rattle.paper.specs.Table.{Table, recordAt, kindIn}
-use Rattle.paper.specs.Walk.{placeAt}
-use Rattle.paper.specs.Word.{lowFirst, wordAt}
+use Rattle.paper.specs.rules.Answer.{reportAt}
+use Rattle.paper.specs.rules.Chain.{isLink, pointedBy, stepTo, walks}
+use Rattle.paper.specs.rules.Gate.{overTypes, zeros}
+use Rattle.paper.specs.terms.Reading.{recordIn}
+use Rattle.paper.specs.rules.Span.{isAlias}
+use Rattle.paper.specs.rules.Table.{Table, recordAt, kindIn}
+use Rattle.paper.specs.rules.Walk.{placeAt}
+use Rattle.paper.specs.rules.Word.{lowFirst, wordAt}
 
 -- ── the kinds of a link: PTR, and those of an alias ──
 

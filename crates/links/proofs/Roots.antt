@@ -9,12 +9,12 @@ use mathlib.Core.Option.{Option, none, some}
 use native.Mathlib.Numerals.{add-one}
 use native.Mathlib.Omega.{arith}
 use lib.ListN.{length, getD}
-use Rattle.paper.specs.Answer.{Answer, reportAt}
-use Rattle.paper.specs.Chain.{heldBy, walks}
-use Rattle.paper.specs.Choice.{_when_, firstDue, orElse}
-use Rattle.paper.specs.Gate.{namingAt, firstOf, overTypes, zeros}
-use Rattle.paper.specs.Table.{Table, count}
-use Rattle.paper.specs.Walk.{placeAt}
+use Rattle.paper.specs.rules.Answer.{Answer, reportAt}
+use Rattle.paper.specs.rules.Chain.{heldBy, walks}
+use Rattle.paper.specs.rules.Choice.{_when_, firstDue, orElse}
+use Rattle.paper.specs.rules.Gate.{namingAt, firstOf, overTypes, zeros}
+use Rattle.paper.specs.rules.Table.{Table, count}
+use Rattle.paper.specs.rules.Walk.{placeAt}
 use Rattle.links.specs.Search.{Followable, Unsearched, AtRoot, Clean, Followed, ringsBy}
 
 -- ── marks between two roots ──

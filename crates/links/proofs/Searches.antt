@@ -8,7 +8,7 @@ use mathlib.Core.Logic.{_⊎_, inl, inr, ⊎-elim}
 use native.Mathlib.Omega.{arith}
 use lib.ListN.{length, getD, set}
 use lib.Seq.{getD-set-same, getD-set-other}
-use Rattle.paper.specs.Chain.{walks}
+use Rattle.paper.specs.rules.Chain.{walks}
 use Rattle.links.specs.Search.{done, asRoot, manyWords, markOf, Clean}
 use Rattle.links.proofs.Ways.{getD-set, ends-step, ring-walks, Way, way-type, way-marked, way-all-marked, way-kept, way-onward, way-root}
 

@@ -7,7 +7,7 @@ use mathlib.Core.List.{List, [], _∷_, List·Memᴰ, List·Memᴰ·head, List·
 use mathlib.Core.Logic.{_⊎_, inl, inr, ⊎-elim}
 use native.Mathlib.Omega.{arith}
 use lib.ListN.{length, getD, set}
-use Rattle.paper.specs.Chain.{walks}
+use Rattle.paper.specs.rules.Chain.{walks}
 use Rattle.links.specs.Trail.{Passed}
 use Rattle.links.proofs.Ways.{getD-set, ends-step, ring-walks}
 

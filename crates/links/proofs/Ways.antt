@@ -10,7 +10,7 @@ use borrow.Author.Tests.{eqb-true, eqb-false}
 use lib.Dec.{eqb}
 use lib.ListN.{length, getD, set}
 use lib.Seq.{getD-set-same, getD-set-other}
-use Rattle.paper.specs.Chain.{walks, Chain}
+use Rattle.paper.specs.rules.Chain.{walks, Chain}
 use Rattle.paper.proofs.walks.Endless.{any-holds, chain-walks, walks-chain}
 use Rattle.links.specs.Search.{done, asRoot, manyWords, markOf}
 

@@ -5,11 +5,11 @@ use mathlib.Core.List.{List, [], _∷_, _++_}
 use lib.ListN.{length, drop}
 use Rattle.links.specs.declared.held.Held.{Held}
 use Rattle.links.specs.declared.held.Held.the-variants.{Found, Nothing}
-use Rattle.paper.specs.Chain.{heldIn}
-use Rattle.paper.specs.Choice.{times}
-use Rattle.paper.specs.Kind.{Role, names, number, rowOf}
-use Rattle.paper.specs.Table.{Record, kindIn, vlenIn, rolesOf, wordsOf}
-use Rattle.paper.specs.Word.{lowFirst, wordAt}
+use Rattle.paper.specs.rules.Chain.{heldIn}
+use Rattle.paper.specs.rules.Choice.{times}
+use Rattle.paper.specs.rules.Kind.{Role, names, number, rowOf}
+use Rattle.paper.specs.rules.Table.{Record, kindIn, vlenIn, rolesOf, wordsOf}
+use Rattle.paper.specs.rules.Word.{lowFirst, wordAt}
 
 -- the roles of a tail, and of all words, by the info word alone
 unfoldable pub tailRolesBy : ℕ → List Role

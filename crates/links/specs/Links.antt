@@ -7,12 +7,12 @@ use mathlib.Core.Option.{Option, none, some}
 use lib.Dec.{leb, ltb}
 use Rattle.links.specs.declared.whole.Linked.{Linked}
 use Rattle.links.specs.declared.whole.Linked.the-variants.{Good, Reference, Endless}
-use Rattle.paper.specs.Answer.{Answer, reportAt}
-use Rattle.paper.specs.Choice.{orElse}
-use Rattle.paper.specs.Gate.{overTypes, phase4, phase5, zeros}
-use Rattle.paper.specs.Limits.{typeLimit}
-use Rattle.paper.specs.Table.{Table}
-use Rattle.paper.specs.Walk.{placeAt}
+use Rattle.paper.specs.rules.Answer.{Answer, reportAt}
+use Rattle.paper.specs.rules.Choice.{orElse}
+use Rattle.paper.specs.rules.Gate.{overTypes, phase4, phase5, zeros}
+use Rattle.paper.specs.rules.Limits.{typeLimit}
+use Rattle.paper.specs.rules.Table.{Table}
+use Rattle.paper.specs.rules.Walk.{placeAt}
 
 abbrev pub linkedAsPaper : Table → Linked → Option Answer
 linkedAsPaper T Good = none

@@ -12,13 +12,13 @@ use Rattle.links.specs.declared.chains.Ring.the-variants.{Nowhere, From}
 use Rattle.links.specs.declared.chains.Step.{Step}
 use Rattle.links.specs.declared.chains.Step.the-variants.{On, Met, Finished}
 use Rattle.links.specs.Holding.{heldFrom, NextHeld}
-use Rattle.paper.specs.Answer.{Answer, reportAt}
-use Rattle.paper.specs.Chain.{heldBy, walks}
-use Rattle.paper.specs.Choice.{Rule, _when_}
-use Rattle.paper.specs.Gate.{zeros}
-use Rattle.paper.specs.References.{refsOk}
-use Rattle.paper.specs.Table.{Record, Table, count, recordAt, wordsOf}
-use Rattle.paper.specs.Walk.{placeAt}
+use Rattle.paper.specs.rules.Answer.{Answer, reportAt}
+use Rattle.paper.specs.rules.Chain.{heldBy, walks}
+use Rattle.paper.specs.rules.Choice.{Rule, _when_}
+use Rattle.paper.specs.rules.Gate.{zeros}
+use Rattle.paper.specs.rules.References.{refsOk}
+use Rattle.paper.specs.rules.Table.{Record, Table, count, recordAt, wordsOf}
+use Rattle.paper.specs.rules.Walk.{placeAt}
 
 -- ── marks: 0 is a type not yet seen ──
 

@@ -5,8 +5,8 @@ use mathlib.Core.Bool.{Bool, true, false}
 use mathlib.Core.List.{List}
 use lib.ListN.{getD}
 use Rattle.links.specs.Search.{Followable}
-use Rattle.paper.specs.Chain.{pointedBy, walks}
-use Rattle.paper.specs.Table.{Table}
+use Rattle.paper.specs.rules.Chain.{pointedBy, walks}
+use Rattle.paper.specs.rules.Table.{Table}
 
 -- every mark is of a root below this one, and no type that was seen leads to an endless walk
 pub record Passed (step : ℕ → List ℕ) (n root : ℕ) (work : List ℕ) : Type 0 where

@@ -7,9 +7,9 @@ use views::record_of;
 ghost use mathlib.Core.Path.{_≡_};
 ghost use lib.ListN.{getD};
 ghost use Rattle.links.specs.Search.{AtRoot, Followable, Followed, OnWay, Stepped, Unsearched, ringAsPaper, ringsBy};
-ghost use Rattle.paper.specs.Chain.{heldBy};
-ghost use Rattle.paper.specs.Gate.{overTypes};
-ghost use Rattle.paper.specs.Table.{recordAt};
+ghost use Rattle.paper.specs.rules.Chain.{heldBy};
+ghost use Rattle.paper.specs.rules.Gate.{overTypes};
+ghost use Rattle.paper.specs.rules.Table.{recordAt};
 ghost use Rattle.views.specs.Shown.{tableBy};
 
 // The smallest type that leads to a ring of some sort, if there is one.

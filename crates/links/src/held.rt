@@ -14,9 +14,9 @@ ghost use mathlib.Core.Path.{_≡_};
 ghost use Prim.Native.Nat.{_+_, _<_};
 ghost use lib.ListN.{length};
 ghost use Rattle.links.specs.Holding.{HeldIs, WordOf, heldFrom, rolesBy, tailRolesBy};
-ghost use Rattle.paper.specs.Chain.{stepTo};
-ghost use Rattle.paper.specs.Reading.{recordIn};
-ghost use Rattle.paper.specs.Word.{lowFirst};
+ghost use Rattle.paper.specs.rules.Chain.{stepTo};
+ghost use Rattle.paper.specs.terms.Reading.{recordIn};
+ghost use Rattle.paper.specs.rules.Word.{lowFirst};
 ghost use Rattle.rows.specs.Codes.{roleAt};
 
 // A type that is held, with the number of the word behind the reference, or that no more are held.

@@ -12,8 +12,8 @@ ghost use mathlib.Core.Path.{_≡_};
 ghost use mathlib.Core.List.{[]};
 ghost use Rattle.links.specs.Search.{Unsearched, ringAsPaper, ringsBy};
 ghost use Rattle.links.specs.Trail.{AtTrail, Trailed};
-ghost use Rattle.paper.specs.Chain.{isLink, pointedBy, stepTo};
-ghost use Rattle.paper.specs.Gate.{overTypes};
+ghost use Rattle.paper.specs.rules.Chain.{isLink, pointedBy, stepTo};
+ghost use Rattle.paper.specs.rules.Gate.{overTypes};
 ghost use Rattle.views.specs.Shown.{tableBy};
 
 // One of the six kinds.

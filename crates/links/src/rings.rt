@@ -7,7 +7,7 @@ use scan::clear;
 use views::View;
 ghost use mathlib.Core.Path.{_≡_};
 ghost use Rattle.links.specs.Search.{Unsearched, ringAsPaper, smallerOf};
-ghost use Rattle.paper.specs.Gate.{overTypes, phase5};
+ghost use Rattle.paper.specs.rules.Gate.{overTypes, phase5};
 ghost use Rattle.views.specs.Shown.{tableBy};
 
 // The smaller of two, where there are two.

@@ -9,7 +9,7 @@ use views::record_of;
 ghost use mathlib.Core.Path.{_≡_};
 ghost use lib.ListN.{length};
 ghost use Rattle.links.specs.Links.{LinksOf, linkedAsPaper, linksSay};
-ghost use Rattle.paper.specs.Gate.{overTypes, phase4};
+ghost use Rattle.paper.specs.rules.Gate.{overTypes, phase4};
 ghost use Rattle.views.specs.Shown.{tableBy};
 
 // The smallest type with a bad reference, or else the smallest with an endless walk.

@@ -6,17 +6,17 @@ use mathlib.Core.Bool.{Bool, true, false, _&&_}
 use mathlib.Core.List.{List, [], _∷_, _++_}
 use lib.Dec.{eqb}
 use lib.ListN.{length, take, set, replicate}
-use Rattle.paper.specs.Answer.{Answer, report, reportAt, accepted, value}
-use Rattle.paper.specs.Choice.{same}
-use Rattle.paper.specs.Computes.{computes}
-use Rattle.paper.specs.Gate.{gate, zeros}
-use Rattle.paper.specs.Header.{opening}
-use Rattle.paper.specs.Join.{join}
-use Rattle.paper.specs.KindNo.{INT, PTR, ARRAY, STRUCT, UNION, ENUM, TYPEDEF, CONST, FUNC, FUNC-PROTO, VAR, DECL-TAG}
-use Rattle.paper.specs.Size.{sizeOf}
-use Rattle.paper.specs.Table.{Record}
-use Rattle.paper.specs.Walk.{bytesOf}
-use Rattle.paper.specs.Word.{lowFirst, bytesOfWords}
+use Rattle.paper.specs.rules.Answer.{Answer, report, reportAt, accepted, value}
+use Rattle.paper.specs.rules.Choice.{same}
+use Rattle.paper.specs.terms.Computes.{computes}
+use Rattle.paper.specs.rules.Gate.{gate, zeros}
+use Rattle.paper.specs.rules.Header.{opening}
+use Rattle.paper.specs.rules.Join.{join}
+use Rattle.paper.specs.rules.KindNo.{INT, PTR, ARRAY, STRUCT, UNION, ENUM, TYPEDEF, CONST, FUNC, FUNC-PROTO, VAR, DECL-TAG}
+use Rattle.paper.specs.rules.Size.{sizeOf}
+use Rattle.paper.specs.rules.Table.{Record}
+use Rattle.paper.specs.rules.Walk.{bytesOf}
+use Rattle.paper.specs.rules.Word.{lowFirst, bytesOfWords}
 
 -- ── the paper's own bytes ──
 

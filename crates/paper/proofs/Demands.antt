@@ -14,18 +14,18 @@ use Rattle.paper.proofs.joins.JoinFits.{good-join, fits-join}
 use Rattle.paper.proofs.joins.Joining.{size-rename, count-join, first-record, second-record, first-renaming, second-renaming}
 use Rattle.paper.proofs.gates.SizeAsked.{sizeOf-exact}
 use Rattle.paper.proofs.bytes.Tables.{length-bytesOf, bytes-bytesOf, tableOf-bytesOf}
-use Rattle.paper.specs.Chain.{heldBy, pointedBy, Chain}
-use Rattle.paper.specs.Fit.{Bytes, Fits}
-use Rattle.paper.specs.Gate.{refusal}
-use Rattle.paper.specs.Good.{Joinable, Good}
-use Rattle.paper.specs.Header.{orderOf}
-use Rattle.paper.specs.Join.{raised, joinTables, joinedBytes, joinRefusal}
-use Rattle.paper.specs.Limits.{byteLimit}
-use Rattle.paper.specs.Name.{nameIn}
-use Rattle.paper.specs.Rename.{raise}
-use Rattle.paper.specs.Size.{exactSize, answerOf, sizeOf}
-use Rattle.paper.specs.Table.{Table, count, recordAt}
-use Rattle.paper.specs.Walk.{tableOf, blobLength, placesOf}
+use Rattle.paper.specs.rules.Chain.{heldBy, pointedBy, Chain}
+use Rattle.paper.specs.terms.Fit.{Bytes, Fits}
+use Rattle.paper.specs.rules.Gate.{refusal}
+use Rattle.paper.specs.terms.Good.{Joinable, Good}
+use Rattle.paper.specs.rules.Header.{orderOf}
+use Rattle.paper.specs.rules.Join.{raised, joinTables, joinedBytes, joinRefusal}
+use Rattle.paper.specs.rules.Limits.{byteLimit}
+use Rattle.paper.specs.rules.Name.{nameIn}
+use Rattle.paper.specs.rules.Rename.{raise}
+use Rattle.paper.specs.rules.Size.{exactSize, answerOf, sizeOf}
+use Rattle.paper.specs.rules.Table.{Table, count, recordAt}
+use Rattle.paper.specs.rules.Walk.{tableOf, blobLength, placesOf}
 
 -- ── demand 2 ──
 

@@ -11,15 +11,15 @@ use Rattle.paper.proofs.gates.Acceptance.{accepted-meets}
 use Rattle.paper.proofs.gates.Wheres.{place-bytes}
 use Rattle.paper.proofs.Demands.{accepted-size}
 use Rattle.paper.proofs.bytes.Places.{length-placesOf}
-use Rattle.paper.specs.Answer.{Answer, accepted, value}
-use Rattle.paper.specs.Fit.{Bytes}
-use Rattle.paper.specs.Gate.{refusal, zeros, indexOf, Outcome, outcome, gate}
-use Rattle.paper.specs.Header.{orderOf}
-use Rattle.paper.specs.Join.{joinedBytes, joinRefusal, joinOutcome, join}
-use Rattle.paper.specs.Size.{exactSize, answerOf, sizeOf}
-use Rattle.paper.specs.Table.{Table, count, recordAt, wordsOf}
-use Rattle.paper.specs.Walk.{tableOf, placesOf, placeAt}
-use Rattle.paper.specs.Word.{bytesOfWords}
+use Rattle.paper.specs.rules.Answer.{Answer, accepted, value}
+use Rattle.paper.specs.terms.Fit.{Bytes}
+use Rattle.paper.specs.rules.Gate.{refusal, zeros, indexOf, Outcome, outcome, gate}
+use Rattle.paper.specs.rules.Header.{orderOf}
+use Rattle.paper.specs.rules.Join.{joinedBytes, joinRefusal, joinOutcome, join}
+use Rattle.paper.specs.rules.Size.{exactSize, answerOf, sizeOf}
+use Rattle.paper.specs.rules.Table.{Table, count, recordAt, wordsOf}
+use Rattle.paper.specs.rules.Walk.{tableOf, placesOf, placeAt}
+use Rattle.paper.specs.rules.Word.{bytesOfWords}
 
 -- ── a check ──
 

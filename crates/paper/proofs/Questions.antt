@@ -14,17 +14,17 @@ use Rattle.paper.proofs.Demands.{first-accepted, second-accepted, join-
 use Rattle.paper.proofs.bytes.Headers.{headerReport-facts}
 use Rattle.paper.proofs.joins.Joining.{first-renaming, second-renaming}
 use Rattle.paper.proofs.Outcomes.{whole-size}
-use Rattle.paper.specs.Choice.{isSome}
-use Rattle.paper.specs.Fit.{Bytes}
-use Rattle.paper.specs.Gate.{refusal, gate}
-use Rattle.paper.specs.Good.{Closed}
-use Rattle.paper.specs.Header.{strLen, stringsIn}
-use Rattle.paper.specs.Join.{joinTables, joinedBytes, joinRefusal}
-use Rattle.paper.specs.Name.{nameIn, nameless, nameAt}
-use Rattle.paper.specs.Rename.{raise}
-use Rattle.paper.specs.Size.{exactSize, answerOf, sizeOf}
-use Rattle.paper.specs.Table.{Table, count}
-use Rattle.paper.specs.Walk.{tableOf}
+use Rattle.paper.specs.rules.Choice.{isSome}
+use Rattle.paper.specs.terms.Fit.{Bytes}
+use Rattle.paper.specs.rules.Gate.{refusal, gate}
+use Rattle.paper.specs.terms.Good.{Closed}
+use Rattle.paper.specs.rules.Header.{strLen, stringsIn}
+use Rattle.paper.specs.rules.Join.{joinTables, joinedBytes, joinRefusal}
+use Rattle.paper.specs.rules.Name.{nameIn, nameless, nameAt}
+use Rattle.paper.specs.rules.Rename.{raise}
+use Rattle.paper.specs.rules.Size.{exactSize, answerOf, sizeOf}
+use Rattle.paper.specs.rules.Table.{Table, count}
+use Rattle.paper.specs.rules.Walk.{tableOf}
 
 -- ── the name at an offset of an accepted blob is that of its table ──
 

@@ -9,11 +9,11 @@ use native.Mathlib.Omega.{arith}
 use borrow.Author.Tests.{not-true, not-false}
 use types.Run.{OneOf}
 use Rattle.refs.specs.Refers.{refBy, refRuleOf}
-use Rattle.paper.specs.Choice.{member}
-use Rattle.paper.specs.Kind.{taggable}
-use Rattle.paper.specs.References.{isPlain, refOk, refWordOk, mayBeKind}
-use Rattle.paper.specs.Table.{Table, kindAt}
-use Rattle.paper.specs.Walk.{known}
+use Rattle.paper.specs.rules.Choice.{member}
+use Rattle.paper.specs.rules.Kind.{taggable}
+use Rattle.paper.specs.rules.References.{isPlain, refOk, refWordOk, mayBeKind}
+use Rattle.paper.specs.rules.Table.{Table, kindAt}
+use Rattle.paper.specs.rules.Walk.{known}
 use Rattle.rows.proofs.RoleCodes.{between-in, between-out}
 use Rattle.rows.specs.Codes.{roleOf, isRefCode, ruleCode}
 use Rattle.rows.proofs.Members.{member-key, member-no-key}

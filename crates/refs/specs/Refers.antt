@@ -4,8 +4,8 @@ use mathlib.Core.Bool.{Bool, _&&_, _||_}
 use mathlib.Core.List.{[], _∷_}
 use lib.Dec.{eqb}
 use lib.ListN.{getD}
-use Rattle.paper.specs.Kind.{RefRule, voidOrPlain, plain, anInt, aProto, aVar, taggable}
-use Rattle.paper.specs.References.{mayBeVoid, mayBeKind}
+use Rattle.paper.specs.rules.Kind.{RefRule, voidOrPlain, plain, anInt, aProto, aVar, taggable}
+use Rattle.paper.specs.rules.References.{mayBeVoid, mayBeKind}
 
 -- a rule, asked of a type number and its kind
 abbrev pub refBy : RefRule → ℕ → ℕ → Bool

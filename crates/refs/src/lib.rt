@@ -27,12 +27,12 @@ ghost use mathlib.Core.Path.{_≡_};
 ghost use mathlib.Core.List.{[], _∷_};
 ghost use Prim.Native.Nat.{_<_, _≤_};
 ghost use Rattle.refs.specs.Refers.{refBy, refRuleOf};
-ghost use Rattle.paper.specs.Choice.{times};
-ghost use Rattle.paper.specs.Kind.{rowOf};
-ghost use Rattle.paper.specs.Reading.{recordIn, roled, tailRoled};
-ghost use Rattle.paper.specs.References.{isPlain, mayBeKind, refWordOk, refsOk};
-ghost use Rattle.paper.specs.Kind.{taggable};
-ghost use Rattle.paper.specs.Word.{lowFirst, wordAt};
+ghost use Rattle.paper.specs.rules.Choice.{times};
+ghost use Rattle.paper.specs.rules.Kind.{rowOf};
+ghost use Rattle.paper.specs.terms.Reading.{recordIn, roled, tailRoled};
+ghost use Rattle.paper.specs.rules.References.{isPlain, mayBeKind, refWordOk, refsOk};
+ghost use Rattle.paper.specs.rules.Kind.{taggable};
+ghost use Rattle.paper.specs.rules.Word.{lowFirst, wordAt};
 ghost use Rattle.rows.specs.Codes.{roleOf};
 ghost use Rattle.views.specs.Shown.{tableBy};
 

@@ -4,7 +4,7 @@ use Prim.Native.Nat.{ℕ, _≤_}
 use mathlib.Core.List.{List}
 use native.Mathlib.Omega.{arith}
 use lib.ListN.{length}
-use Rattle.paper.specs.Name.{nameAt}
+use Rattle.paper.specs.rules.Name.{nameAt}
 use Rattle.header.proofs.Scans.{nameAt-inside}
 
 pub nameAt-short : (b : List ℕ) (off : ℕ) → length (nameAt b off) ≤ length b

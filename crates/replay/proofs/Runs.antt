@@ -4,12 +4,12 @@ use Prim.Native.Nat.{ℕ}
 use mathlib.Core.Path.{_≡_, refl}
 use mathlib.Core.List.{List}
 use borrow.Author.Tests.{ne-eqb}
-use Rattle.paper.specs.Answer.{Answer}
-use Rattle.paper.specs.Gate.{gate}
-use Rattle.paper.specs.Join.{join}
-use Rattle.paper.specs.Name.{nameAt}
-use Rattle.paper.specs.Size.{sizeOf}
-use Rattle.paper.specs.Word.{lowFirst, words}
+use Rattle.paper.specs.rules.Answer.{Answer}
+use Rattle.paper.specs.rules.Gate.{gate}
+use Rattle.paper.specs.rules.Join.{join}
+use Rattle.paper.specs.rules.Name.{nameAt}
+use Rattle.paper.specs.rules.Size.{sizeOf}
+use Rattle.paper.specs.rules.Word.{lowFirst, words}
 use Rattle.replay.specs.Case.{checkSeen, joinSeen, named, seenWith}
 use Rattle.replay.specs.Run.{lentPlaces, lentBytes, runOf}
 use Rattle.replay.specs.declared.cases.Head.{Head}

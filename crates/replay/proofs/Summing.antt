@@ -7,7 +7,7 @@ use native.Mathlib.Numerals.{add-one}
 use native.Mathlib.Omega.{arith}
 use lib.ListN.{length, getD, drop}
 use lib.Seq.{drop-cons, drop-length}
-use Rattle.paper.specs.Word.{lowFirst, wordBytes, bytesOfWords}
+use Rattle.paper.specs.rules.Word.{lowFirst, wordBytes, bytesOfWords}
 use Rattle.replay.specs.Sum.{afterByte, sumFrom, sumOf}
 
 -- a sum, and the sum that it comes to with the bytes that are left

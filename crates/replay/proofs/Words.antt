@@ -8,7 +8,7 @@ use native.Mathlib.Omega.{arith}
 use lib.ListN.{length, getD, set, take, drop, length-set}
 use lib.Seq.{take-suc, take-suc-set, take-all}
 use Rattle.paper.proofs.bytes.Bytes.{part-rest, length-words}
-use Rattle.paper.specs.Word.{lowFirst, firstWord, words, wordAt}
+use Rattle.paper.specs.rules.Word.{lowFirst, firstWord, words, wordAt}
 
 -- the i-th word begins four bytes for each word before it
 pub words-at : (b : List ℕ) (i p : ℕ) → p ≡ 4 * i → i < length (words lowFirst b) → getD (words lowFirst b) i 0 ≡ firstWord lowFirst (drop p b)

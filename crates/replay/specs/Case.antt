@@ -4,11 +4,11 @@ use mathlib.Core.Bool.{Bool, cond, _&&_}
 use mathlib.Core.List.{List}
 use lib.Dec.{eqb}
 use lib.ListN.{length}
-use Rattle.paper.specs.Answer as paper
-use Rattle.paper.specs.Gate.{gate}
-use Rattle.paper.specs.Join.{join}
-use Rattle.paper.specs.Name.{nameless, nameAt}
-use Rattle.paper.specs.Word.{lowFirst, wordAt, bytesOfWords}
+use Rattle.paper.specs.rules.Answer as paper
+use Rattle.paper.specs.rules.Gate.{gate}
+use Rattle.paper.specs.rules.Join.{join}
+use Rattle.paper.specs.rules.Name.{nameless, nameAt}
+use Rattle.paper.specs.rules.Word.{lowFirst, wordAt, bytesOfWords}
 use Rattle.replay.specs.Sum.{sumOf}
 use Rattle.replay.specs.declared.cases.Head.{Head}
 use Rattle.replay.specs.declared.cases.Seen.{Seen}

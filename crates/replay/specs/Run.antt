@@ -4,9 +4,9 @@ use mathlib.Core.Bool.{cond}
 use mathlib.Core.List.{List}
 use lib.Dec.{eqb}
 use lib.ListN.{replicate}
-use Rattle.paper.specs.Name.{nameAt}
-use Rattle.paper.specs.Size.{sizeOf}
-use Rattle.paper.specs.Word.{lowFirst, words}
+use Rattle.paper.specs.rules.Name.{nameAt}
+use Rattle.paper.specs.rules.Size.{sizeOf}
+use Rattle.paper.specs.rules.Word.{lowFirst, words}
 use Rattle.replay.specs.Case.{checkSeen, joinSeen, named, sameSeen, seenWith}
 use Rattle.replay.specs.declared.cases.Head.{Head}
 use Rattle.replay.specs.declared.cases.Seen.{Seen}

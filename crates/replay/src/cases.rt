@@ -2,7 +2,7 @@
 use libc::STDIN_FILENO;
 use paper::Place;
 ghost use mathlib.Core.Path.{_≡_};
-ghost use Rattle.paper.specs.Word.{lowFirst, wordAt};
+ghost use Rattle.paper.specs.rules.Word.{lowFirst, wordAt};
 ghost use Rattle.replay.specs.Case.{headOf, seenOf, openingOf, sameSeen};
 
 // The op, the places and bytes that are lent, the two numbers that are passed, and the lengths of a and b.

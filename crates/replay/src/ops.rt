@@ -12,8 +12,8 @@ ghost use mathlib.Core.Path.{_≡_};
 ghost use Prim.Native.Nat.{_/_, _<_};
 ghost use lib.ListN.{length};
 ghost use Rattle.answers.specs.Numbers.{asPaper};
-ghost use Rattle.paper.specs.Name.{nameAt};
-ghost use Rattle.paper.specs.Size.{sizeOf};
+ghost use Rattle.paper.specs.rules.Name.{nameAt};
+ghost use Rattle.paper.specs.rules.Size.{sizeOf};
 ghost use Rattle.replay.specs.Case.{checkSeen, joinSeen, named, plainly, seenWith};
 ghost use Rattle.replay.specs.Run.{runOf};
 

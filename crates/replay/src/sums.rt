@@ -3,7 +3,7 @@ use paper::Place;
 ghost use mathlib.Core.Path.{_≡_};
 ghost use Prim.Native.Nat.{_*_, _/_, _≤_, _<_};
 ghost use lib.ListN.{length, replicate};
-ghost use Rattle.paper.specs.Word.{lowFirst, bytesOfWords, wordBytes, words};
+ghost use Rattle.paper.specs.rules.Word.{lowFirst, bytesOfWords, wordBytes, words};
 ghost use Rattle.replay.specs.Sum.{sumFrom, sumOf, afterByte};
 
 // The sum of no bytes.

@@ -6,7 +6,7 @@ use mathlib.Core.Bool.{true, false}
 use native.Mathlib.Omega.{arith}
 use borrow.Author.Tests.{ne-eqb, lt-leb}
 use lib.Dec.{leb}
-use Rattle.paper.specs.Span.{isAlias}
+use Rattle.paper.specs.rules.Span.{isAlias}
 
 pub alias-tag : {k : ℕ} → k ≡ 18 → true ≡ isAlias k
 alias-tag e = sym (ap isAlias e)

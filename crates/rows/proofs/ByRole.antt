@@ -7,11 +7,11 @@ use mathlib.Core.List.{List, [], _∷_}
 use native.Mathlib.Omega.{arith}
 use borrow.Author.Tests.{not-true, not-false}
 use lib.ListN.{length, getD}
-use Rattle.paper.specs.Choice.{times}
-use Rattle.paper.specs.Kind.{Role, names, number, rowOf}
-use Rattle.paper.specs.Reading.{recordIn, roled, tailRoled}
-use Rattle.paper.specs.Table.{kindIn, vlenIn, everyWord}
-use Rattle.paper.specs.Word.{Order, wordAt}
+use Rattle.paper.specs.rules.Choice.{times}
+use Rattle.paper.specs.rules.Kind.{Role, names, number, rowOf}
+use Rattle.paper.specs.terms.Reading.{recordIn, roled, tailRoled}
+use Rattle.paper.specs.rules.Table.{kindIn, vlenIn, everyWord}
+use Rattle.paper.specs.rules.Word.{Order, wordAt}
 use Rattle.paper.proofs.basics.Choices.{and-nothing}
 use Rattle.paper.proofs.bytes.Reading.{roled-append, everyWord-recordIn}
 use Rattle.rows.specs.Codes.{nameCode, roleCode, roleOf, roleAt}

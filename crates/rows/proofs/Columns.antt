@@ -8,7 +8,7 @@ use native.Mathlib.Omega.{arith}
 use borrow.Author.Tests.{eqb-true, eqb-false, leb-true, leb-false, ltb-true, ltb-false}
 use lib.Dec.{eqb, leb, ltb}
 use lib.ListN.{getD, List·getD-map, List·getD-eq-default}
-use Rattle.paper.specs.Kind.{Row, rows, rowOf}
+use Rattle.paper.specs.rules.Kind.{Row, rows, rowOf}
 
 -- ── a row by its kind ──
 

@@ -9,9 +9,9 @@ use native.Mathlib.Omega.{arith}
 use borrow.Author.Tests.{eq-eqb, ne-eqb, lt-leb}
 use types.Run.{OneOf}
 use lib.Dec.{eqb, leb}
-use Rattle.paper.specs.Choice.{member}
-use Rattle.paper.specs.Heads.{allowed}
-use Rattle.paper.specs.Kind.{Row, Values, free, rows, rowOf}
+use Rattle.paper.specs.rules.Choice.{member}
+use Rattle.paper.specs.rules.Heads.{allowed}
+use Rattle.paper.specs.rules.Kind.{Row, Values, free, rows, rowOf}
 use Rattle.paper.proofs.basics.Choices.{or-left, or-right, false-or, or-nothing}
 use Rattle.rows.specs.Codes.{valuesOf, valuesCode}
 use Rattle.rows.proofs.Columns.{rowOf-agree}

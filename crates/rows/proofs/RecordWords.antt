@@ -5,11 +5,11 @@ use mathlib.Core.Path.{_≡_, sym, ap, _∙_}
 use mathlib.Core.List.{List}
 use native.Mathlib.Omega.{arith}
 use lib.ListN.{length, getD}
-use Rattle.paper.specs.Kind.{rows, rowOf}
-use Rattle.paper.specs.KindNo.{INT, ARRAY, DECL-TAG}
-use Rattle.paper.specs.Reading.{wordsFrom, recordIn}
-use Rattle.paper.specs.Table.{Record, kindIn, vlenIn, flagIn, kindOf, vlenOf, flagOf, tailLength}
-use Rattle.paper.specs.Word.{lowFirst, wordAt}
+use Rattle.paper.specs.rules.Kind.{rows, rowOf}
+use Rattle.paper.specs.rules.KindNo.{INT, ARRAY, DECL-TAG}
+use Rattle.paper.specs.terms.Reading.{wordsFrom, recordIn}
+use Rattle.paper.specs.rules.Table.{Record, kindIn, vlenIn, flagIn, kindOf, vlenOf, flagOf, tailLength}
+use Rattle.paper.specs.rules.Word.{lowFirst, wordAt}
 
 module _ (s : List ℕ) {r : Record} (is : recordIn lowFirst s ≡ r) where
   pub info-read : {w : ℕ} → w ≡ wordAt lowFirst s 4 → w ≡ r .info

@@ -10,8 +10,8 @@ use borrow.Author.Tests.{leb-true, leb-false}
 use lib.Dec.{leb}
 use lib.ListN.{length, List·getD-eq-default}
 use mathlib.Core.List.{List}
-use Rattle.paper.specs.Kind.{NameRule, offset0, anyName, offset0OrIdentifier, identifier, nonEmpty, sectionName, RefRule, voidOrPlain, plain, anInt, aProto, aVar, taggable, Role, names, refers, holds, number, SizeRule, eight, sizeWord, countTimes, referent, noSize, Row, rows, rowOf}
-use Rattle.paper.specs.Table.{kindIn, vlenIn, tailLength}
+use Rattle.paper.specs.rules.Kind.{NameRule, offset0, anyName, offset0OrIdentifier, identifier, nonEmpty, sectionName, RefRule, voidOrPlain, plain, anInt, aProto, aVar, taggable, Role, names, refers, holds, number, SizeRule, eight, sizeWord, countTimes, referent, noSize, Row, rows, rowOf}
+use Rattle.paper.specs.rules.Table.{kindIn, vlenIn, tailLength}
 use Rattle.paper.proofs.basics.Rows.{rowOf-every}
 use Rattle.rows.specs.Codes.{nameCode, refCode, roleCode, roleOf, roleAt, between, sizeCode, sizeRuleOf}
 

@@ -2,7 +2,7 @@
 use paper::NameOff;
 use paper::Place;
 ghost use mathlib.Core.Path.{_≡_};
-ghost use Rattle.paper.specs.Word.{lowFirst, wordAt};
+ghost use Rattle.paper.specs.rules.Word.{lowFirst, wordAt};
 
 pub fn name_of(r: &[u8]) -> NameOff
     ensures { λ n. ⌜ n .0 ≡ wordAt lowFirst (now (r .entry)) 0 ⌝ }

@@ -2,8 +2,8 @@
 use crate::table::column;
 use crate::table::head_row;
 ghost use mathlib.Core.Path.{_≡_};
-ghost use Rattle.paper.specs.Heads.{allowed};
-ghost use Rattle.paper.specs.Kind.{rowOf};
+ghost use Rattle.paper.specs.rules.Heads.{allowed};
+ghost use Rattle.paper.specs.rules.Kind.{rowOf};
 ghost use Rattle.rows.specs.Codes.{valuesOf};
 
 // A size that an ENUM or ENUM64 may have.

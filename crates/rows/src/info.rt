@@ -2,8 +2,8 @@
 use crate::kinds::ENUM64;
 use crate::kinds::INT;
 ghost use mathlib.Core.Path.{_≡_};
-ghost use Rattle.paper.specs.Table.{flagIn, kindIn, vlenIn};
-ghost use Rattle.paper.specs.Walk.{known};
+ghost use Rattle.paper.specs.rules.Table.{flagIn, kindIn, vlenIn};
+ghost use Rattle.paper.specs.rules.Walk.{known};
 
 // The kind of an info word.
 pub fn kind_of(info: u32) -> u32

@@ -1,6 +1,6 @@
 // The kinds by their names, and kinds that a rule takes together.
 ghost use mathlib.Core.Path.{_≡_};
-ghost use Rattle.paper.specs.Span.{isAlias};
+ghost use Rattle.paper.specs.rules.Span.{isAlias};
 
 // Kinds 1 to 19, by the paper's names.
 pub const INT: u32 = 1;

@@ -6,8 +6,8 @@ use crate::table::head_row;
 use crate::table::tail_row;
 ghost use mathlib.Core.Path.{_≡_};
 ghost use lib.ListN.{length};
-ghost use Rattle.paper.specs.Kind.{rowOf};
-ghost use Rattle.paper.specs.Table.{tailLength};
+ghost use Rattle.paper.specs.rules.Kind.{rowOf};
+ghost use Rattle.paper.specs.rules.Table.{tailLength};
 ghost use Rattle.rows.specs.Codes.{isHeldCode, isNameCode, isRefCode, nameCode, roleAt, roleCode, ruleCode, sizeCode};
 
 // The role of a head's third word.

@@ -21,7 +21,7 @@ use crate::kinds::VAR;
 use crate::kinds::VOLATILE;
 ghost use mathlib.Core.Path.{_≡_};
 ghost use Prim.Native.Nat.{_%_, _/_, _<_};
-ghost use Rattle.paper.specs.Kind.{rowOf};
+ghost use Rattle.paper.specs.rules.Kind.{rowOf};
 ghost use Rattle.rows.specs.Codes.{headCode, tailCode};
 
 // kind_flag, vlen, third word (0 only 0, 1 a FUNC's linkage, 2 an INT's sizes, 3 an ENUM's, 4 a FLOAT's, 5 any); the third word's role;

@@ -7,11 +7,11 @@ use mathlib.Core.Option.{Option, none, some}
 use Prim.Native.Nat.{ℕ}
 use borrow.Author.Tests.{not-true, not-false}
 use lib.Dec.{eqb}
-use Rattle.paper.specs.Choice.{firstDue}
-use Rattle.paper.specs.Heads.{headOk}
-use Rattle.paper.specs.Names.{namesOk}
-use Rattle.paper.specs.Table.{Record}
-use Rattle.paper.specs.Tails.{tailOk}
+use Rattle.paper.specs.rules.Choice.{firstDue}
+use Rattle.paper.specs.rules.Heads.{headOk}
+use Rattle.paper.specs.rules.Names.{namesOk}
+use Rattle.paper.specs.rules.Table.{Record}
+use Rattle.paper.specs.rules.Tails.{tailOk}
 use Rattle.rules.specs.declared.phase.Due.{Due}
 use Rattle.rules.specs.declared.phase.Due.the-variants.{Nothing, Head, Named, Tail}
 use Rattle.rules.specs.Phase.{dueAsPaper, rulesOf}

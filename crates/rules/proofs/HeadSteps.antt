@@ -5,11 +5,11 @@ use mathlib.Core.Path.{_≡_, refl, sym, _∙_}
 use mathlib.Core.Bool.{Bool, true, false, not}
 use mathlib.Core.List.{List}
 use borrow.Author.Tests.{not-true, not-false}
-use Rattle.paper.specs.Heads.{allowed, spareZero, headOk}
-use Rattle.paper.specs.Kind.{rowOf}
-use Rattle.paper.specs.Reading.{recordIn}
-use Rattle.paper.specs.Table.{kindIn, vlenIn, flagIn}
-use Rattle.paper.specs.Word.{lowFirst, wordAt}
+use Rattle.paper.specs.rules.Heads.{allowed, spareZero, headOk}
+use Rattle.paper.specs.rules.Kind.{rowOf}
+use Rattle.paper.specs.terms.Reading.{recordIn}
+use Rattle.paper.specs.rules.Table.{kindIn, vlenIn, flagIn}
+use Rattle.paper.specs.rules.Word.{lowFirst, wordAt}
 use Rattle.rules.specs.Parts.{headBy}
 
 module _ (info third : ℕ) {k : ℕ} (kind : k ≡ kindIn info) {a : Bool} (spare : a ≡ spareZero info) where

@@ -8,9 +8,9 @@ use mathlib.Core.List.{List, [], _∷_}
 use native.Mathlib.Omega.{arith}
 use borrow.Author.Tests.{lt-ltb, le-ltb, not-true, not-false}
 use lib.ListN.{length}
-use Rattle.paper.specs.Kind.{Role, names, refers, holds, number, voidOrPlain, plain, anInt, aProto, aVar, taggable}
-use Rattle.paper.specs.Name.{nameIn}
-use Rattle.paper.specs.Names.{nameFits, nameOk, nameWordOk}
+use Rattle.paper.specs.rules.Kind.{Role, names, refers, holds, number, voidOrPlain, plain, anInt, aProto, aVar, taggable}
+use Rattle.paper.specs.rules.Name.{nameIn}
+use Rattle.paper.specs.rules.Names.{nameFits, nameOk, nameWordOk}
 use Rattle.paper.proofs.basics.Choices.{every-getD}
 use Rattle.rows.proofs.RoleCodes.{between-in, between-out}
 use Rattle.rows.specs.Codes.{roleOf, isNameCode}

@@ -8,10 +8,10 @@ use native.Mathlib.Omega.{arith}
 use borrow.Author.Tests.{eq-eqb, ne-eqb}
 use lib.Dec.{eqb}
 use Rattle.paper.proofs.basics.Choices.{and-nothing}
-use Rattle.paper.specs.Choice.{isEmpty}
-use Rattle.paper.specs.Reading.{wordsFrom}
-use Rattle.paper.specs.Tails.{Parameter, parametersIn, isLast00, voidsLast}
-use Rattle.paper.specs.Word.{lowFirst, wordAt}
+use Rattle.paper.specs.rules.Choice.{isEmpty}
+use Rattle.paper.specs.terms.Reading.{wordsFrom}
+use Rattle.paper.specs.rules.Tails.{Parameter, parametersIn, isLast00, voidsLast}
+use Rattle.paper.specs.rules.Word.{lowFirst, wordAt}
 use Rattle.rules.specs.Parts.{voidsLastFrom}
 
 module _ (s : List ℕ) where

@@ -9,13 +9,13 @@ use borrow.Author.Tests.{eq-eqb, ne-eqb, le-leb, lt-leb, not-true, not-false}
 use lib.Dec.{eqb, leb}
 use lib.ListN.{length, getD}
 use Rattle.paper.proofs.basics.Choices.{and-nothing, or-nothing}
-use Rattle.paper.specs.Choice.{differ, member}
-use Rattle.paper.specs.Kind.{rows, rowOf}
-use Rattle.paper.specs.KindNo.{INT, VAR, FUNC-PROTO}
-use Rattle.paper.specs.Reading.{wordsFrom, recordIn}
-use Rattle.paper.specs.Table.{kindIn, vlenIn, tailLength, bits}
-use Rattle.paper.specs.Tails.{widthIn, offsetIn, encodingIn, intWordOk, linkageWordOk, parametersIn, voidsLast, tailOk}
-use Rattle.paper.specs.Word.{lowFirst, wordAt}
+use Rattle.paper.specs.rules.Choice.{differ, member}
+use Rattle.paper.specs.rules.Kind.{rows, rowOf}
+use Rattle.paper.specs.rules.KindNo.{INT, VAR, FUNC-PROTO}
+use Rattle.paper.specs.terms.Reading.{wordsFrom, recordIn}
+use Rattle.paper.specs.rules.Table.{kindIn, vlenIn, tailLength, bits}
+use Rattle.paper.specs.rules.Tails.{widthIn, offsetIn, encodingIn, intWordOk, linkageWordOk, parametersIn, voidsLast, tailOk}
+use Rattle.paper.specs.rules.Word.{lowFirst, wordAt}
 use Rattle.rules.specs.Parts.{voidsLastFrom}
 
 -- ── encodings ──

@@ -3,12 +3,12 @@ use Prim.Native.Nat.{ℕ, _*_}
 use mathlib.Core.Bool.{Bool, _&&_}
 use mathlib.Core.List.{List, [], _∷_}
 use lib.ListN.{getD}
-use Rattle.paper.specs.Heads.{allowed, spareZero}
-use Rattle.paper.specs.Kind.{NameRule, offset0, anyName, offset0OrIdentifier, identifier, nonEmpty, sectionName, rowOf}
-use Rattle.paper.specs.Reading.{wordsFrom}
-use Rattle.paper.specs.Table.{kindIn, vlenIn, flagIn}
-use Rattle.paper.specs.Tails.{parametersIn, voidsLast}
-use Rattle.paper.specs.Word.{lowFirst}
+use Rattle.paper.specs.rules.Heads.{allowed, spareZero}
+use Rattle.paper.specs.rules.Kind.{NameRule, offset0, anyName, offset0OrIdentifier, identifier, nonEmpty, sectionName, rowOf}
+use Rattle.paper.specs.terms.Reading.{wordsFrom}
+use Rattle.paper.specs.rules.Table.{kindIn, vlenIn, flagIn}
+use Rattle.paper.specs.rules.Tails.{parametersIn, voidsLast}
+use Rattle.paper.specs.rules.Word.{lowFirst}
 
 -- report 10 by the info word and the third word
 abbrev pub headBy : ℕ → ℕ → Bool

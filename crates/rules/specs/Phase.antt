@@ -3,11 +3,11 @@ use Prim.Native.Nat.{ℕ}
 use mathlib.Core.Bool.{not}
 use mathlib.Core.List.{List, [], _∷_}
 use mathlib.Core.Option.{Option, none, some}
-use Rattle.paper.specs.Choice.{Rule, _when_}
-use Rattle.paper.specs.Heads.{headOk}
-use Rattle.paper.specs.Names.{namesOk}
-use Rattle.paper.specs.Table.{Record}
-use Rattle.paper.specs.Tails.{tailOk}
+use Rattle.paper.specs.rules.Choice.{Rule, _when_}
+use Rattle.paper.specs.rules.Heads.{headOk}
+use Rattle.paper.specs.rules.Names.{namesOk}
+use Rattle.paper.specs.rules.Table.{Record}
+use Rattle.paper.specs.rules.Tails.{tailOk}
 use Rattle.rules.specs.declared.phase.Due.{Due}
 use Rattle.rules.specs.declared.phase.Due.the-variants.{Nothing, Head, Named, Tail}
 

@@ -7,9 +7,9 @@ use rows::third_allowed;
 use rows::vlen_allowed;
 use rows::vlen_of;
 ghost use mathlib.Core.Path.{_≡_};
-ghost use Rattle.paper.specs.Heads.{headOk, spareZero};
-ghost use Rattle.paper.specs.Reading.{recordIn};
-ghost use Rattle.paper.specs.Word.{lowFirst};
+ghost use Rattle.paper.specs.rules.Heads.{headOk, spareZero};
+ghost use Rattle.paper.specs.terms.Reading.{recordIn};
+ghost use Rattle.paper.specs.rules.Word.{lowFirst};
 ghost use Rattle.rules.specs.Parts.{headBy};
 
 // The spare bits of an info word are 0.

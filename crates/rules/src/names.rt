@@ -17,12 +17,12 @@ ghost use mathlib.Core.Path.{_≡_};
 ghost use mathlib.Core.List.{[], _∷_};
 ghost use Prim.Native.Nat.{_<_, _≤_};
 ghost use lib.ListN.{length};
-ghost use Rattle.paper.specs.Choice.{times};
-ghost use Rattle.paper.specs.Kind.{rowOf};
-ghost use Rattle.paper.specs.Name.{isIdentifier, nameIn};
-ghost use Rattle.paper.specs.Names.{nameFits, nameWordOk, namesOk};
-ghost use Rattle.paper.specs.Reading.{recordIn, roled, tailRoled};
-ghost use Rattle.paper.specs.Word.{lowFirst, wordAt};
+ghost use Rattle.paper.specs.rules.Choice.{times};
+ghost use Rattle.paper.specs.rules.Kind.{rowOf};
+ghost use Rattle.paper.specs.rules.Name.{isIdentifier, nameIn};
+ghost use Rattle.paper.specs.rules.Names.{nameFits, nameWordOk, namesOk};
+ghost use Rattle.paper.specs.terms.Reading.{recordIn, roled, tailRoled};
+ghost use Rattle.paper.specs.rules.Word.{lowFirst, wordAt};
 ghost use Rattle.rows.specs.Codes.{roleOf};
 ghost use Rattle.rules.specs.Parts.{nameRuleOf};
 

@@ -3,9 +3,9 @@ use crate::heads::head_ok;
 use crate::names::names_ok;
 use crate::tails::tail_ok;
 ghost use mathlib.Core.Path.{_≡_};
-ghost use Rattle.paper.specs.Choice.{firstDue};
-ghost use Rattle.paper.specs.Reading.{recordIn};
-ghost use Rattle.paper.specs.Word.{lowFirst};
+ghost use Rattle.paper.specs.rules.Choice.{firstDue};
+ghost use Rattle.paper.specs.terms.Reading.{recordIn};
+ghost use Rattle.paper.specs.rules.Word.{lowFirst};
 ghost use Rattle.rules.specs.Phase.{dueAsPaper, rulesOf};
 
 // What phase 3 says of a record: nothing, or 10, 11 or 12.

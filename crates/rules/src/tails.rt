@@ -8,10 +8,10 @@ use rows::vlen_of;
 ghost use mathlib.Core.Path.{_≡_};
 ghost use mathlib.Core.List.{[], _∷_};
 ghost use Prim.Native.Nat.{_<_};
-ghost use Rattle.paper.specs.Choice.{member};
-ghost use Rattle.paper.specs.Reading.{recordIn};
-ghost use Rattle.paper.specs.Tails.{intWordOk, linkageWordOk, tailOk};
-ghost use Rattle.paper.specs.Word.{lowFirst};
+ghost use Rattle.paper.specs.rules.Choice.{member};
+ghost use Rattle.paper.specs.terms.Reading.{recordIn};
+ghost use Rattle.paper.specs.rules.Tails.{intWordOk, linkageWordOk, tailOk};
+ghost use Rattle.paper.specs.rules.Word.{lowFirst};
 ghost use Rattle.rules.specs.Parts.{voidsLastFrom};
 
 // An encoding that an INT may have.

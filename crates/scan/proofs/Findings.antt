@@ -6,11 +6,11 @@ use mathlib.Core.List.{List}
 use mathlib.Core.Option.{none, some}
 use native.Mathlib.Omega.{arith}
 use lib.ListN.{length}
-use Rattle.paper.specs.Answer.{Answer}
-use Rattle.paper.specs.Gate.{phase2, walkReport}
-use Rattle.paper.specs.Header.{headerReport, typeLen}
-use Rattle.paper.specs.Table.{count}
-use Rattle.paper.specs.Walk.{Walked, records, stopped, recordsIn, walk, tableOf}
+use Rattle.paper.specs.rules.Answer.{Answer}
+use Rattle.paper.specs.rules.Gate.{phase2, walkReport}
+use Rattle.paper.specs.rules.Header.{headerReport, typeLen}
+use Rattle.paper.specs.rules.Table.{count}
+use Rattle.paper.specs.rules.Walk.{Walked, records, stopped, recordsIn, walk, tableOf}
 use Rattle.paper.proofs.bytes.Headers.{headerReport-facts}
 use Rattle.scan.specs.Phase2.{TypeSection, counted, refused, findingOf}
 

@@ -12,13 +12,13 @@ use Rattle.paper.proofs.gates.Acceptance.{silent-readable, readable-walk}
 use Rattle.paper.proofs.basics.Answers.{report-one}
 use Rattle.paper.proofs.basics.Choices.{or-left, or-right, false-or}
 use Rattle.paper.proofs.gates.Gates.{orElse-none, naming-none, some≢none, some-one}
-use Rattle.paper.specs.Answer.{Answer, report, reportAsPaper}
-use Rattle.paper.specs.Choice.{_when_, firstDue, orElse}
-use Rattle.paper.specs.Gate.{naming, phase1, phase2, shortSlices}
-use Rattle.paper.specs.Good.{Readable}
-use Rattle.paper.specs.Header.{headerReport}
-use Rattle.paper.specs.Table.{count}
-use Rattle.paper.specs.Walk.{walk, tableOf}
+use Rattle.paper.specs.rules.Answer.{Answer, report, reportAsPaper}
+use Rattle.paper.specs.rules.Choice.{_when_, firstDue, orElse}
+use Rattle.paper.specs.rules.Gate.{naming, phase1, phase2, shortSlices}
+use Rattle.paper.specs.terms.Good.{Readable}
+use Rattle.paper.specs.rules.Header.{headerReport}
+use Rattle.paper.specs.rules.Table.{count}
+use Rattle.paper.specs.rules.Walk.{walk, tableOf}
 use Rattle.paper.specs.declared.Report.{Report}
 use Rattle.scan.proofs.Findings.{headerReport-section, counted-phase2, refused-phase2, counted-count}
 use Rattle.header.specs.Header.{HeaderOf, SectionsOf}

@@ -6,9 +6,9 @@ use mathlib.Core.List.{List, [], _∷_}
 use native.Mathlib.Omega.{arith}
 use lib.ListN.{length, take, drop, length-drop}
 use lib.Seq.{length-take-le}
-use Rattle.paper.specs.Header.{orderOf, headerLength, typeLen}
-use Rattle.paper.specs.Walk.{typeWords}
-use Rattle.paper.specs.Word.{lowFirst, words, wordAt}
+use Rattle.paper.specs.rules.Header.{orderOf, headerLength, typeLen}
+use Rattle.paper.specs.rules.Walk.{typeWords}
+use Rattle.paper.specs.rules.Word.{lowFirst, words, wordAt}
 use Rattle.paper.proofs.bytes.Words.{drop-four, wordAt-inside}
 use Rattle.paper.proofs.bytes.Bytes.{length-words}
 

@@ -7,17 +7,17 @@ use native.Mathlib.Numerals.{add-one}
 use native.Mathlib.Omega.{arith}
 use lib.ListN.{length, getD, drop, set, length-append, length-replicate}
 use lib.Seq.{drop-cons, drop-at}
-use Rattle.paper.specs.Fit.{Whole}
-use Rattle.paper.specs.Gate.{zeros, indexOf}
-use Rattle.paper.specs.Header.{headerLength, typeLen}
-use Rattle.paper.specs.Limits.{typeLimit, byteLimit}
-use Rattle.paper.specs.Table.{Record, nothing, tailLength, wordsOf}
-use Rattle.paper.specs.Walk.{typeWords, walk, tableOf, flat, placesFrom, placesOf}
-use Rattle.paper.specs.Word.{lowFirst, wordAt}
+use Rattle.paper.specs.terms.Fit.{Whole}
+use Rattle.paper.specs.rules.Gate.{zeros, indexOf}
+use Rattle.paper.specs.rules.Header.{headerLength, typeLen}
+use Rattle.paper.specs.rules.Limits.{typeLimit, byteLimit}
+use Rattle.paper.specs.rules.Table.{Record, nothing, tailLength, wordsOf}
+use Rattle.paper.specs.rules.Walk.{typeWords, walk, tableOf, flat, placesFrom, placesOf}
+use Rattle.paper.specs.rules.Word.{lowFirst, wordAt}
 use Rattle.paper.proofs.bytes.Blobs.{tableOf-found}
 use Rattle.paper.proofs.bytes.Places.{length-placesOf}
 use Rattle.paper.proofs.bytes.Sections.{whole-at}
-use Rattle.paper.specs.Good.{WholeWalk}
+use Rattle.paper.specs.terms.Good.{WholeWalk}
 use Rattle.scan.specs.Phase2.{WalkDone}
 use Rattle.scan.proofs.Findings.{finding-records, counted-count}
 use Rattle.scan.proofs.Left.{left, typeWords-left, left-length, left-head, left-drop}

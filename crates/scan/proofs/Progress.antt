@@ -6,12 +6,12 @@ use mathlib.Core.List.{List}
 use native.Mathlib.Numerals.{add-one}
 use native.Mathlib.Omega.{arith}
 use lib.ListN.{length, drop}
-use Rattle.paper.specs.Answer.{reportAt}
-use Rattle.paper.specs.Header.{headerLength}
-use Rattle.paper.specs.Limits.{typeLimit}
-use Rattle.paper.specs.Table.{Record, tailLength}
-use Rattle.paper.specs.Walk.{Walked, records, stopped, ahead, walkFrom, walk}
-use Rattle.paper.specs.Word.{lowFirst, wordAt}
+use Rattle.paper.specs.rules.Answer.{reportAt}
+use Rattle.paper.specs.rules.Header.{headerLength}
+use Rattle.paper.specs.rules.Limits.{typeLimit}
+use Rattle.paper.specs.rules.Table.{Record, tailLength}
+use Rattle.paper.specs.rules.Walk.{Walked, records, stopped, ahead, walkFrom, walk}
+use Rattle.paper.specs.rules.Word.{lowFirst, wordAt}
 use Rattle.paper.proofs.bytes.Sections.{recordFrom}
 use Rattle.scan.specs.declared.walk.Step.{Step}
 use Rattle.scan.specs.declared.walk.Step.the-variants.{Next, Cut, Unknown}

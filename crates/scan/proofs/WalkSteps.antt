@@ -8,9 +8,9 @@ use native.Mathlib.Omega.{arith}
 use borrow.Author.Tests.{leb-true, leb-false, le-leb, lt-leb}
 use lib.Dec.{leb}
 use lib.ListN.{length, drop}
-use Rattle.paper.specs.Table.{kindIn, tailLength}
-use Rattle.paper.specs.Walk.{Walked, records, stopped, ahead, known, walkRecord, walkFrom}
-use Rattle.paper.specs.Word.{lowFirst, wordAt}
+use Rattle.paper.specs.rules.Table.{kindIn, tailLength}
+use Rattle.paper.specs.rules.Walk.{Walked, records, stopped, ahead, known, walkRecord, walkFrom}
+use Rattle.paper.specs.rules.Word.{lowFirst, wordAt}
 use Rattle.paper.proofs.bytes.Sections.{recordFrom}
 use Rattle.scan.specs.declared.walk.Step.{Step}
 use Rattle.scan.specs.declared.walk.Step.the-variants.{Next, Cut, Unknown}

@@ -7,9 +7,9 @@ use native.Mathlib.Numerals.{add-one}
 use native.Mathlib.Omega.{arith}
 use lib.ListN.{length, getD, take, set, length-append, length-replicate}
 use lib.Seq.{take-suc, take-all, length-take-le, set-at, append-snoc}
-use Rattle.paper.specs.Gate.{zeros, indexOf}
-use Rattle.paper.specs.Table.{Table, count}
-use Rattle.paper.specs.Walk.{placesOf}
+use Rattle.paper.specs.rules.Gate.{zeros, indexOf}
+use Rattle.paper.specs.rules.Table.{Table, count}
+use Rattle.paper.specs.rules.Walk.{placesOf}
 use Rattle.paper.proofs.bytes.Places.{length-placesOf}
 
 abbrev pub written : List ℕ → ℕ → ℕ → List ℕ

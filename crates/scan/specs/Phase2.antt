@@ -5,13 +5,13 @@ use mathlib.Core.Bool.{cond}
 use mathlib.Core.List.{List}
 use lib.Dec.{leb}
 use lib.ListN.{length}
-use Rattle.paper.specs.Answer.{Answer, reportAt, reportAsPaper}
-use Rattle.paper.specs.Header.{headerLength, typeLen}
-use Rattle.paper.specs.Limits.{byteLimit}
-use Rattle.paper.specs.Table.{kindIn, tailLength}
-use Rattle.paper.specs.Walk.{records, stopped, known, walk}
-use Rattle.paper.specs.Walk as paper
-use Rattle.paper.specs.Word.{lowFirst, wordAt}
+use Rattle.paper.specs.rules.Answer.{Answer, reportAt, reportAsPaper}
+use Rattle.paper.specs.rules.Header.{headerLength, typeLen}
+use Rattle.paper.specs.rules.Limits.{byteLimit}
+use Rattle.paper.specs.rules.Table.{kindIn, tailLength}
+use Rattle.paper.specs.rules.Walk.{records, stopped, known, walk}
+use Rattle.paper.specs.rules.Walk as paper
+use Rattle.paper.specs.rules.Word.{lowFirst, wordAt}
 use Rattle.scan.specs.declared.walk.Step.{Step}
 use Rattle.scan.specs.declared.walk.Step.the-variants.{Next, Cut, Unknown}
 use Rattle.scan.specs.declared.walk.Walked.{Walked}

@@ -5,11 +5,11 @@ use mathlib.Core.List.{List}
 use mathlib.Core.Option.{Option, none, some}
 use Rattle.scan.specs.declared.found.Scanned.{Scanned}
 use Rattle.scan.specs.declared.found.Scanned.the-variants.{Counted, Refused}
-use Rattle.paper.specs.Answer.{Answer, reportAsPaper}
-use Rattle.paper.specs.Choice.{orElse}
-use Rattle.paper.specs.Gate.{phase1, phase2, shortSlices, zeros, indexOf}
-use Rattle.paper.specs.Table.{count}
-use Rattle.paper.specs.Walk.{tableOf}
+use Rattle.paper.specs.rules.Answer.{Answer, reportAsPaper}
+use Rattle.paper.specs.rules.Choice.{orElse}
+use Rattle.paper.specs.rules.Gate.{phase1, phase2, shortSlices, zeros, indexOf}
+use Rattle.paper.specs.rules.Table.{count}
+use Rattle.paper.specs.rules.Walk.{tableOf}
 
 -- the reports 1 to 9, the earliest first
 unfoldable pub scanReport : List ℕ → ℕ → ℕ → Option Answer

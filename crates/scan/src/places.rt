@@ -4,8 +4,8 @@ use paper::Place;
 use rows::tail_words;
 ghost use mathlib.Core.Path.{_≡_};
 ghost use lib.ListN.{length};
-ghost use Rattle.paper.specs.Gate.{indexOf};
-ghost use Rattle.paper.specs.Walk.{tableOf};
+ghost use Rattle.paper.specs.rules.Gate.{indexOf};
+ghost use Rattle.paper.specs.rules.Walk.{tableOf};
 ghost use Rattle.scan.specs.Phase2.{WalkDone};
 
 // The places of the n records that a walk has counted, behind a 0; the rest is 0.

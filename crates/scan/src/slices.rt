@@ -1,7 +1,7 @@
 // A lent slice is left all 0.
 ghost use mathlib.Core.Path.{_≡_};
 ghost use lib.ListN.{length};
-ghost use Rattle.paper.specs.Gate.{zeros};
+ghost use Rattle.paper.specs.rules.Gate.{zeros};
 
 pub fn clear(s: &mut [u32])
     ensures { λ r. ⌜ now (s .exit) ≡ zeros (length (now (s .entry))) ⌝ }

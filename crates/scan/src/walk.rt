@@ -7,7 +7,7 @@ use rows::kind_of;
 use rows::tail_words;
 ghost use mathlib.Core.Path.{_≡_};
 ghost use Prim.Native.Nat.{_≤_};
-ghost use Rattle.paper.specs.Walk as paper;
+ghost use Rattle.paper.specs.rules.Walk as paper;
 ghost use Rattle.scan.specs.Phase2.{TypeSection, findingOf, walkedAsPaper, stepFrom};
 
 // What stands at a record's place: the place behind the record, or why there is none.

@@ -9,9 +9,9 @@ use borrow.Author.Tests.{leb-true, leb-false, lt-leb}
 use lib.Dec.{leb}
 use Rattle.sizes.specs.SizeStep.{cut}
 use Rattle.paper.proofs.walks.Sizes.{sizeBy-void}
-use Rattle.paper.specs.Answer.{Answer}
-use Rattle.paper.specs.Limits.{sizeLimit}
-use Rattle.paper.specs.Size.{Step, is, manyOf, sizeless, lost, Found, exactly, noneAt, lostAt, tooFar, scale, goOn, sizeBy, sizeAnswer}
+use Rattle.paper.specs.rules.Answer.{Answer}
+use Rattle.paper.specs.rules.Limits.{sizeLimit}
+use Rattle.paper.specs.rules.Size.{Step, is, manyOf, sizeless, lost, Found, exactly, noneAt, lostAt, tooFar, scale, goOn, sizeBy, sizeAnswer}
 
 -- ── counts ──
 

@@ -13,13 +13,13 @@ use Rattle.rows.proofs.RoleCodes.{sizeRuleOf-sizeCode}
 use Rattle.rows.specs.Codes.{sizeCode, sizeRuleOf}
 use Rattle.paper.proofs.bytes.Bytes.{part-rest}
 use Rattle.sizes.specs.SizeStep.{readable, stepWords, stepOf}
-use Rattle.paper.specs.Kind.{noSize, rowOf}
-use Rattle.paper.specs.Size.{Step, lost, stepBy, stepAtPlace, stepAt}
-use Rattle.paper.specs.Header.{orderOf}
-use Rattle.paper.specs.KindNo.{ARRAY}
-use Rattle.paper.specs.Table.{kindIn}
-use Rattle.paper.specs.Walk.{known}
-use Rattle.paper.specs.Word.{lowFirst, wordAt}
+use Rattle.paper.specs.rules.Kind.{noSize, rowOf}
+use Rattle.paper.specs.rules.Size.{Step, lost, stepBy, stepAtPlace, stepAt}
+use Rattle.paper.specs.rules.Header.{orderOf}
+use Rattle.paper.specs.rules.KindNo.{ARRAY}
+use Rattle.paper.specs.rules.Table.{kindIn}
+use Rattle.paper.specs.rules.Walk.{known}
+use Rattle.paper.specs.rules.Word.{lowFirst, wordAt}
 
 -- ── rules as numbers ──
 

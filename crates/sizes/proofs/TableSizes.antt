@@ -8,13 +8,13 @@ use lib.ListN.{length, getD}
 use Rattle.sizes.specs.SizeStep.{cut, stepWords}
 use Rattle.sizes.proofs.Scales.{Left, left-all, sizeAnswer-cut}
 use Rattle.paper.proofs.gates.SizeAsked.{stepBy-same, rowOf-counts}
-use Rattle.paper.specs.Answer.{Answer}
-use Rattle.paper.specs.Kind.{rowOf}
-use Rattle.paper.specs.Reading.{recordIn}
-use Rattle.paper.specs.Size.{Step, Found, exactly, noneAt, lostAt, tooFar, scale, stepBy, sizeBy, stepIn, sizeFound, exactSize, answerOf}
-use Rattle.paper.specs.Table as table
-use Rattle.paper.specs.Table.{Record, Table, recordAt, kindIn, kindOf, tailLength}
-use Rattle.paper.specs.Word.{lowFirst, wordAt}
+use Rattle.paper.specs.rules.Answer.{Answer}
+use Rattle.paper.specs.rules.Kind.{rowOf}
+use Rattle.paper.specs.terms.Reading.{recordIn}
+use Rattle.paper.specs.rules.Size.{Step, Found, exactly, noneAt, lostAt, tooFar, scale, stepBy, sizeBy, stepIn, sizeFound, exactSize, answerOf}
+use Rattle.paper.specs.rules.Table as table
+use Rattle.paper.specs.rules.Table.{Record, Table, recordAt, kindIn, kindOf, tailLength}
+use Rattle.paper.specs.rules.Word.{lowFirst, wordAt}
 use Rattle.rows.proofs.RecordWords.{getD-wordsFrom}
 
 -- ── what is told of what a walk finds: 21 and 22 are no size ──

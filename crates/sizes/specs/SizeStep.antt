@@ -6,13 +6,13 @@ use lib.Dec.{leb, eqb}
 use lib.ListN.{length}
 use Rattle.sizes.specs.declared.Step.{Step}
 use Rattle.sizes.specs.declared.Step.the-variants.{Is, ManyOf, Sizeless, Lost}
-use Rattle.paper.specs.Kind.{rowOf}
-use Rattle.paper.specs.KindNo.{ARRAY}
-use Rattle.paper.specs.Size as size
-use Rattle.paper.specs.Size.{is, manyOf, sizeless, lost, stepBy}
-use Rattle.paper.specs.Table.{kindIn}
-use Rattle.paper.specs.Walk.{known}
-use Rattle.paper.specs.Word.{lowFirst, wordAt}
+use Rattle.paper.specs.rules.Kind.{rowOf}
+use Rattle.paper.specs.rules.KindNo.{ARRAY}
+use Rattle.paper.specs.rules.Size as size
+use Rattle.paper.specs.rules.Size.{is, manyOf, sizeless, lost, stepBy}
+use Rattle.paper.specs.rules.Table.{kindIn}
+use Rattle.paper.specs.rules.Walk.{known}
+use Rattle.paper.specs.rules.Word.{lowFirst, wordAt}
 
 abbrev pub stepAsPaper : Step → size.Step
 stepAsPaper (Is s) = is s

@@ -13,9 +13,9 @@ ghost use mathlib.Core.Path.{_≡_};
 ghost use Prim.Native.Nat.{_*_, _≤_};
 ghost use mathlib.Core.Bool.{not};
 ghost use Rattle.sizes.specs.SizeStep.{cut, readable, stepAsPaper, stepOf, stepWords};
-ghost use Rattle.paper.specs.Answer.{sizedAsPaper};
-ghost use Rattle.paper.specs.Size.{exactly, sizeAnswer, sizeOf, stepAt, stepBy};
-ghost use Rattle.paper.specs.Word.{lowFirst, wordAt};
+ghost use Rattle.paper.specs.rules.Answer.{sizedAsPaper};
+ghost use Rattle.paper.specs.rules.Size.{exactly, sizeAnswer, sizeOf, stepAt, stepBy};
+ghost use Rattle.paper.specs.rules.Word.{lowFirst, wordAt};
 ghost use Rattle.rows.specs.Codes.{sizeRuleOf};
 
 // What one record says of a size: it, so many times another type's, none, or that it cannot be read.

@@ -8,8 +8,8 @@ use paper::TypeNo;
 use views::View;
 use views::record_of;
 ghost use mathlib.Core.Path.{_≡_};
-ghost use Rattle.paper.specs.Answer.{sizedAsPaper};
-ghost use Rattle.paper.specs.Size.{answerOf, exactSize};
+ghost use Rattle.paper.specs.rules.Answer.{sizedAsPaper};
+ghost use Rattle.paper.specs.rules.Size.{answerOf, exactSize};
 ghost use Rattle.views.specs.Shown.{tableBy};
 
 // The exact size of a type of the table that an index shows. No more records are read than it has types.

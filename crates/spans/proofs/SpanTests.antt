@@ -9,11 +9,11 @@ use native.Mathlib.Omega.{arith}
 use borrow.Author.Tests.{eq-eqb, ne-eqb, le-leb, lt-leb, not-true, not-false}
 use lib.Dec.{eqb, leb}
 use Rattle.spans.specs.Spanned.{withOffset, spanWith}
-use Rattle.paper.specs.Choice.{member}
-use Rattle.paper.specs.KindNo.{INT, ENUM, ENUM64}
-use Rattle.paper.specs.Span.{isRegularWord, isRegular, bitOffset, spanIf, wholeSpan, plainSpan, fieldSpan, endsBy}
-use Rattle.paper.specs.Table.{Record, kindOf, bits}
-use Rattle.paper.specs.Tails.{intWord, offsetIn, widthIn}
+use Rattle.paper.specs.rules.Choice.{member}
+use Rattle.paper.specs.rules.KindNo.{INT, ENUM, ENUM64}
+use Rattle.paper.specs.rules.Span.{isRegularWord, isRegular, bitOffset, spanIf, wholeSpan, plainSpan, fieldSpan, endsBy}
+use Rattle.paper.specs.rules.Table.{Record, kindOf, bits}
+use Rattle.paper.specs.rules.Tails.{intWord, offsetIn, widthIn}
 
 -- the low bits of a word
 low-8 : (w : ℕ) → w % 256 ≡ bits 0 7 w

@@ -4,9 +4,9 @@ use mathlib.Core.Bool.{cond}
 use mathlib.Core.List.{List}
 use mathlib.Core.Option.{Option}
 use lib.Dec.{eqb}
-use Rattle.paper.specs.Span.{Member, Span, plainSpan, fieldSpan}
-use Rattle.paper.specs.Table.{Record}
-use Rattle.paper.specs.Word.{lowFirst, wordAt}
+use Rattle.paper.specs.rules.Span.{Member, Span, plainSpan, fieldSpan}
+use Rattle.paper.specs.rules.Table.{Record}
+use Rattle.paper.specs.rules.Word.{lowFirst, wordAt}
 
 -- the member whose three words stand at a place
 abbrev pub memberAt : List ℕ → ℕ → Member

@@ -9,12 +9,12 @@ ghost use mathlib.Core.Bool.{not, _||_};
 ghost use mathlib.Core.List.{[], _∷_};
 ghost use lib.Dec.{eqb};
 ghost use Rattle.spans.specs.Spanned.{spanWith, withOffset};
-ghost use Rattle.paper.specs.Choice.{member};
-ghost use Rattle.paper.specs.KindNo.{ENUM, ENUM64, INT};
-ghost use Rattle.paper.specs.Reading.{recordIn};
-ghost use Rattle.paper.specs.Span.{bitOffset, endsBy, fieldSpan, isRegular, isRegularWord, plainSpan, wholeSpan};
-ghost use Rattle.paper.specs.Table.{kindOf};
-ghost use Rattle.paper.specs.Word.{lowFirst};
+ghost use Rattle.paper.specs.rules.Choice.{member};
+ghost use Rattle.paper.specs.rules.KindNo.{ENUM, ENUM64, INT};
+ghost use Rattle.paper.specs.terms.Reading.{recordIn};
+ghost use Rattle.paper.specs.rules.Span.{bitOffset, endsBy, fieldSpan, isRegular, isRegularWord, plainSpan, wholeSpan};
+ghost use Rattle.paper.specs.rules.Table.{kindOf};
+ghost use Rattle.paper.specs.rules.Word.{lowFirst};
 
 // A width that a regular INT has.
 fn regular_width(w: u32) -> bool

@@ -11,11 +11,11 @@ use borrow.Author.Tests.{eq-eqb, ne-eqb, lt-ltb, le-ltb, ltb-true, ltb-false}
 use lib.ListN.{length, getD, drop, List·getD-eq-default, drop-of-length-le}
 use lib.Seq.{drop-length, ext-getD}
 use Rattle.paper.proofs.walks.Insides.{recordAt-outside}
-use Rattle.paper.specs.Header.{headerLength, orderOf, typeLen, stringsIn}
-use Rattle.paper.specs.Kind.{rows, rowOf}
-use Rattle.paper.specs.Reading.{recordIn}
-use Rattle.paper.specs.Table.{Table, count, nothing, recordAt, tailLength}
-use Rattle.paper.specs.Word.{lowFirst, wordAt}
+use Rattle.paper.specs.rules.Header.{headerLength, orderOf, typeLen, stringsIn}
+use Rattle.paper.specs.rules.Kind.{rows, rowOf}
+use Rattle.paper.specs.terms.Reading.{recordIn}
+use Rattle.paper.specs.rules.Table.{Table, count, nothing, recordAt, tailLength}
+use Rattle.paper.specs.rules.Word.{lowFirst, wordAt}
 use Rattle.views.specs.Shown.{outside, placeBy, within, recordBy, recordsBy, tableBy, startBy, Starts, stringsStart, ShownAs, StringsAs}
 use Rattle.views.specs.declared.View.{View}
 

@@ -8,10 +8,10 @@ use mathlib.Core.List.{List, [], _∷_}
 use denote.Ref.{RefT, now, ptr}
 use lib.Dec.{eqb, ltb}
 use lib.ListN.{length, getD, drop}
-use Rattle.paper.specs.Header.{headerLength, typeLen, stringsIn}
-use Rattle.paper.specs.Reading.{recordIn}
-use Rattle.paper.specs.Table.{Record, Table, recordAt}
-use Rattle.paper.specs.Word.{lowFirst}
+use Rattle.paper.specs.rules.Header.{headerLength, typeLen, stringsIn}
+use Rattle.paper.specs.terms.Reading.{recordIn}
+use Rattle.paper.specs.rules.Table.{Record, Table, recordAt}
+use Rattle.paper.specs.rules.Word.{lowFirst}
 use Rattle.views.specs.declared.View.{View}
 
 -- void, and a number above n

@@ -4,7 +4,7 @@ use paper::Place;
 use paper::TypeNo;
 use rows::kind_of;
 ghost use mathlib.Core.Path.{_≡_};
-ghost use Rattle.paper.specs.Table.{kindAt};
+ghost use Rattle.paper.specs.rules.Table.{kindAt};
 ghost use Rattle.views.specs.Shown.{ShownAs, Starts, StringsAs, placeBy, tableBy};
 
 // How a blob is looked at: how many types its index shows.

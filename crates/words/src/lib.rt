@@ -5,8 +5,8 @@ use paper::Place;
 use paper::TypeNo;
 ghost use mathlib.Core.Path.{_≡_};
 ghost use Prim.Native.Nat.{_%_};
-ghost use Rattle.paper.specs.Rename.{raise};
-ghost use Rattle.paper.specs.Word.{lowFirst, wordOf, wordAt, putWord};
+ghost use Rattle.paper.specs.rules.Rename.{raise};
+ghost use Rattle.paper.specs.rules.Word.{lowFirst, wordOf, wordAt, putWord};
 ghost use Rattle.words.specs.Rest.{RestOf};
 
 // The word of four bytes.

@@ -3,7 +3,7 @@
 use mathlib.Core.Path.{ap, _∙_}
 use denote.Ref.{now}
 use Rattle.abi.specs.Told.{toldIn}
-use Rattle.paper.specs.Answer.{Answer}
+use Rattle.paper.specs.rules.Answer.{Answer}
 use borrow.Author.Needs.{needs}
 use Rattle.abi.proofs.scrieve_name.Statement.{statement}
 use Rattle.abi.proofs.scrieve_name.Tie as tie

@@ -1,7 +1,7 @@
 -- `answers::of_checked` meets its contract: the count, or the report.
 -- Assumes nothing.
 use mathlib.Core.Path.{sym, ap, _∙_}
-use Rattle.paper.specs.Answer.{checkedAsPaper}
+use Rattle.paper.specs.rules.Answer.{checkedAsPaper}
 use borrow.Author.Needs.{needs}
 use Rattle.answers.proofs.of_checked.Statement.{statement}
 use Rattle.answers.proofs.of_checked.Tie as tie

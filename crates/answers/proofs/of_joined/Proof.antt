@@ -1,7 +1,7 @@
 -- `answers::of_joined` meets its contract: each answer is its number, with the length or the report inside.
 -- Assumes nothing.
 use mathlib.Core.Path.{sym, ap, _∙_}
-use Rattle.paper.specs.Answer.{inside, joinedAsPaper}
+use Rattle.paper.specs.rules.Answer.{inside, joinedAsPaper}
 use borrow.Author.Needs.{needs}
 use Rattle.answers.proofs.of_joined.Statement.{statement}
 use Rattle.answers.proofs.of_joined.Tie as tie

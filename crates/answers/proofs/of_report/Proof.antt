@@ -1,7 +1,7 @@
 -- `answers::of_report` meets its contract: each report is its number, at the type that it names and that type's place.
 -- Assumes nothing.
 use mathlib.Core.Path.{sym, ap, _∙_}
-use Rattle.paper.specs.Answer.{reportAsPaper}
+use Rattle.paper.specs.rules.Answer.{reportAsPaper}
 use borrow.Author.Needs.{needs}
 use Rattle.answers.proofs.of_report.Statement.{statement}
 use Rattle.answers.proofs.of_report.Tie as tie

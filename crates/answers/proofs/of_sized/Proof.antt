@@ -1,7 +1,7 @@
 -- `answers::of_sized` meets its contract: each answer is its number, with the size.
 -- Assumes nothing.
 use mathlib.Core.Path.{sym, ap, _∙_}
-use Rattle.paper.specs.Answer.{sizedAsPaper}
+use Rattle.paper.specs.rules.Answer.{sizedAsPaper}
 use borrow.Author.Needs.{needs}
 use Rattle.answers.proofs.of_sized.Statement.{statement}
 use Rattle.answers.proofs.of_sized.Tie as tie

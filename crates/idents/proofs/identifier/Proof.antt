@@ -3,7 +3,7 @@
 use mathlib.Core.Path.{refl}
 use native.Mathlib.Omega.{arith}
 use denote.Ref.{now}
-use Rattle.paper.specs.Name.{isDigit, isLetter}
+use Rattle.paper.specs.rules.Name.{isDigit, isLetter}
 use Rattle.idents.specs.Spelling.{among}
 use Rattle.idents.proofs.NameTests.{identifier-outside, identifier-bad, identifier-run}
 use Rattle.idents.proofs.Sets.{runLength-word}

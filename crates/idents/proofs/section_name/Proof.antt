@@ -3,8 +3,8 @@
 use mathlib.Core.Path.{_≡_, refl, sym, ap, _∙_}
 use denote.Ref.{now}
 use native.Mathlib.Omega.{arith}
-use Rattle.paper.specs.Choice.{isSome}
-use Rattle.paper.specs.Name.{nameIn, isSectionName}
+use Rattle.paper.specs.rules.Choice.{isSome}
+use Rattle.paper.specs.rules.Name.{nameIn, isSectionName}
 use Rattle.idents.specs.declared.Spelt.{Spelt}
 use Rattle.idents.specs.Spelling.{among, speltAsPaper}
 use Rattle.idents.proofs.NameTests.{section-outside, section-bad, section-run}

@@ -5,7 +5,7 @@ use mathlib.Core.Path.{_≡_, refl, sym, ap, _∙_}
 use mathlib.Core.List.{[], _∷_}
 use native.Mathlib.Omega.{arith}
 use lib.ListN.{getD}
-use Rattle.paper.specs.Answer.{Answer, reportAsPaper, checkedAsPaper, sizedAsPaper, joinedAsPaper}
+use Rattle.paper.specs.rules.Answer.{Answer, reportAsPaper, checkedAsPaper, sizedAsPaper, joinedAsPaper}
 use Rattle.paper.specs.declared.Report.{Report}
 use Rattle.paper.specs.declared.Report.the-variants.{Length, Opening, HeaderLength, Sections, Strings, RecordCut, UnknownKind, ManyTypes, SlicesShort, Head, Named, Tail, Reference, Endless, Layout}
 use Rattle.paper.specs.declared.Checked.{Checked}

@@ -10,8 +10,8 @@ use native.Mathlib.Omega.{arith}
 use borrow.Author.Tests.{eqb-true, eq-eqb, not-false}
 use lib.Dec.{eqb}
 use lib.ListN.{getD}
-use Rattle.paper.specs.Choice.{differ, same, member, every, any, isEmpty, times, Rule, _when_, firstDue}
-use Rattle.paper.specs.Smallest.{NoneDue, DueFirst}
+use Rattle.paper.specs.rules.Choice.{differ, same, member, every, any, isEmpty, times, Rule, _when_, firstDue}
+use Rattle.paper.specs.terms.Smallest.{NoneDue, DueFirst}
 
 -- ── both of two tests ──
 

@@ -6,11 +6,11 @@ use mathlib.Core.Bool.{Bool, true, false, _&&_, false≢true}
 use mathlib.Core.List.{_++_}
 use lib.ListN.{getD}
 use Rattle.paper.proofs.basics.Choices.{every-getD, and-left, member-every}
-use Rattle.paper.specs.Chain.{links, isLink}
-use Rattle.paper.specs.Choice.{every, times}
-use Rattle.paper.specs.Heads.{allowed}
-use Rattle.paper.specs.Kind.{Row, RefRule, Role, names, refers, holds, number, Values, free, oneOf, SizeRule, eight, sizeWord, countTimes, referent, noSize, rows, rowOf}
-use Rattle.paper.specs.Rename.{renameWord}
+use Rattle.paper.specs.rules.Chain.{links, isLink}
+use Rattle.paper.specs.rules.Choice.{every, times}
+use Rattle.paper.specs.rules.Heads.{allowed}
+use Rattle.paper.specs.rules.Kind.{Row, RefRule, Role, names, refers, holds, number, Values, free, oneOf, SizeRule, eight, sizeWord, countTimes, referent, noSize, rows, rowOf}
+use Rattle.paper.specs.rules.Rename.{renameWord}
 
 -- the first row is that of a kind that is not known, so the test need not be asked of it again
 pub rowOf-every : (f : Row → Bool) → every f rows ≡ true → (k : ℕ) → f (rowOf k) ≡ true

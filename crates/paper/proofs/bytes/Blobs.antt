@@ -7,13 +7,13 @@ use mathlib.Core.Option.{none}
 use native.Mathlib.Omega.{arith}
 use lib.ListN.{length, take, drop, length-drop, take-append-drop}
 use lib.Seq.{length-take-le, drop-drop}
-use Rattle.paper.specs.Fit.{Below, Bytes, wordBound, Fits}
-use Rattle.paper.specs.Good.{HeaderFacts, WholeWalk}
-use Rattle.paper.specs.Header.{headerLength, opening, orderOf, typeOff, typeLen, strOff, strLen, stringsIn, headerReport}
-use Rattle.paper.specs.Limits.{typeLimit}
-use Rattle.paper.specs.Table.{Record, Table}
-use Rattle.paper.specs.Walk.{records, recordsIn, typeWords, walk, tableOf, flat, typeLenOf, bytesOf}
-use Rattle.paper.specs.Word.{Order, wordOf, wordBytes, firstWord, wordAt, bytesOfWords}
+use Rattle.paper.specs.terms.Fit.{Below, Bytes, wordBound, Fits}
+use Rattle.paper.specs.terms.Good.{HeaderFacts, WholeWalk}
+use Rattle.paper.specs.rules.Header.{headerLength, opening, orderOf, typeOff, typeLen, strOff, strLen, stringsIn, headerReport}
+use Rattle.paper.specs.rules.Limits.{typeLimit}
+use Rattle.paper.specs.rules.Table.{Record, Table}
+use Rattle.paper.specs.rules.Walk.{records, recordsIn, typeWords, walk, tableOf, flat, typeLenOf, bytesOf}
+use Rattle.paper.specs.rules.Word.{Order, wordOf, wordBytes, firstWord, wordAt, bytesOfWords}
 use Rattle.paper.proofs.bytes.Words.{wordBytes-wordOf}
 use Rattle.paper.proofs.bytes.Bytes.{below-take, below-drop, words-fit, length-words, bytesOfWords-words}
 use Rattle.paper.proofs.bytes.Headers.{headerReport-facts}

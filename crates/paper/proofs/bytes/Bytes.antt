@@ -8,8 +8,8 @@ use lib.ListN.{length, getD, take, drop, length-drop}
 use lib.Seq.{take-all}
 use mir.Syntax.{w8}
 use mir.Val.{Fits}
-use Rattle.paper.specs.Fit.{Below, Bytes, wordBound}
-use Rattle.paper.specs.Word.{Order, wordOf, wordBytes, words, bytesOfWords}
+use Rattle.paper.specs.terms.Fit.{Below, Bytes, wordBound}
+use Rattle.paper.specs.rules.Word.{Order, wordOf, wordBytes, words, bytesOfWords}
 use Rattle.paper.proofs.bytes.Words.{firstWord-wordBytes, wordBytes-wordOf, wordOf-bound}
 
 -- ── bounded lists ──

@@ -9,9 +9,9 @@ use native.Mathlib.Omega.{arith}
 use borrow.Author.Tests.{ltb-false, eqb-false, not-false, le-ltb, ne-eqb}
 use lib.ListN.{length, getD, take}
 use Rattle.paper.proofs.basics.Choices.{or-false, false-or, differ-false, differ-equal, same-true, same-refl, firstDue-none, none-firstDue}
-use Rattle.paper.specs.Choice.{same}
-use Rattle.paper.specs.Good.{HeaderFacts}
-use Rattle.paper.specs.Header.{opening, orderOf, strLen, lengthBad, openingBad, headerLengthBad, sectionsBad, stringsBad, headerRules, headerReport}
+use Rattle.paper.specs.rules.Choice.{same}
+use Rattle.paper.specs.terms.Good.{HeaderFacts}
+use Rattle.paper.specs.rules.Header.{opening, orderOf, strLen, lengthBad, openingBad, headerLengthBad, sectionsBad, stringsBad, headerRules, headerReport}
 
 -- phase 1 in silence says all of the facts
 pub headerReport-facts : (b : List ℕ) → headerReport b ≡ none → HeaderFacts b

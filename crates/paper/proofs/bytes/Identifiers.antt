@@ -10,8 +10,8 @@ use borrow.Author.Tests.{leb-true}
 use lib.Dec.{leb}
 use lib.ListN.{length}
 use Rattle.paper.proofs.basics.Choices.{cond-some}
-use Rattle.paper.specs.Choice.{every, times}
-use Rattle.paper.specs.Name.{isLetter, identifierLength}
+use Rattle.paper.specs.rules.Choice.{every, times}
+use Rattle.paper.specs.rules.Name.{isLetter, identifierLength}
 
 -- 127 letters are one, 128 are none
 pub identifierLength-longest : (identifierLength (times 127 (97 ∷ [])) ≡ some 127) × (identifierLength (times 128 (97 ∷ [])) ≡ none)

@@ -7,11 +7,11 @@ use mathlib.Core.Option.{none}
 use native.Mathlib.Omega.{arith}
 use lib.ListN.{length, getD, take, drop, length-append}
 use lib.Seq.{drop-at, drop-drop, split-at}
-use Rattle.paper.specs.Fit.{Below, Bytes, wordBound, Fits}
-use Rattle.paper.specs.Header.{headerLength, orderOf, headerReport}
-use Rattle.paper.specs.Table.{Record, Table, count, nothing, wordsOf}
-use Rattle.paper.specs.Walk.{records, walk, tableOf, flat, typeLenOf, bytesOf, placesFrom, placesOf}
-use Rattle.paper.specs.Word.{Order, firstWord, wordAt, bytesOfWords}
+use Rattle.paper.specs.terms.Fit.{Below, Bytes, wordBound, Fits}
+use Rattle.paper.specs.rules.Header.{headerLength, orderOf, headerReport}
+use Rattle.paper.specs.rules.Table.{Record, Table, count, nothing, wordsOf}
+use Rattle.paper.specs.rules.Walk.{records, walk, tableOf, flat, typeLenOf, bytesOf, placesFrom, placesOf}
+use Rattle.paper.specs.rules.Word.{Order, firstWord, wordAt, bytesOfWords}
 use Rattle.paper.proofs.bytes.Words.{firstWord-wordBytes}
 use Rattle.paper.proofs.bytes.Bytes.{below-left, below-right, length-bytesOfWords, bytesOfWords-append}
 use Rattle.paper.proofs.bytes.Tables.{bytesOf-parts, length-bytesOf}

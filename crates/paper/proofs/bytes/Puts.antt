@@ -6,7 +6,7 @@ use mathlib.Core.List.{List, [], _++_, append-assoc}
 use native.Mathlib.Omega.{arith}
 use lib.ListN.{length, getD, take, drop, set, length-append, length-drop, length-set}
 use lib.Seq.{length-take-le, take-at, drop-at, drop-drop, take-length, paste, paste-zero, paste-suc, sets, sets-eq}
-use Rattle.paper.specs.Put.{put}
+use Rattle.paper.specs.terms.Put.{put}
 
 -- nothing put changes nothing
 pub put-none : (out : List ℕ) (p : ℕ) → out ≡ put out p []

@@ -8,14 +8,14 @@ use mathlib.Core.Option.{none}
 use native.Mathlib.Omega.{arith}
 use lib.ListN.{length, getD, drop, length-append}
 use lib.Seq.{drop-drop}
-use Rattle.paper.specs.Choice.{times}
-use Rattle.paper.specs.Fit.{Bytes}
-use Rattle.paper.specs.Header.{orderOf, headerReport}
-use Rattle.paper.specs.Kind.{Role, names, number, rowOf}
-use Rattle.paper.specs.Reading.{wordsFrom, recordIn, roled, tailRoled}
-use Rattle.paper.specs.Table.{Record, count, nothing, kindIn, vlenIn, tailLength, tailRoles, wordsOf, everyRoled, everyWord}
-use Rattle.paper.specs.Walk.{records, walk, tableOf, placesOf}
-use Rattle.paper.specs.Word.{Order, wordAt}
+use Rattle.paper.specs.rules.Choice.{times}
+use Rattle.paper.specs.terms.Fit.{Bytes}
+use Rattle.paper.specs.rules.Header.{orderOf, headerReport}
+use Rattle.paper.specs.rules.Kind.{Role, names, number, rowOf}
+use Rattle.paper.specs.terms.Reading.{wordsFrom, recordIn, roled, tailRoled}
+use Rattle.paper.specs.rules.Table.{Record, count, nothing, kindIn, vlenIn, tailLength, tailRoles, wordsOf, everyRoled, everyWord}
+use Rattle.paper.specs.rules.Walk.{records, walk, tableOf, placesOf}
+use Rattle.paper.specs.rules.Word.{Order, wordAt}
 use Rattle.paper.proofs.bytes.Blobs.{tableOf-fits}
 use Rattle.paper.proofs.bytes.Places.{blob-place-word}
 use Rattle.paper.proofs.bytes.Sections.{whole-at}

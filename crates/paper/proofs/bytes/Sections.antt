@@ -9,10 +9,10 @@ use borrow.Author.Tests.{leb-true, le-leb}
 use lib.Dec.{leb}
 use lib.ListN.{length, getD, take, drop, length-append, take-append-drop}
 use lib.Seq.{take-at, drop-at, length-take-le}
-use Rattle.paper.specs.Fit.{Whole, EveryWhole}
-use Rattle.paper.specs.Good.{WholeWalk}
-use Rattle.paper.specs.Table.{Record, nothing, kindIn, tailLength}
-use Rattle.paper.specs.Walk.{Walked, records, stopped, ahead, known, walkRecord, walkFrom, flat}
+use Rattle.paper.specs.terms.Fit.{Whole, EveryWhole}
+use Rattle.paper.specs.terms.Good.{WholeWalk}
+use Rattle.paper.specs.rules.Table.{Record, nothing, kindIn, tailLength}
+use Rattle.paper.specs.rules.Walk.{Walked, records, stopped, ahead, known, walkRecord, walkFrom, flat}
 
 -- each of whole records is whole
 pub whole-at : (rs : List Record) → EveryWhole rs → (i : ℕ) → i < length rs → Whole (getD rs i nothing)

@@ -7,13 +7,13 @@ use mathlib.Core.Option.{none}
 use native.Mathlib.Omega.{arith}
 use lib.ListN.{length, getD, take, drop, length-append}
 use lib.Seq.{take-at, drop-at}
-use Rattle.paper.specs.Fit.{Bytes, Fits}
-use Rattle.paper.specs.Good.{HeaderFacts, Closed}
-use Rattle.paper.specs.Header.{headerLength, opening, orderOf, typeOff, typeLen, strOff, strLen, stringsIn, headerReport}
-use Rattle.paper.specs.Limits.{byteLimit, typeLimit}
-use Rattle.paper.specs.Table.{Table}
-use Rattle.paper.specs.Walk.{records, recordsIn, walkFrom, typeWords, walk, tableOf, flat, typeLenOf, blobLength, bytesOf}
-use Rattle.paper.specs.Word.{Order, lowFirst, words, bytesOfWords, wordAt}
+use Rattle.paper.specs.terms.Fit.{Bytes, Fits}
+use Rattle.paper.specs.terms.Good.{HeaderFacts, Closed}
+use Rattle.paper.specs.rules.Header.{headerLength, opening, orderOf, typeOff, typeLen, strOff, strLen, stringsIn, headerReport}
+use Rattle.paper.specs.rules.Limits.{byteLimit, typeLimit}
+use Rattle.paper.specs.rules.Table.{Table}
+use Rattle.paper.specs.rules.Walk.{records, recordsIn, walkFrom, typeWords, walk, tableOf, flat, typeLenOf, blobLength, bytesOf}
+use Rattle.paper.specs.rules.Word.{Order, lowFirst, words, bytesOfWords, wordAt}
 use Rattle.paper.proofs.bytes.Words.{firstWord-wordBytes}
 use Rattle.paper.proofs.bytes.Bytes.{below-append, length-bytesOfWords, bytes-bytesOfWords, words-bytesOfWords}
 use Rattle.paper.proofs.bytes.Headers.{facts-headerReport}

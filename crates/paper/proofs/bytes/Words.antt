@@ -10,7 +10,7 @@ use native.Mathlib.Omega.{arith}
 use borrow.Author.Tests.{le-leb, lt-leb}
 use lib.ListN.{length, getD, take, drop, set, length-drop}
 use lib.Seq.{drop-cons, drop-at, length-take-le, sets, sets-eq}
-use Rattle.paper.specs.Word.{Order, lowFirst, wordOf, wordBytes, firstWord, wordAt, putWord}
+use Rattle.paper.specs.rules.Word.{Order, lowFirst, wordOf, wordBytes, firstWord, wordAt, putWord}
 
 -- ── words and bytes ──
 

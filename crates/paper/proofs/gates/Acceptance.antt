@@ -14,14 +14,14 @@ use Rattle.paper.proofs.gates.Gates.{orElse-none, none-orElse, naming-n
 use Rattle.paper.proofs.bytes.Headers.{headerReport-facts, facts-headerReport}
 use Rattle.paper.proofs.bytes.Sections.{walkFrom-flat}
 use Rattle.paper.proofs.bytes.Tables.{length-bytesOf, walk-bytesOf, tableOf-bytesOf, bytesOf-facts}
-use Rattle.paper.specs.Fit.{Bytes, Fits}
-use Rattle.paper.specs.Gate.{naming, phase1, walkReport, phase2, sliceRules, shortSlices, refusal}
-use Rattle.paper.specs.Good.{Readable, Closed, Sound, Meets, Good}
-use Rattle.paper.specs.Header.{headerLength, orderOf, stringsIn, headerReport}
-use Rattle.paper.specs.Limits.{byteLimit, typeLimit}
-use Rattle.paper.specs.Table.{Table, count}
-use Rattle.paper.specs.Walk.{Walked, records, stopped, recordsIn, walkFrom, walk, tableOf, blobLength, bytesOf}
-use Rattle.paper.specs.Word.{Order}
+use Rattle.paper.specs.terms.Fit.{Bytes, Fits}
+use Rattle.paper.specs.rules.Gate.{naming, phase1, walkReport, phase2, sliceRules, shortSlices, refusal}
+use Rattle.paper.specs.terms.Good.{Readable, Closed, Sound, Meets, Good}
+use Rattle.paper.specs.rules.Header.{headerLength, orderOf, stringsIn, headerReport}
+use Rattle.paper.specs.rules.Limits.{byteLimit, typeLimit}
+use Rattle.paper.specs.rules.Table.{Table, count}
+use Rattle.paper.specs.rules.Walk.{Walked, records, stopped, recordsIn, walkFrom, walk, tableOf, blobLength, bytesOf}
+use Rattle.paper.specs.rules.Word.{Order}
 
 -- ── phases 1 and 2, and places enough ──
 

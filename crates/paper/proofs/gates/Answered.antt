@@ -11,13 +11,13 @@ use lib.Dec.{leb}
 use lib.ListN.{length}
 use Rattle.paper.proofs.basics.Answers.{report-number}
 use Rattle.paper.proofs.gates.Numbers.{Says, refusal-number, joinRefusal-number}
-use Rattle.paper.specs.Answer.{Answer, report, accepted, value, reportAsPaper, checkedAsPaper, joinedAsPaper}
-use Rattle.paper.specs.Gate.{refusal, outcome, gate}
-use Rattle.paper.specs.Join.{joinedBytes, joinRefusal, joinOutcome, join}
-use Rattle.paper.specs.Limits.{sizeLimit}
-use Rattle.paper.specs.Size.{Found, exactly, noneAt, lostAt, tooFar, answerOf, sizeAnswer}
-use Rattle.paper.specs.Table.{Table, count}
-use Rattle.paper.specs.Walk.{tableOf}
+use Rattle.paper.specs.rules.Answer.{Answer, report, accepted, value, reportAsPaper, checkedAsPaper, joinedAsPaper}
+use Rattle.paper.specs.rules.Gate.{refusal, outcome, gate}
+use Rattle.paper.specs.rules.Join.{joinedBytes, joinRefusal, joinOutcome, join}
+use Rattle.paper.specs.rules.Limits.{sizeLimit}
+use Rattle.paper.specs.rules.Size.{Found, exactly, noneAt, lostAt, tooFar, answerOf, sizeAnswer}
+use Rattle.paper.specs.rules.Table.{Table, count}
+use Rattle.paper.specs.rules.Walk.{tableOf}
 use Rattle.paper.specs.declared.Report.{Report}
 use Rattle.paper.specs.declared.Checked.the-variants.{Accepted, Refused}
 use Rattle.paper.specs.declared.Joined.{Joined}

@@ -15,15 +15,15 @@ use Rattle.paper.proofs.bytes.Headers.{headerReport-facts}
 use Rattle.paper.proofs.gates.Acceptance.{walk-records}
 use Rattle.paper.proofs.gates.Gates.{orElse-some, naming-none}
 use Rattle.paper.proofs.gates.Wheres.{naming-bare, said-number, says-tableReport, phase2-stops}
-use Rattle.paper.specs.Answer.{Answer}
-use Rattle.paper.specs.Choice.{firstDue}
-use Rattle.paper.specs.Early.{SpokenEarly, first, second, ninth}
-use Rattle.paper.specs.Gate.{phase1, phase2, sliceRules, shortSlices, tableReport, refusal}
-use Rattle.paper.specs.Good.{HeaderFacts}
-use Rattle.paper.specs.Header.{headerRules, headerReport}
-use Rattle.paper.specs.Smallest.{DueFirst}
-use Rattle.paper.specs.Table.{count}
-use Rattle.paper.specs.Walk.{tableOf}
+use Rattle.paper.specs.rules.Answer.{Answer}
+use Rattle.paper.specs.rules.Choice.{firstDue}
+use Rattle.paper.specs.terms.Early.{SpokenEarly, first, second, ninth}
+use Rattle.paper.specs.rules.Gate.{phase1, phase2, sliceRules, shortSlices, tableReport, refusal}
+use Rattle.paper.specs.terms.Good.{HeaderFacts}
+use Rattle.paper.specs.rules.Header.{headerRules, headerReport}
+use Rattle.paper.specs.terms.Smallest.{DueFirst}
+use Rattle.paper.specs.rules.Table.{count}
+use Rattle.paper.specs.rules.Walk.{tableOf}
 
 -- one of two slices is short
 either-short : (x y : Bool) → (x || y) ≡ true → (x ≡ true) ⊎ (y ≡ true)

@@ -10,19 +10,19 @@ use native.Mathlib.Omega.{arith}
 use borrow.Author.Tests.{eqb-true, eqb-false, not-false}
 use lib.Dec.{eqb}
 use Rattle.paper.proofs.basics.Choices.{firstDue-none, none-firstDue, firstDue-some}
-use Rattle.paper.specs.Answer.{Answer, reportAt}
-use Rattle.paper.specs.Choice.{Rule, firstDue, orElse}
-use Rattle.paper.specs.Gate.{namingAt, naming, firstOf, overTypes, phase3, phase4, phase5, phase6, tableReport}
-use Rattle.paper.specs.Good.{Sound}
-use Rattle.paper.specs.Heads.{headBad}
-use Rattle.paper.specs.Join.{refusedInside}
-use Rattle.paper.specs.Layout.{layoutBad}
-use Rattle.paper.specs.Names.{nameBad}
-use Rattle.paper.specs.References.{refBad}
-use Rattle.paper.specs.Smallest.{Silent, Smallest}
-use Rattle.paper.specs.Table.{Table, count}
-use Rattle.paper.specs.Tails.{tailBad}
-use Rattle.paper.specs.Walk.{placeAt}
+use Rattle.paper.specs.rules.Answer.{Answer, reportAt}
+use Rattle.paper.specs.rules.Choice.{Rule, firstDue, orElse}
+use Rattle.paper.specs.rules.Gate.{namingAt, naming, firstOf, overTypes, phase3, phase4, phase5, phase6, tableReport}
+use Rattle.paper.specs.terms.Good.{Sound}
+use Rattle.paper.specs.rules.Heads.{headBad}
+use Rattle.paper.specs.rules.Join.{refusedInside}
+use Rattle.paper.specs.rules.Layout.{layoutBad}
+use Rattle.paper.specs.rules.Names.{nameBad}
+use Rattle.paper.specs.rules.References.{refBad}
+use Rattle.paper.specs.terms.Smallest.{Silent, Smallest}
+use Rattle.paper.specs.rules.Table.{Table, count}
+use Rattle.paper.specs.rules.Tails.{tailBad}
+use Rattle.paper.specs.rules.Walk.{placeAt}
 
 -- ── answers that may be missing ──
 

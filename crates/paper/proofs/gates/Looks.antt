@@ -5,9 +5,9 @@ use mathlib.Core.Path.{_≡_, sym, ap, ap₂, _∙_}
 use mathlib.Core.List.{List}
 use mathlib.Core.Option.{Option, none, some}
 use native.Mathlib.Omega.{arith}
-use Rattle.paper.specs.Answer.{Answer}
-use Rattle.paper.specs.Choice.{Rule, firstDue, orElse}
-use Rattle.paper.specs.Gate.{namingAt, firstOf}
+use Rattle.paper.specs.rules.Answer.{Answer}
+use Rattle.paper.specs.rules.Choice.{Rule, firstDue, orElse}
+use Rattle.paper.specs.rules.Gate.{namingAt, firstOf}
 
 pub record Looking (place : ℕ → ℕ) (rules : ℕ → List Rule) (n t : ℕ) : Type 0 where
   pub inside : t ≤ n

@@ -7,14 +7,14 @@ use mathlib.Core.Option.{Option, none, some}
 use native.Mathlib.Omega.{arith}
 use lib.Dec.{leb}
 use lib.ListN.{length, take, drop}
-use Rattle.paper.specs.Answer.{Answer}
-use Rattle.paper.specs.Choice.{Rule, _when_, firstDue, orElse}
-use Rattle.paper.specs.Gate.{namingAt, naming, phase1, walkReport, phase2, sliceRules, shortSlices, firstOf, phase3, phase4, phase5, phase6, overTypes, tableReport, refusal}
-use Rattle.paper.specs.Header.{headerLength, headerRules, headerReport}
-use Rattle.paper.specs.Join.{refusedInside, limitRules, limitReport, joinRefusal}
-use Rattle.paper.specs.Limits.{typeLimit}
-use Rattle.paper.specs.Table.{Record, Table, count, kindIn, tailLength}
-use Rattle.paper.specs.Walk.{Walked, records, stopped, ahead, known, walkRecord, walkFrom, typeWords, walk, tableOf, placeAt}
+use Rattle.paper.specs.rules.Answer.{Answer}
+use Rattle.paper.specs.rules.Choice.{Rule, _when_, firstDue, orElse}
+use Rattle.paper.specs.rules.Gate.{namingAt, naming, phase1, walkReport, phase2, sliceRules, shortSlices, firstOf, phase3, phase4, phase5, phase6, overTypes, tableReport, refusal}
+use Rattle.paper.specs.rules.Header.{headerLength, headerRules, headerReport}
+use Rattle.paper.specs.rules.Join.{refusedInside, limitRules, limitReport, joinRefusal}
+use Rattle.paper.specs.rules.Limits.{typeLimit}
+use Rattle.paper.specs.rules.Table.{Record, Table, count, kindIn, tailLength}
+use Rattle.paper.specs.rules.Walk.{Walked, records, stopped, ahead, known, walkRecord, walkFrom, typeWords, walk, tableOf, placeAt}
 
 module _ (P : ℕ → Type 0) where
   -- the number of an answer, where there is one, has the property

@@ -11,15 +11,15 @@ use Rattle.paper.proofs.gates.Acceptance.{silent-readable}
 use Rattle.paper.proofs.gates.Gates.{orElse-some, overTypes-silent, overTypes-some}
 use Rattle.paper.proofs.walks.Insides.{chain-at}
 use Rattle.paper.proofs.gates.Numbers.{Says, Numbers, says-phase1, says-phase2, says-shortSlices}
-use Rattle.paper.specs.Answer.{Answer}
-use Rattle.paper.specs.Chain.{heldBy, pointedBy, Chain}
-use Rattle.paper.specs.Choice.{Rule, _when_, orElse}
-use Rattle.paper.specs.Gate.{phase1, phase2, shortSlices, phase3, phase4, phase5, phase6, overTypes, tableReport, refusal}
-use Rattle.paper.specs.Good.{Readable}
-use Rattle.paper.specs.References.{refsOk, refBad}
-use Rattle.paper.specs.Smallest.{DueFirst, Spoken, third, fourth, fifth, sixth}
-use Rattle.paper.specs.Table.{Table, count, recordAt}
-use Rattle.paper.specs.Walk.{tableOf}
+use Rattle.paper.specs.rules.Answer.{Answer}
+use Rattle.paper.specs.rules.Chain.{heldBy, pointedBy, Chain}
+use Rattle.paper.specs.rules.Choice.{Rule, _when_, orElse}
+use Rattle.paper.specs.rules.Gate.{phase1, phase2, shortSlices, phase3, phase4, phase5, phase6, overTypes, tableReport, refusal}
+use Rattle.paper.specs.terms.Good.{Readable}
+use Rattle.paper.specs.rules.References.{refsOk, refBad}
+use Rattle.paper.specs.terms.Smallest.{DueFirst, Spoken, third, fourth, fifth, sixth}
+use Rattle.paper.specs.rules.Table.{Table, count, recordAt}
+use Rattle.paper.specs.rules.Walk.{tableOf}
 
 -- ── "The earliest phase speaks", "the smallest type, then the smallest number" ──
 

@@ -14,16 +14,16 @@ use Rattle.paper.proofs.bytes.Sections.{whole-at}
 use Rattle.paper.proofs.basics.Rows.{rowOf-every}
 use Rattle.paper.proofs.bytes.Tables.{order-bytesOf}
 use Rattle.paper.proofs.walks.Sizes.{next, sizeBy-enough, next-inside, never-far}
-use Rattle.paper.specs.Chain.{endless}
-use Rattle.paper.specs.Fit.{Fits}
-use Rattle.paper.specs.Header.{headerLength, orderOf}
-use Rattle.paper.specs.Kind.{Row, SizeRule, eight, sizeWord, countTimes, referent, noSize, rows, rowOf}
-use Rattle.paper.specs.KindNo.{ARRAY}
-use Rattle.paper.specs.References.{refsOk}
-use Rattle.paper.specs.Size.{Step, is, manyOf, sizeless, lost, Found, exactly, noneAt, lostAt, tooFar, stepBy, scale, goOn, sizeBy, stepIn, sizeFound, exactSize, answerOf, stepAtPlace, stepAt, sizeAsked, sizeAnswer, sizeOf}
-use Rattle.paper.specs.Table.{Record, Table, count, recordAt, kindIn, kindOf, tailLength, wordsOf}
-use Rattle.paper.specs.Walk.{known, bytesOf, placesOf}
-use Rattle.paper.specs.Word.{Order, wordAt}
+use Rattle.paper.specs.rules.Chain.{endless}
+use Rattle.paper.specs.terms.Fit.{Fits}
+use Rattle.paper.specs.rules.Header.{headerLength, orderOf}
+use Rattle.paper.specs.rules.Kind.{Row, SizeRule, eight, sizeWord, countTimes, referent, noSize, rows, rowOf}
+use Rattle.paper.specs.rules.KindNo.{ARRAY}
+use Rattle.paper.specs.rules.References.{refsOk}
+use Rattle.paper.specs.rules.Size.{Step, is, manyOf, sizeless, lost, Found, exactly, noneAt, lostAt, tooFar, stepBy, scale, goOn, sizeBy, stepIn, sizeFound, exactSize, answerOf, stepAtPlace, stepAt, sizeAsked, sizeAnswer, sizeOf}
+use Rattle.paper.specs.rules.Table.{Record, Table, count, recordAt, kindIn, kindOf, tailLength, wordsOf}
+use Rattle.paper.specs.rules.Walk.{known, bytesOf, placesOf}
+use Rattle.paper.specs.rules.Word.{Order, wordAt}
 
 -- ── the same steps, the same size ──
 

@@ -19,19 +19,19 @@ use Rattle.paper.proofs.bytes.Sections.{recordFrom}
 use Rattle.paper.proofs.gates.Gates.{some≢none, orElse-some, naming-none}
 use Rattle.paper.proofs.gates.Numbers.{Says, says-orElse, says-phase1, says-phase2, says-shortSlices, says-phase3, says-phase4, says-phase5, says-phase6}
 use Rattle.paper.proofs.gates.Reports.{refusal-spoken}
-use Rattle.paper.specs.Answer.{Answer}
-use Rattle.paper.specs.Choice.{firstDue}
-use Rattle.paper.specs.Early.{Fault, many, head-cut, no-kind, tail-cut}
-use Rattle.paper.specs.Fit.{Bytes, EveryWhole}
-use Rattle.paper.specs.Gate.{naming, phase1, walkReport, phase2, sliceRules, shortSlices, phase3, phase4, phase5, overTypes, tableReport, refusal}
-use Rattle.paper.specs.Good.{HeaderFacts, Readable}
-use Rattle.paper.specs.Header.{headerLength, orderOf, headerReport}
-use Rattle.paper.specs.Limits.{typeLimit}
-use Rattle.paper.specs.Smallest.{Spoken, third, fourth, fifth, sixth}
-use Rattle.paper.specs.Table.{Record, Table, count, nothing, recordAt, kindIn, tailLength, wordsOf}
-use Rattle.paper.specs.Walk.{Walked, records, stopped, ahead, known, walkRecord, walkFrom, typeWords, walk, tableOf, flat, placesOf, placeAt}
-use Rattle.paper.specs.Where.{Begins, StandsAt}
-use Rattle.paper.specs.Word.{bytesOfWords}
+use Rattle.paper.specs.rules.Answer.{Answer}
+use Rattle.paper.specs.rules.Choice.{firstDue}
+use Rattle.paper.specs.terms.Early.{Fault, many, head-cut, no-kind, tail-cut}
+use Rattle.paper.specs.terms.Fit.{Bytes, EveryWhole}
+use Rattle.paper.specs.rules.Gate.{naming, phase1, walkReport, phase2, sliceRules, shortSlices, phase3, phase4, phase5, overTypes, tableReport, refusal}
+use Rattle.paper.specs.terms.Good.{HeaderFacts, Readable}
+use Rattle.paper.specs.rules.Header.{headerLength, orderOf, headerReport}
+use Rattle.paper.specs.rules.Limits.{typeLimit}
+use Rattle.paper.specs.terms.Smallest.{Spoken, third, fourth, fifth, sixth}
+use Rattle.paper.specs.rules.Table.{Record, Table, count, nothing, recordAt, kindIn, tailLength, wordsOf}
+use Rattle.paper.specs.rules.Walk.{Walked, records, stopped, ahead, known, walkRecord, walkFrom, typeWords, walk, tableOf, flat, placesOf, placeAt}
+use Rattle.paper.specs.terms.Where.{Begins, StandsAt}
+use Rattle.paper.specs.rules.Word.{bytesOfWords}
 
 -- ── where a walk stops, and what is at fault there ──
 

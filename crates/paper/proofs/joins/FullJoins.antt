@@ -14,16 +14,16 @@ use Rattle.paper.proofs.joins.JoinRefusals.{join-16, join-17}
 use Rattle.paper.proofs.joins.Joining.{count-join}
 use Rattle.paper.proofs.gates.Numbers.{Says, joinRefusal-number}
 use Rattle.paper.proofs.bytes.Tables.{length-bytesOf}
-use Rattle.paper.specs.Answer.{Answer}
-use Rattle.paper.specs.Choice.{_when_, firstDue, orElse}
-use Rattle.paper.specs.Fit.{Accepted}
-use Rattle.paper.specs.Full.{handed, joinFull, withinLimits}
-use Rattle.paper.specs.Gate.{naming, refusal}
-use Rattle.paper.specs.Header.{orderOf}
-use Rattle.paper.specs.Join.{joinTables, refusedInside, joinedBytes, limitReport, joinRefusal, joinOutcome, join}
-use Rattle.paper.specs.Limits.{typeLimit, byteLimit, fullPlaces}
-use Rattle.paper.specs.Table.{Table, count}
-use Rattle.paper.specs.Walk.{tableOf, bytesOf}
+use Rattle.paper.specs.rules.Answer.{Answer}
+use Rattle.paper.specs.rules.Choice.{_when_, firstDue, orElse}
+use Rattle.paper.specs.terms.Fit.{Accepted}
+use Rattle.paper.specs.terms.Full.{handed, joinFull, withinLimits}
+use Rattle.paper.specs.rules.Gate.{naming, refusal}
+use Rattle.paper.specs.rules.Header.{orderOf}
+use Rattle.paper.specs.rules.Join.{joinTables, refusedInside, joinedBytes, limitReport, joinRefusal, joinOutcome, join}
+use Rattle.paper.specs.rules.Limits.{typeLimit, byteLimit, fullPlaces}
+use Rattle.paper.specs.rules.Table.{Table, count}
+use Rattle.paper.specs.rules.Walk.{tableOf, bytesOf}
 
 -- ── what a join of full size hands back ──
 

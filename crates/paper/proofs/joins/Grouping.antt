@@ -18,18 +18,18 @@ use Rattle.paper.proofs.joins.JoinFits.{good-join, fits-join}
 use Rattle.paper.proofs.bytes.Places.{flat-append}
 use Rattle.paper.proofs.renaming.Rename.{raise-compose, length-rename}
 use Rattle.paper.proofs.bytes.Tables.{order-bytesOf, tableOf-bytesOf}
-use Rattle.paper.specs.Answer.{Answer}
-use Rattle.paper.specs.Fit.{Bytes, Fits, Accepted}
-use Rattle.paper.specs.Full.{joinFull, andThen, withinLimits}
-use Rattle.paper.specs.Gate.{refusal}
-use Rattle.paper.specs.Good.{Closed, Good}
-use Rattle.paper.specs.Header.{orderOf}
-use Rattle.paper.specs.Join.{raised, joinTables, joinedBytes}
-use Rattle.paper.specs.Limits.{typeLimit, byteLimit, fullPlaces}
-use Rattle.paper.specs.Rename.{rename, raise}
-use Rattle.paper.specs.Table.{Record, Table, count, wordsOf}
-use Rattle.paper.specs.Walk.{tableOf, flat, blobLength, bytesOf}
-use Rattle.paper.specs.Word.{Order}
+use Rattle.paper.specs.rules.Answer.{Answer}
+use Rattle.paper.specs.terms.Fit.{Bytes, Fits, Accepted}
+use Rattle.paper.specs.terms.Full.{joinFull, andThen, withinLimits}
+use Rattle.paper.specs.rules.Gate.{refusal}
+use Rattle.paper.specs.terms.Good.{Closed, Good}
+use Rattle.paper.specs.rules.Header.{orderOf}
+use Rattle.paper.specs.rules.Join.{raised, joinTables, joinedBytes}
+use Rattle.paper.specs.rules.Limits.{typeLimit, byteLimit, fullPlaces}
+use Rattle.paper.specs.rules.Rename.{rename, raise}
+use Rattle.paper.specs.rules.Table.{Record, Table, count, wordsOf}
+use Rattle.paper.specs.rules.Walk.{tableOf, flat, blobLength, bytesOf}
+use Rattle.paper.specs.rules.Word.{Order}
 
 -- ── tables ──
 

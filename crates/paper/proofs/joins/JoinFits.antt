@@ -16,14 +16,14 @@ use Rattle.paper.proofs.joins.Joining.{sound-rename, count-join, length
 use Rattle.paper.proofs.bytes.Places.{flat-append}
 use Rattle.paper.proofs.renaming.Rename.{length-renameWords}
 use Rattle.paper.proofs.renaming.Renaming.{inside, Inside}
-use Rattle.paper.specs.Fit.{Below, wordBound, EveryWhole, Fits}
-use Rattle.paper.specs.Good.{Closed, SoundAt, Sound, Good}
-use Rattle.paper.specs.Join.{raised, joinTables}
-use Rattle.paper.specs.Kind.{Role, names, refers, holds, number}
-use Rattle.paper.specs.Limits.{typeLimit, byteLimit}
-use Rattle.paper.specs.Rename.{renameWord, renameWords, rename, raise}
-use Rattle.paper.specs.Table.{Record, Table, count, nothing, tailRoles, rolesOf, wordsOf, everyRoled}
-use Rattle.paper.specs.Walk.{flat, blobLength}
+use Rattle.paper.specs.terms.Fit.{Below, wordBound, EveryWhole, Fits}
+use Rattle.paper.specs.terms.Good.{Closed, SoundAt, Sound, Good}
+use Rattle.paper.specs.rules.Join.{raised, joinTables}
+use Rattle.paper.specs.rules.Kind.{Role, names, refers, holds, number}
+use Rattle.paper.specs.rules.Limits.{typeLimit, byteLimit}
+use Rattle.paper.specs.rules.Rename.{renameWord, renameWords, rename, raise}
+use Rattle.paper.specs.rules.Table.{Record, Table, count, nothing, tailRoles, rolesOf, wordsOf, everyRoled}
+use Rattle.paper.specs.rules.Walk.{flat, blobLength}
 
 -- ── nothing is said of a join ──
 

@@ -12,14 +12,14 @@ use lib.ListN.{length}
 use Rattle.paper.proofs.basics.Choices.{firstDue-none, none-firstDue}
 use Rattle.paper.proofs.gates.Gates.{orElse-none, none-orElse, naming-none, refusedInside-none}
 use Rattle.paper.proofs.gates.Numbers.{Says, says-orElse, says-naming, says-inside}
-use Rattle.paper.specs.Answer.{Answer, report, inside}
-use Rattle.paper.specs.Choice.{_when_, firstDue, orElse}
-use Rattle.paper.specs.Gate.{naming, refusal}
-use Rattle.paper.specs.Good.{Joinable}
-use Rattle.paper.specs.Join.{refusedInside, joinedBytes, limitRules, limitReport, joinRefusal}
-use Rattle.paper.specs.Limits.{typeLimit, byteLimit}
-use Rattle.paper.specs.Table.{count}
-use Rattle.paper.specs.Walk.{tableOf}
+use Rattle.paper.specs.rules.Answer.{Answer, report, inside}
+use Rattle.paper.specs.rules.Choice.{_when_, firstDue, orElse}
+use Rattle.paper.specs.rules.Gate.{naming, refusal}
+use Rattle.paper.specs.terms.Good.{Joinable}
+use Rattle.paper.specs.rules.Join.{refusedInside, joinedBytes, limitRules, limitReport, joinRefusal}
+use Rattle.paper.specs.rules.Limits.{typeLimit, byteLimit}
+use Rattle.paper.specs.rules.Table.{count}
+use Rattle.paper.specs.rules.Walk.{tableOf}
 
 module _ (a b : List ℕ) (places work room : ℕ) where
   -- ── no refusal, exactly where ──

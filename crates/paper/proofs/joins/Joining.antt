@@ -16,18 +16,18 @@ use Rattle.paper.proofs.renaming.Renaming.{Renaming, headOk-rename, nam
 use Rattle.paper.proofs.renaming.RenamingLayout.{layoutOk-rename}
 use Rattle.paper.proofs.renaming.RenamingSizes.{exactSize-rename}
 use Rattle.paper.proofs.renaming.RenamingTails.{tailOk-rename}
-use Rattle.paper.specs.Fit.{Whole}
-use Rattle.paper.specs.Good.{Closed, SoundAt, Good}
-use Rattle.paper.specs.Heads.{headOk}
-use Rattle.paper.specs.Join.{raised, joinTables}
-use Rattle.paper.specs.Layout.{layoutOk}
-use Rattle.paper.specs.Name.{nameIn}
-use Rattle.paper.specs.Names.{namesOk}
-use Rattle.paper.specs.References.{refsOk}
-use Rattle.paper.specs.Rename.{raise}
-use Rattle.paper.specs.Size.{exactSize}
-use Rattle.paper.specs.Table.{Table, count, nothing, recordAt}
-use Rattle.paper.specs.Tails.{tailOk}
+use Rattle.paper.specs.terms.Fit.{Whole}
+use Rattle.paper.specs.terms.Good.{Closed, SoundAt, Good}
+use Rattle.paper.specs.rules.Heads.{headOk}
+use Rattle.paper.specs.rules.Join.{raised, joinTables}
+use Rattle.paper.specs.rules.Layout.{layoutOk}
+use Rattle.paper.specs.rules.Name.{nameIn}
+use Rattle.paper.specs.rules.Names.{namesOk}
+use Rattle.paper.specs.rules.References.{refsOk}
+use Rattle.paper.specs.rules.Rename.{raise}
+use Rattle.paper.specs.rules.Size.{exactSize}
+use Rattle.paper.specs.rules.Table.{Table, count, nothing, recordAt}
+use Rattle.paper.specs.rules.Tails.{tailOk}
 
 pub good-whole : (T : Table) → Good T → (t : ℕ) → 1 ≤ t → t ≤ count T → Whole (recordAt T t)
 good-whole T g zero low high = absurd (omega arith)

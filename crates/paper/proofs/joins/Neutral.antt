@@ -14,17 +14,17 @@ use Rattle.paper.proofs.basics.Choices.{and-true}
 use Rattle.paper.proofs.joins.FullJoins.{joined-accepted}
 use Rattle.paper.proofs.renaming.Rename.{rename-id}
 use Rattle.paper.proofs.bytes.Tables.{order-bytesOf}
-use Rattle.paper.specs.Computes.{computes}
-use Rattle.paper.specs.Fit.{Bytes, Accepted}
-use Rattle.paper.specs.Full.{joinFull, emptyTable, emptyBlob, withinLimits}
-use Rattle.paper.specs.Good.{Closed}
-use Rattle.paper.specs.Header.{orderOf}
-use Rattle.paper.specs.Join.{joinTables, joinedBytes}
-use Rattle.paper.specs.Limits.{typeLimit, byteLimit, fullPlaces}
-use Rattle.paper.specs.Rename.{rename, raise}
-use Rattle.paper.specs.Table.{Record, Table, count}
-use Rattle.paper.specs.Walk.{tableOf, blobLength, bytesOf}
-use Rattle.paper.specs.Word.{Order, lowFirst}
+use Rattle.paper.specs.terms.Computes.{computes}
+use Rattle.paper.specs.terms.Fit.{Bytes, Accepted}
+use Rattle.paper.specs.terms.Full.{joinFull, emptyTable, emptyBlob, withinLimits}
+use Rattle.paper.specs.terms.Good.{Closed}
+use Rattle.paper.specs.rules.Header.{orderOf}
+use Rattle.paper.specs.rules.Join.{joinTables, joinedBytes}
+use Rattle.paper.specs.rules.Limits.{typeLimit, byteLimit, fullPlaces}
+use Rattle.paper.specs.rules.Rename.{rename, raise}
+use Rattle.paper.specs.rules.Table.{Record, Table, count}
+use Rattle.paper.specs.rules.Walk.{tableOf, blobLength, bytesOf}
+use Rattle.paper.specs.rules.Word.{Order, lowFirst}
 
 -- ── tables ──
 

@@ -9,8 +9,8 @@ use borrow.Author.Tests.{eq-eqb}
 use lib.Dec.{eqb}
 use lib.ListN.{length, getD, drop, length-drop, List·getD-append}
 use lib.Seq.{drop-append-le, drop-append-add, drop-drop, getD-drop}
-use Rattle.paper.specs.Good.{Closed}
-use Rattle.paper.specs.Name.{untilZero, nameIn}
+use Rattle.paper.specs.terms.Good.{Closed}
+use Rattle.paper.specs.rules.Name.{untilZero, nameIn}
 
 -- a run that begins with a zero byte names nothing
 untilZero-first : (s : List ℕ) → getD s 0 0 ≡ 0 → untilZero s ≡ []

@@ -7,9 +7,9 @@ use native.Mathlib.Nat.{suc-add}
 use native.Mathlib.Omega.{arith}
 use lib.Dec.{eqb, eqb·suc-zero}
 use lib.ListN.{length}
-use Rattle.paper.specs.Kind.{Role, names, refers, holds, number, rows, rowOf}
-use Rattle.paper.specs.Rename.{renameWord, renameWords, rename, raise}
-use Rattle.paper.specs.Table.{Record, nothing, rowIn, tailRoles, wordsOf}
+use Rattle.paper.specs.rules.Kind.{Role, names, refers, holds, number, rows, rowOf}
+use Rattle.paper.specs.rules.Rename.{renameWord, renameWords, rename, raise}
+use Rattle.paper.specs.rules.Table.{Record, nothing, rowIn, tailRoles, wordsOf}
 
 -- ── raising ──
 

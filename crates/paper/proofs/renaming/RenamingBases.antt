@@ -11,12 +11,12 @@ use Rattle.paper.proofs.walks.Bases.{alias-held, third-held, baseFrom-v
 use Rattle.paper.proofs.walks.Chains.{ends-held}
 use Rattle.paper.proofs.walks.Insides.{held-inside}
 use Rattle.paper.proofs.renaming.Renaming.{Renaming, kindAt-rename}
-use Rattle.paper.specs.Chain.{endless}
-use Rattle.paper.specs.Kind.{Role}
-use Rattle.paper.specs.References.{refsOk}
-use Rattle.paper.specs.Rename.{renameWord, rename}
-use Rattle.paper.specs.Span.{isAlias, baseFrom, baseOf}
-use Rattle.paper.specs.Table.{Record, Table, count, recordAt, kindAt}
+use Rattle.paper.specs.rules.Chain.{endless}
+use Rattle.paper.specs.rules.Kind.{Role}
+use Rattle.paper.specs.rules.References.{refsOk}
+use Rattle.paper.specs.rules.Rename.{renameWord, rename}
+use Rattle.paper.specs.rules.Span.{isAlias, baseFrom, baseOf}
+use Rattle.paper.specs.rules.Table.{Record, Table, count, recordAt, kindAt}
 
 -- ── renaming ──
 

@@ -14,19 +14,19 @@ use Rattle.paper.proofs.renaming.Renaming.{Renaming, inside, Inside}
 use Rattle.paper.proofs.renaming.RenamingSizes.{type-0, name-0, getD-rename, exactSize-rename}
 use Rattle.paper.proofs.renaming.RenamingSpans.{renameMember, renameEntry, memberRoles, entryRoles, membersIn-rename, entriesIn-rename, members-every, entries-every, placedFrom-rename, offsets-rename, isRegular-rename, spanOf-rename, entryCovers-rename}
 use Rattle.paper.proofs.renaming.RenamingTails.{renameParameter, tailRoles-kind, tail-length, tail-number, third-role, parametersOf-rename, isLast00-rename}
-use Rattle.paper.specs.Chain.{endless}
-use Rattle.paper.specs.Choice.{times, every, member, isSome}
-use Rattle.paper.specs.Fit.{Whole}
-use Rattle.paper.specs.Kind.{Role, names, refers, holds, number, rows, rowOf}
-use Rattle.paper.specs.KindNo.{ARRAY, STRUCT, UNION, FUNC, FUNC-PROTO, VAR, DATASEC, DECL-TAG}
-use Rattle.paper.specs.Layout.{memberOk, notFalling, offsetsOk, membersOk, arrayOk, allNamed, functionOk, partsOf, tagOk, layoutOk}
-use Rattle.paper.specs.References.{refOk, refWordOk, refsOk}
-use Rattle.paper.specs.Rename.{renameWord, renameWords, rename}
-use Rattle.paper.specs.Section.{Entry, entriesIn, entriesOf, entryCovers, placedFrom, sectionOk}
-use Rattle.paper.specs.Size.{within, hasSize, smallSize, hasSmallSize}
-use Rattle.paper.specs.Span.{Member, Span, membersIn, membersOf, bitOffset, endsBy, isRegular}
-use Rattle.paper.specs.Table.{Record, Table, count, recordAt, kindAt, kindOf, vlenOf, flagOf, tailRoles, rolesOf, wordsOf, everyRoled}
-use Rattle.paper.specs.Tails.{Parameter, parametersOf}
+use Rattle.paper.specs.rules.Chain.{endless}
+use Rattle.paper.specs.rules.Choice.{times, every, member, isSome}
+use Rattle.paper.specs.terms.Fit.{Whole}
+use Rattle.paper.specs.rules.Kind.{Role, names, refers, holds, number, rows, rowOf}
+use Rattle.paper.specs.rules.KindNo.{ARRAY, STRUCT, UNION, FUNC, FUNC-PROTO, VAR, DATASEC, DECL-TAG}
+use Rattle.paper.specs.rules.Layout.{memberOk, notFalling, offsetsOk, membersOk, arrayOk, allNamed, functionOk, partsOf, tagOk, layoutOk}
+use Rattle.paper.specs.rules.References.{refOk, refWordOk, refsOk}
+use Rattle.paper.specs.rules.Rename.{renameWord, renameWords, rename}
+use Rattle.paper.specs.rules.Section.{Entry, entriesIn, entriesOf, entryCovers, placedFrom, sectionOk}
+use Rattle.paper.specs.rules.Size.{within, hasSize, smallSize, hasSmallSize}
+use Rattle.paper.specs.rules.Span.{Member, Span, membersIn, membersOf, bitOffset, endsBy, isRegular}
+use Rattle.paper.specs.rules.Table.{Record, Table, count, recordAt, kindAt, kindOf, vlenOf, flagOf, tailRoles, rolesOf, wordsOf, everyRoled}
+use Rattle.paper.specs.rules.Tails.{Parameter, parametersOf}
 
 -- ── references, by their place in a record ──
 

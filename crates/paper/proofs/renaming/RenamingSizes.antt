@@ -11,12 +11,12 @@ use Rattle.paper.proofs.basics.Choices.{and-left, and-right}
 use Rattle.paper.proofs.renaming.Renaming.{Renaming}
 use Rattle.paper.proofs.basics.Rows.{isHeld, isNumber, number-kept, held-renamed, sizeRoles, rowOf-sizeRoles}
 use Rattle.paper.proofs.walks.Sizes.{next, sizeBy-enough, next-inside, never-far}
-use Rattle.paper.specs.Chain.{endless}
-use Rattle.paper.specs.Kind.{SizeRule, eight, sizeWord, countTimes, referent, noSize, Role, names, refers, holds, number, rowOf}
-use Rattle.paper.specs.References.{refsOk}
-use Rattle.paper.specs.Rename.{renameWord, renameWords, rename}
-use Rattle.paper.specs.Size.{Step, is, manyOf, sizeless, lost, Found, tooFar, stepBy, scale, goOn, sizeBy, stepIn, sizeFound, exactSize}
-use Rattle.paper.specs.Table.{Record, Table, count, recordAt, kindOf, vlenOf, tailRoles}
+use Rattle.paper.specs.rules.Chain.{endless}
+use Rattle.paper.specs.rules.Kind.{SizeRule, eight, sizeWord, countTimes, referent, noSize, Role, names, refers, holds, number, rowOf}
+use Rattle.paper.specs.rules.References.{refsOk}
+use Rattle.paper.specs.rules.Rename.{renameWord, renameWords, rename}
+use Rattle.paper.specs.rules.Size.{Step, is, manyOf, sizeless, lost, Found, tooFar, stepBy, scale, goOn, sizeBy, stepIn, sizeFound, exactSize}
+use Rattle.paper.specs.rules.Table.{Record, Table, count, recordAt, kindOf, vlenOf, tailRoles}
 
 -- a step that goes on to the renamed type
 abbrev renameStep : (ℕ → ℕ) → Step → Step

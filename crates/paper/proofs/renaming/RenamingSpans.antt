@@ -14,17 +14,17 @@ use Rattle.paper.proofs.renaming.Renaming.{Renaming, inside}
 use Rattle.paper.proofs.renaming.RenamingBases.{baseOf-rename}
 use Rattle.paper.proofs.renaming.RenamingSizes.{exactSize-rename}
 use Rattle.paper.proofs.renaming.RenamingTails.{intWord-rename}
-use Rattle.paper.specs.Chain.{endless}
-use Rattle.paper.specs.Choice.{times, every, member}
-use Rattle.paper.specs.Kind.{Role, names, refers, holds, number, aVar, rows, rowOf}
-use Rattle.paper.specs.KindNo.{INT, STRUCT, ENUM, ENUM64}
-use Rattle.paper.specs.References.{refsOk}
-use Rattle.paper.specs.Rename.{renameWords, rename}
-use Rattle.paper.specs.Section.{Entry, entriesIn, coversSize, entryCovers, placedFrom}
-use Rattle.paper.specs.Size.{exactSize, within, smallSize}
-use Rattle.paper.specs.Span.{Member, membersIn, isRegularWord, isRegular, bitOffset, fieldWidth, spanIf, wholeSpan, plainSpan, fieldSpan, spanOfSize, spanOf, baseOf}
-use Rattle.paper.specs.Table.{Record, Table, count, recordAt, kindOf, everyRoled}
-use Rattle.paper.specs.Tails.{offsetIn, widthIn}
+use Rattle.paper.specs.rules.Chain.{endless}
+use Rattle.paper.specs.rules.Choice.{times, every, member}
+use Rattle.paper.specs.rules.Kind.{Role, names, refers, holds, number, aVar, rows, rowOf}
+use Rattle.paper.specs.rules.KindNo.{INT, STRUCT, ENUM, ENUM64}
+use Rattle.paper.specs.rules.References.{refsOk}
+use Rattle.paper.specs.rules.Rename.{renameWords, rename}
+use Rattle.paper.specs.rules.Section.{Entry, entriesIn, coversSize, entryCovers, placedFrom}
+use Rattle.paper.specs.rules.Size.{exactSize, within, smallSize}
+use Rattle.paper.specs.rules.Span.{Member, membersIn, isRegularWord, isRegular, bitOffset, fieldWidth, spanIf, wholeSpan, plainSpan, fieldSpan, spanOfSize, spanOf, baseOf}
+use Rattle.paper.specs.rules.Table.{Record, Table, count, recordAt, kindOf, everyRoled}
+use Rattle.paper.specs.rules.Tails.{offsetIn, widthIn}
 
 abbrev pub renameMember : (ℕ → ℕ) → (ℕ → ℕ) → Member → Member
 renameMember type name m = record { name = name (m .name); type = type (m .type); offset = m .offset }

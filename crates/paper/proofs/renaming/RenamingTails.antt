@@ -9,13 +9,13 @@ use lib.ListN.{length, getD}
 use Rattle.paper.proofs.basics.Choices.{when-same, isEmpty-map}
 use Rattle.paper.proofs.renaming.Renaming.{Renaming}
 use Rattle.paper.proofs.renaming.RenamingSizes.{type-0, name-0, getD-rename}
-use Rattle.paper.specs.Choice.{times}
-use Rattle.paper.specs.Fit.{Whole}
-use Rattle.paper.specs.Kind.{Role, names, refers, number, voidOrPlain, offset0OrIdentifier, rows, rowOf}
-use Rattle.paper.specs.KindNo.{INT, VAR, FUNC-PROTO}
-use Rattle.paper.specs.Rename.{renameWord, renameWords, rename}
-use Rattle.paper.specs.Table.{Record, Table, kindOf, vlenOf, tailRoles, tailLength}
-use Rattle.paper.specs.Tails.{intWord, intWordOk, linkageWordOk, Parameter, parametersIn, parametersOf, isLast00, voidsLast, tailOk}
+use Rattle.paper.specs.rules.Choice.{times}
+use Rattle.paper.specs.terms.Fit.{Whole}
+use Rattle.paper.specs.rules.Kind.{Role, names, refers, number, voidOrPlain, offset0OrIdentifier, rows, rowOf}
+use Rattle.paper.specs.rules.KindNo.{INT, VAR, FUNC-PROTO}
+use Rattle.paper.specs.rules.Rename.{renameWord, renameWords, rename}
+use Rattle.paper.specs.rules.Table.{Record, Table, kindOf, vlenOf, tailRoles, tailLength}
+use Rattle.paper.specs.rules.Tails.{intWord, intWordOk, linkageWordOk, Parameter, parametersIn, parametersOf, isLast00, voidsLast, tailOk}
 
 -- ── the tail of a record of a kind ──
 

@@ -13,10 +13,10 @@ use Rattle.paper.proofs.basics.Choices.{member-each}
 use Rattle.paper.proofs.walks.Endless.{any-holds}
 use Rattle.paper.proofs.basics.Rows.{isHeld}
 use Rattle.paper.proofs.walks.Sizes.{heldIn-getD}
-use Rattle.paper.specs.Chain.{heldBy, walks, endless}
-use Rattle.paper.specs.Kind.{holds, voidOrPlain, rows, rowOf}
-use Rattle.paper.specs.Span.{aliases, isAlias, baseFrom, baseOf}
-use Rattle.paper.specs.Table.{Table, count, recordAt, kindAt, kindOf, tailRoles, rolesOf, wordsOf}
+use Rattle.paper.specs.rules.Chain.{heldBy, walks, endless}
+use Rattle.paper.specs.rules.Kind.{holds, voidOrPlain, rows, rowOf}
+use Rattle.paper.specs.rules.Span.{aliases, isAlias, baseFrom, baseOf}
+use Rattle.paper.specs.rules.Table.{Table, count, recordAt, kindAt, kindOf, tailRoles, rolesOf, wordsOf}
 
 -- ── an alias holds what it stands for ──
 

@@ -10,12 +10,12 @@ use lib.Dec.{eqb}
 use Rattle.paper.proofs.basics.Choices.{and-left, and-right, or-left, or-right, or-cases, or-false, false-or, any-map}
 use Rattle.paper.proofs.basics.Rows.{reference-renamed, link-third}
 use Rattle.paper.proofs.renaming.Renaming.{Renaming, inside, Inside, reference-inside, kindAt-rename}
-use Rattle.paper.specs.Chain.{stepTo, heldWord, heldIn, heldBy, isLink, pointedBy, walks, endless}
-use Rattle.paper.specs.Choice.{any}
-use Rattle.paper.specs.Fit.{Below}
-use Rattle.paper.specs.Kind.{Role, names, refers, holds, number}
-use Rattle.paper.specs.Rename.{renameWord, renameWords, rename}
-use Rattle.paper.specs.Table.{Record, Table, count, recordAt, kindOf, kindAt, rowIn, tailRoles, rolesOf, wordsOf, everyRoled, everyWord}
+use Rattle.paper.specs.rules.Chain.{stepTo, heldWord, heldIn, heldBy, isLink, pointedBy, walks, endless}
+use Rattle.paper.specs.rules.Choice.{any}
+use Rattle.paper.specs.terms.Fit.{Below}
+use Rattle.paper.specs.rules.Kind.{Role, names, refers, holds, number}
+use Rattle.paper.specs.rules.Rename.{renameWord, renameWords, rename}
+use Rattle.paper.specs.rules.Table.{Record, Table, count, recordAt, kindOf, kindAt, rowIn, tailRoles, rolesOf, wordsOf, everyRoled, everyWord}
 
 -- ── some element passes ──
 

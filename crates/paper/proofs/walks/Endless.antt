@@ -10,8 +10,8 @@ use borrow.Author.Tests.{eqb-true, eqb-false}
 use lib.Dec.{eqb}
 use Rattle.paper.proofs.walks.Chains.{walks-fewer}
 use Rattle.paper.proofs.basics.Choices.{or-left, or-right, or-cases}
-use Rattle.paper.specs.Chain.{walks, Chain}
-use Rattle.paper.specs.Choice.{any}
+use Rattle.paper.specs.rules.Chain.{walks, Chain}
+use Rattle.paper.specs.rules.Choice.{any}
 
 -- ── some element passes, and which ──
 

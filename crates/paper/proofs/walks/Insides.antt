@@ -15,12 +15,12 @@ use Rattle.paper.proofs.basics.Rows.{isReference, each-reference, link-
 use Rattle.paper.proofs.walks.Chains.{ends-held, ends-pointed, pointedBy-none, pointedBy-cases, third-word}
 use Rattle.paper.proofs.walks.Endless.{chain-walks, walks-chain}
 use Rattle.paper.proofs.renaming.Renaming.{inside, Inside}
-use Rattle.paper.specs.Chain.{stepTo, heldWord, heldIn, heldBy, isLink, pointedBy, walks, Chain, endless}
-use Rattle.paper.specs.Good.{Sound}
-use Rattle.paper.specs.Kind.{RefRule, voidOrPlain, plain, anInt, aProto, aVar, taggable, Role, names, refers, holds, number, rowOf, rows}
-use Rattle.paper.specs.Names.{nameOk, nameWordOk, namesOk}
-use Rattle.paper.specs.References.{isPlain, mayBeVoid, mayBeKind, refOk, refWordOk, refsOk}
-use Rattle.paper.specs.Table.{Record, Table, count, nothing, recordAt, kindOf, kindAt, rowIn, tailRoles, rolesOf, wordsOf, everyRoled}
+use Rattle.paper.specs.rules.Chain.{stepTo, heldWord, heldIn, heldBy, isLink, pointedBy, walks, Chain, endless}
+use Rattle.paper.specs.terms.Good.{Sound}
+use Rattle.paper.specs.rules.Kind.{RefRule, voidOrPlain, plain, anInt, aProto, aVar, taggable, Role, names, refers, holds, number, rowOf, rows}
+use Rattle.paper.specs.rules.Names.{nameOk, nameWordOk, namesOk}
+use Rattle.paper.specs.rules.References.{isPlain, mayBeVoid, mayBeKind, refOk, refWordOk, refsOk}
+use Rattle.paper.specs.rules.Table.{Record, Table, count, nothing, recordAt, kindOf, kindAt, rowIn, tailRoles, rolesOf, wordsOf, everyRoled}
 
 pub recordAt-outside : (T : Table) (t : ℕ) → count T < t → recordAt T t ≡ nothing
 recordAt-outside T zero h = absurd (omega arith)

@@ -14,11 +14,11 @@ use Rattle.paper.proofs.walks.Chains.{ends-held}
 use Rattle.paper.proofs.walks.Endless.{any-holds}
 use Rattle.paper.proofs.walks.Insides.{held-inside}
 use Rattle.paper.proofs.basics.Rows.{isHeld, isNumber, sizeRoles, rowOf-sizeRoles}
-use Rattle.paper.specs.Chain.{heldWord, heldIn, heldBy, walks, endless}
-use Rattle.paper.specs.Kind.{SizeRule, eight, sizeWord, countTimes, referent, noSize, Role, names, refers, holds, number, rowOf}
-use Rattle.paper.specs.References.{refsOk}
-use Rattle.paper.specs.Size.{Step, is, manyOf, sizeless, lost, Found, exactly, noneAt, lostAt, tooFar, stepBy, scale, goOn, sizeBy, stepIn}
-use Rattle.paper.specs.Table.{Table, count, recordAt, kindOf, vlenOf, tailRoles, rolesOf, wordsOf}
+use Rattle.paper.specs.rules.Chain.{heldWord, heldIn, heldBy, walks, endless}
+use Rattle.paper.specs.rules.Kind.{SizeRule, eight, sizeWord, countTimes, referent, noSize, Role, names, refers, holds, number, rowOf}
+use Rattle.paper.specs.rules.References.{refsOk}
+use Rattle.paper.specs.rules.Size.{Step, is, manyOf, sizeless, lost, Found, exactly, noneAt, lostAt, tooFar, stepBy, scale, goOn, sizeBy, stepIn}
+use Rattle.paper.specs.rules.Table.{Table, count, recordAt, kindOf, vlenOf, tailRoles, rolesOf, wordsOf}
 
 -- ── what is found ──
 

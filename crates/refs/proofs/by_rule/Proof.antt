@@ -4,7 +4,7 @@ use mathlib.Core.Path.{refl, ap, _∙_}
 use borrow.Author.Tests.{eq-eqb, ne-eqb}
 use Rattle.refs.proofs.References.{refRuleOf-other}
 use Rattle.refs.specs.Refers.{refBy}
-use Rattle.paper.specs.Kind.{RefRule}
+use Rattle.paper.specs.rules.Kind.{RefRule}
 use borrow.Author.Needs.{needs}
 use Rattle.refs.proofs.by_rule.Statement.{statement}
 use Rattle.refs.proofs.by_rule.Tie as tie

@@ -1,9 +1,9 @@
 -- `refs::refs_ok` meets its contract: the words of the head, then the tail.
 -- Assumes nothing.
 use denote.Ref.{now}
-use Rattle.paper.specs.References.{refWordOk, refsOk}
+use Rattle.paper.specs.rules.References.{refWordOk, refsOk}
 use Rattle.views.specs.Shown.{tableBy}
-use Rattle.paper.specs.Word.{lowFirst}
+use Rattle.paper.specs.rules.Word.{lowFirst}
 use Rattle.rows.proofs.ByRole.{record-head, record-tail}
 use borrow.Author.Needs.{needs}
 use Rattle.refs.proofs.refs_ok.Statement.{statement}

@@ -3,12 +3,12 @@
 use native.Mathlib.Omega.{arith}
 use mathlib.Core.Path.{_≡_, refl, _∙_}
 use denote.Ref.{now}
-use Rattle.paper.specs.Kind.{rowOf}
+use Rattle.paper.specs.rules.Kind.{rowOf}
 use Rattle.rows.proofs.RoleCodes.{once-few}
-use Rattle.paper.specs.References.{refWordOk}
+use Rattle.paper.specs.rules.References.{refWordOk}
 use Rattle.views.specs.Shown.{tableBy}
-use Rattle.paper.specs.Reading.{roled}
-use Rattle.paper.specs.Word.{lowFirst}
+use Rattle.paper.specs.terms.Reading.{roled}
+use Rattle.paper.specs.rules.Word.{lowFirst}
 use Rattle.rows.proofs.ByRole.{three-codes, tail-once, tail-entries}
 use borrow.Author.Needs.{needs}
 use Rattle.refs.proofs.tail_refs_ok.Statement.{statement}

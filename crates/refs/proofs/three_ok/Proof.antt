@@ -1,9 +1,9 @@
 -- `refs::three_ok` meets its contract: the first that fails decides.
 -- Assumes nothing.
 use denote.Ref.{now}
-use Rattle.paper.specs.References.{refWordOk}
+use Rattle.paper.specs.rules.References.{refWordOk}
 use Rattle.views.specs.Shown.{tableBy}
-use Rattle.paper.specs.Word.{lowFirst}
+use Rattle.paper.specs.rules.Word.{lowFirst}
 use Rattle.rows.specs.Codes.{roleOf}
 use Rattle.rows.proofs.ByRole.{three-first, three-second, three-third}
 use borrow.Author.Needs.{needs}

@@ -5,7 +5,7 @@ use mathlib.Core.Path.{ap, ap₂, _∙_}
 use denote.Ref.{now}
 use Rattle.refs.proofs.References.{word-other, word-rule}
 use Rattle.refs.specs.Refers.{refBy, refRuleOf}
-use Rattle.paper.specs.References.{refWordOk}
+use Rattle.paper.specs.rules.References.{refWordOk}
 use Rattle.views.specs.Shown.{tableBy}
 use Rattle.rows.specs.Codes.{roleOf}
 use borrow.Author.Needs.{needs}

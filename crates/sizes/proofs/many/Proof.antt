@@ -3,7 +3,7 @@
 use native.Mathlib.Omega.{arith}
 use borrow.Author.Tests.{le-leb, lt-leb}
 use Rattle.sizes.proofs.Scales.{product-fits}
-use Rattle.paper.specs.Answer.{sizedAsPaper}
+use Rattle.paper.specs.rules.Answer.{sizedAsPaper}
 use borrow.Author.Needs.{needs}
 use Rattle.sizes.proofs.many.Statement.{statement}
 use Rattle.sizes.proofs.many.Tie as tie

@@ -5,8 +5,8 @@ use mathlib.Core.Path.{refl, ap}
 use native.Mathlib.Omega.{arith}
 use Rattle.sizes.proofs.Scales.{Left, left-all, left-void, left-far, left-is, left-many, left-sizeless, left-lost, sizeAnswer-cut}
 use Rattle.sizes.specs.SizeStep.{stepAsPaper}
-use Rattle.paper.specs.Answer.{sizedAsPaper}
-use Rattle.paper.specs.Size.{stepAt, sizeAsked, sizeAnswer, sizeOf}
+use Rattle.paper.specs.rules.Answer.{sizedAsPaper}
+use Rattle.paper.specs.rules.Size.{stepAt, sizeAsked, sizeAnswer, sizeOf}
 use borrow.Author.Needs.{needs}
 use Rattle.sizes.proofs.size.Statement.{statement}
 use Rattle.sizes.proofs.size.Tie as tie

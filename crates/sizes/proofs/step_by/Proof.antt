@@ -1,7 +1,7 @@
 -- `sizes::step_by` meets its contract: a case for each rule, and the words that it reads.
 -- Assumes nothing.
 use mathlib.Core.Path.{ap, ap₂}
-use Rattle.paper.specs.Size.{Step, is, manyOf}
+use Rattle.paper.specs.rules.Size.{Step, is, manyOf}
 use Rattle.sizes.proofs.SizeSteps.{sizeRuleOf-other}
 use borrow.Author.Needs.{needs}
 use Rattle.sizes.proofs.step_by.Statement.{statement}

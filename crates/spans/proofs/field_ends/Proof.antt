@@ -2,8 +2,8 @@
 -- Assumes nothing.
 use mathlib.Core.Path.{refl}
 use denote.Ref.{now}
-use Rattle.paper.specs.Reading.{recordIn}
-use Rattle.paper.specs.Word.{lowFirst}
+use Rattle.paper.specs.terms.Reading.{recordIn}
+use Rattle.paper.specs.rules.Word.{lowFirst}
 use Rattle.rows.proofs.RecordWords.{kind-read}
 use Rattle.spans.proofs.SpanTests.{field-irregular, field-whole, field-kind, field-wide, field-on}
 use borrow.Author.Needs.{needs}

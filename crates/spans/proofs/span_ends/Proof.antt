@@ -1,8 +1,8 @@
 -- `spans::span_ends` meets its contract: by kind_flag.
 -- Assumes nothing.
 use denote.Ref.{now}
-use Rattle.paper.specs.Reading.{recordIn}
-use Rattle.paper.specs.Word.{lowFirst}
+use Rattle.paper.specs.terms.Reading.{recordIn}
+use Rattle.paper.specs.rules.Word.{lowFirst}
 use Rattle.spans.proofs.SpanTests.{span-field, span-plain}
 use borrow.Author.Needs.{needs}
 use Rattle.spans.proofs.span_ends.Statement.{statement}

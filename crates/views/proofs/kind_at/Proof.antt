@@ -1,8 +1,8 @@
 -- `views::kind_at` meets its contract: the kind of the record's info word.
 -- Assumes nothing.
 use mathlib.Core.Path.{ap, _∙_}
-use Rattle.paper.specs.Reading.{recordIn}
-use Rattle.paper.specs.Table.{Record, kindIn, kindOf}
+use Rattle.paper.specs.terms.Reading.{recordIn}
+use Rattle.paper.specs.rules.Table.{Record, kindIn, kindOf}
 use borrow.Author.Needs.{needs}
 use Rattle.views.proofs.kind_at.Statement.{statement}
 use Rattle.views.proofs.kind_at.Tie as tie

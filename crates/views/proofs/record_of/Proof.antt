@@ -6,8 +6,8 @@ use denote.Ref.{now}
 use lib.ListN.{drop}
 use Rattle.paper.proofs.bytes.Bytes.{part-rest}
 use Rattle.views.proofs.Shows.{startBy-record, part-place}
-use Rattle.paper.specs.Reading.{recordIn}
-use Rattle.paper.specs.Word.{lowFirst}
+use Rattle.paper.specs.terms.Reading.{recordIn}
+use Rattle.paper.specs.rules.Word.{lowFirst}
 use borrow.Author.Needs.{needs}
 use Rattle.views.proofs.record_of.Statement.{statement}
 use Rattle.views.proofs.record_of.Tie as tie

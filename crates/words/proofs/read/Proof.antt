@@ -3,7 +3,7 @@
 use mathlib.Core.Path.{sym, _∙_}
 use native.Mathlib.Omega.{arith}
 use denote.Ref.{now}
-use Rattle.paper.specs.Word.{lowFirst}
+use Rattle.paper.specs.rules.Word.{lowFirst}
 use Rattle.paper.proofs.bytes.Words.{wordAt-inside, wordAt-outside}
 use borrow.Author.Needs.{needs}
 use Rattle.words.proofs.read.Statement.{statement}

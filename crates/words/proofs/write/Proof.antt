@@ -4,7 +4,7 @@ use mathlib.Core.Path.{sym}
 use native.Mathlib.Omega.{arith}
 use denote.Ref.{now}
 use lib.ListN.{length-set}
-use Rattle.paper.specs.Word.{lowFirst}
+use Rattle.paper.specs.rules.Word.{lowFirst}
 use Rattle.paper.proofs.bytes.Words.{putWord-outside, putWord-low}
 use borrow.Author.Needs.{needs}
 use Rattle.words.proofs.write.Statement.{statement}

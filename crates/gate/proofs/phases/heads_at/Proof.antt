@@ -3,9 +3,9 @@
 use mathlib.Core.Path.{_≡_, sym, ap, _∙_}
 use denote.Ref.{now}
 use Rattle.gate.proofs.TypeDues.{heads-due}
-use Rattle.paper.specs.Answer.{reportAsPaper}
-use Rattle.paper.specs.Choice.{firstDue}
-use Rattle.paper.specs.Gate.{namingAt, phase3}
+use Rattle.paper.specs.rules.Answer.{reportAsPaper}
+use Rattle.paper.specs.rules.Choice.{firstDue}
+use Rattle.paper.specs.rules.Gate.{namingAt, phase3}
 use Rattle.views.specs.Shown.{placeBy, tableBy}
 use Rattle.rules.specs.Phase.{dueAsPaper}
 use Rattle.rules.specs.declared.phase.Due.{Due}

@@ -6,9 +6,9 @@ use mathlib.Core.Bool.{Bool, not}
 use mathlib.Core.List.{[], _∷_}
 use denote.Ref.{now}
 use Rattle.gate.proofs.TypeDues.{layout-due}
-use Rattle.paper.specs.Answer.{reportAsPaper}
-use Rattle.paper.specs.Choice.{_when_, firstDue}
-use Rattle.paper.specs.Gate.{namingAt, phase6}
+use Rattle.paper.specs.rules.Answer.{reportAsPaper}
+use Rattle.paper.specs.rules.Choice.{_when_, firstDue}
+use Rattle.paper.specs.rules.Gate.{namingAt, phase6}
 use Rattle.views.specs.Shown.{placeBy, tableBy}
 use borrow.Author.Needs.{needs}
 use Rattle.gate.proofs.phases.layout_at.Statement.{statement}

@@ -4,7 +4,7 @@ use Prim.Native.Nat.{_-_}
 use mathlib.Core.Path.{ap}
 use native.Mathlib.Omega.{arith}
 use Rattle.paper.proofs.gates.Looks.{Looking, looking-start, looking-next, looking-says, looking-done}
-use Rattle.paper.specs.Gate.{phase6}
+use Rattle.paper.specs.rules.Gate.{phase6}
 use Rattle.gate.specs.Said.{overShown, saidAsPaper}
 use Rattle.views.specs.Shown.{placeBy, tableBy}
 use borrow.Author.Needs.{needs}

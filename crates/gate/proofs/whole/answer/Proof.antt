@@ -4,7 +4,7 @@ use mathlib.Core.Path.{ap, _∙_}
 use denote.Ref.{now}
 use Rattle.gate.proofs.Checks.{scan-refused, scan-standing, scan-room, scan-accepted, scan-judged}
 use Rattle.paper.proofs.bytes.Bytes.{slice-bytes}
-use Rattle.paper.specs.Gate.{zeros}
+use Rattle.paper.specs.rules.Gate.{zeros}
 use borrow.Author.Needs.{needs}
 use Rattle.gate.proofs.whole.answer.Statement.{statement}
 use Rattle.gate.proofs.whole.answer.Tie as tie

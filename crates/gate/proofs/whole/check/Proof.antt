@@ -4,7 +4,7 @@ use mathlib.Core.Path.{ap, _∙_}
 use denote.Ref.{now}
 use lib.ListN.{length}
 use Rattle.gate.proofs.Checks.{gate-work}
-use Rattle.paper.specs.Gate.{zeros}
+use Rattle.paper.specs.rules.Gate.{zeros}
 use borrow.Author.Needs.{needs}
 use Rattle.gate.proofs.whole.check.Statement.{statement}
 use Rattle.gate.proofs.whole.check.Tie as tie

@@ -1,7 +1,7 @@
 -- `gate::whole::judge` meets its contract: the earliest phase that says something speaks.
 -- Assumes nothing.
 use Rattle.gate.proofs.Checks.{judge-third, judge-reference, judge-endless, judge-sixth, judge-few}
-use Rattle.paper.specs.Answer.{reportAsPaper}
+use Rattle.paper.specs.rules.Answer.{reportAsPaper}
 use borrow.Author.Needs.{needs}
 use Rattle.gate.proofs.whole.judge.Statement.{statement}
 use Rattle.gate.proofs.whole.judge.Tie as tie

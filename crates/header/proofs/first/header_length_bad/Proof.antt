@@ -2,8 +2,8 @@
 -- Assumes nothing.
 use Prim.Native.Nat.{ℕ}
 use mathlib.Core.Path.{ap}
-use Rattle.paper.specs.Choice.{differ}
-use Rattle.paper.specs.Header.{orderOf, headerLengthBad}
+use Rattle.paper.specs.rules.Choice.{differ}
+use Rattle.paper.specs.rules.Header.{orderOf, headerLengthBad}
 use borrow.Author.Needs.{needs}
 use Rattle.header.proofs.first.header_length_bad.Statement.{statement}
 use Rattle.header.proofs.first.header_length_bad.Tie as tie

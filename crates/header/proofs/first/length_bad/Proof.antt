@@ -1,7 +1,7 @@
 -- `header::first::length_bad` meets its contract: report 1.
 -- Assumes nothing.
 use borrow.Author.Tests.{lt-ltb, le-ltb}
-use Rattle.paper.specs.Header.{lengthBad}
+use Rattle.paper.specs.rules.Header.{lengthBad}
 use Rattle.header.proofs.first.length_bad.Statement.{statement}
 use Rattle.header.proofs.first.length_bad.Tie as tie
 

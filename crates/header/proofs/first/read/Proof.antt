@@ -1,7 +1,7 @@
 -- `header::first::read` meets its contract: the first of the five tests that fails is the report.
 -- Assumes nothing.
-use Rattle.paper.specs.Answer.{reportAsPaper}
-use Rattle.paper.specs.Header.{orderOf, typeLen, strLen}
+use Rattle.paper.specs.rules.Answer.{reportAsPaper}
+use Rattle.paper.specs.rules.Header.{orderOf, typeLen, strLen}
 use Rattle.header.proofs.Headers.{tells, phase1-length, phase1-opening, phase1-header, phase1-sections, phase1-strings, phase1-silent}
 use borrow.Author.Needs.{needs}
 use Rattle.header.proofs.first.read.Statement.{statement}

@@ -6,7 +6,7 @@ use native.Mathlib.Omega.{arith}
 use denote.Ref.{now, ptr}
 use lib.ListN.{length, take, drop}
 use borrow.Author.Needs.{needs}
-use Rattle.paper.specs.Name.{nameAt}
+use Rattle.paper.specs.rules.Name.{nameAt}
 use Rattle.header.proofs.Scans.{nameAt-inside, nameAt-part}
 use Rattle.header.proofs.names.name.Statement.{statement}
 use Rattle.header.proofs.names.name.Tie as tie

@@ -7,7 +7,7 @@ use denote.Ref.{now}
 use mathlib.Core.List.{List}
 use lib.ListN.{length, drop, length-drop}
 use Rattle.paper.proofs.bytes.Bytes.{part-rest}
-use Rattle.paper.specs.Name.{nameStart}
+use Rattle.paper.specs.rules.Name.{nameStart}
 use Rattle.header.specs.Part.{Ending}
 use Rattle.header.proofs.Headers.{tells}
 use Rattle.header.proofs.Scans.{nameStart-none, nameAt-none, nameStart-some, named-inside, named-short, named-long}

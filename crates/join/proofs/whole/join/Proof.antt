@@ -7,7 +7,7 @@ use lib.ListN.{length}
 use Rattle.gate.specs.Check.{CheckOf}
 use Rattle.join.proofs.JoinAnswers.{first-refused, second-refused, both-accepted, limits-decide}
 use Rattle.paper.proofs.bytes.Bytes.{slice-bytes}
-use Rattle.paper.specs.Gate.{zeros}
+use Rattle.paper.specs.rules.Gate.{zeros}
 use Rattle.paper.specs.declared.Checked.{Checked}
 use borrow.Author.Needs.{needs}
 use Rattle.join.proofs.whole.join.Statement.{statement}

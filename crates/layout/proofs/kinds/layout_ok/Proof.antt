@@ -2,14 +2,14 @@
 -- Assumes nothing.
 use mathlib.Core.Path.{_≡_, refl, sym, ap, _∙_}
 use denote.Ref.{now}
-use Rattle.paper.specs.Layout.{layoutOk}
-use Rattle.paper.specs.Reading.{recordIn}
-use Rattle.paper.specs.Table.{recordAt, kindOf}
+use Rattle.paper.specs.rules.Layout.{layoutOk}
+use Rattle.paper.specs.terms.Reading.{recordIn}
+use Rattle.paper.specs.rules.Table.{recordAt, kindOf}
 use Rattle.views.specs.Shown.{tableBy}
-use Rattle.paper.specs.Word.{lowFirst}
+use Rattle.paper.specs.rules.Word.{lowFirst}
 use Rattle.rows.proofs.RecordWords.{kind-read, third-read}
 use Rattle.layout.proofs.LayoutKinds.{layout-struct, layout-union, layout-array, layout-var, layout-func, layout-tag, layout-section, layout-other}
-use Rattle.paper.specs.Size.{hasSmallSize}
+use Rattle.paper.specs.rules.Size.{hasSmallSize}
 use borrow.Author.Needs.{needs}
 use Rattle.layout.proofs.kinds.layout_ok.Statement.{statement}
 use Rattle.layout.proofs.kinds.layout_ok.Tie as tie

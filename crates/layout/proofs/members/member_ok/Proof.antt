@@ -4,8 +4,8 @@ use Prim.Native.Nat.{_*_}
 use native.Mathlib.Omega.{arith}
 use denote.Ref.{now}
 use Rattle.views.specs.Shown.{tableBy}
-use Rattle.paper.specs.Reading.{recordIn}
-use Rattle.paper.specs.Word.{lowFirst}
+use Rattle.paper.specs.terms.Reading.{recordIn}
+use Rattle.paper.specs.rules.Word.{lowFirst}
 use Rattle.spans.specs.Spanned.{memberAt}
 use Rattle.layout.proofs.Measured.{smallSize-told}
 use Rattle.layout.proofs.MembersLeft.{span-none, span-small}

@@ -3,8 +3,8 @@
 use mathlib.Core.Path.{refl}
 use native.Mathlib.Omega.{arith}
 use denote.Ref.{now}
-use Rattle.paper.specs.Reading.{recordIn}
-use Rattle.paper.specs.Word.{lowFirst}
+use Rattle.paper.specs.terms.Reading.{recordIn}
+use Rattle.paper.specs.rules.Word.{lowFirst}
 use Rattle.views.specs.Shown.{tableBy}
 use Rattle.rows.proofs.RecordWords.{kind-read, flag-read, third-read}
 use Rattle.layout.proofs.MembersLeft.{Laying, laying-start, laying-done, laying-bad, laying-falls, laying-next}

@@ -2,8 +2,8 @@
 -- Assumes nothing.
 use denote.Ref.{now}
 use Rattle.views.specs.Shown.{tableBy}
-use Rattle.paper.specs.Reading.{recordIn}
-use Rattle.paper.specs.Word.{lowFirst}
+use Rattle.paper.specs.terms.Reading.{recordIn}
+use Rattle.paper.specs.rules.Word.{lowFirst}
 use Rattle.rows.proofs.RecordWords.{element-read, index-read}
 use Rattle.layout.proofs.PartTests.{array-sizeless, array-index}
 use borrow.Author.Needs.{needs}

@@ -3,8 +3,8 @@
 use mathlib.Core.Path.{refl}
 use denote.Ref.{now}
 use Rattle.views.specs.Shown.{tableBy}
-use Rattle.paper.specs.Reading.{recordIn}
-use Rattle.paper.specs.Word.{lowFirst}
+use Rattle.paper.specs.terms.Reading.{recordIn}
+use Rattle.paper.specs.rules.Word.{lowFirst}
 use Rattle.rows.proofs.RecordWords.{kind-read, vlen-read, third-read}
 use Rattle.layout.proofs.PartTests.{parts-struct, parts-union, parts-none, parts-func}
 use borrow.Author.Needs.{needs}

@@ -3,8 +3,8 @@
 use mathlib.Core.Path.{refl}
 use denote.Ref.{now}
 use Rattle.views.specs.Shown.{tableBy}
-use Rattle.paper.specs.Reading.{recordIn}
-use Rattle.paper.specs.Word.{lowFirst}
+use Rattle.paper.specs.terms.Reading.{recordIn}
+use Rattle.paper.specs.rules.Word.{lowFirst}
 use Rattle.rows.proofs.RecordWords.{third-read, component-read}
 use Rattle.layout.proofs.PartTests.{tag-whole, tag-part}
 use borrow.Author.Needs.{needs}

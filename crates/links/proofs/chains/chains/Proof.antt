@@ -6,7 +6,7 @@ use mathlib.Core.Path.{_≡_, _∙_, subst}
 use native.Mathlib.Omega.{arith}
 use denote.Ref.{now}
 use lib.ListN.{length}
-use Rattle.paper.specs.Chain.{heldBy}
+use Rattle.paper.specs.rules.Chain.{heldBy}
 use Rattle.views.specs.Shown.{tableBy}
 use Rattle.links.specs.Search.{Followed}
 use Rattle.links.proofs.Roots.{Rooting, rooting-start, rooting-done, rooting-ring, rooting-next}

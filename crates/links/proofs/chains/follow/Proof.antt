@@ -3,7 +3,7 @@
 use mathlib.Core.Path.{_≡_, _∙_, subst}
 use denote.Ref.{now}
 use lib.ListN.{length, length-set}
-use Rattle.paper.specs.Table.{recordAt}
+use Rattle.paper.specs.rules.Table.{recordAt}
 use Rattle.views.specs.Shown.{tableBy}
 use Rattle.links.specs.declared.chains.Step.{Step}
 use Rattle.links.specs.Search.{Stepped}

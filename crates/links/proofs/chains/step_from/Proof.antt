@@ -4,7 +4,7 @@ use mathlib.Core.List.{[]}
 use mathlib.Core.Path.{_≡_, refl}
 use native.Mathlib.Omega.{arith}
 use denote.Ref.{now}
-use Rattle.paper.specs.Table.{recordAt}
+use Rattle.paper.specs.rules.Table.{recordAt}
 use Rattle.views.specs.Shown.{tableBy}
 use Rattle.links.specs.Holding.{heldFrom, NextHeld}
 use Rattle.links.specs.Search.{along, into, back}

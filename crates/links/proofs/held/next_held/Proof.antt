@@ -4,9 +4,9 @@ use Prim.Native.Nat.{_-_}
 use mathlib.Core.Path.{ap}
 use native.Mathlib.Omega.{arith}
 use denote.Ref.{now}
-use Rattle.paper.specs.Reading.{recordIn}
-use Rattle.paper.specs.Table.{tailLength}
-use Rattle.paper.specs.Word.{lowFirst}
+use Rattle.paper.specs.terms.Reading.{recordIn}
+use Rattle.paper.specs.rules.Table.{tailLength}
+use Rattle.paper.specs.rules.Word.{lowFirst}
 use Rattle.paper.proofs.bytes.Reading.{length-recordIn}
 use Rattle.rows.proofs.RoleCodes.{tailLength-few}
 use Rattle.links.proofs.Holds.{Looking, looking-start, looking-next, looking-found, looking-done, length-rolesBy}

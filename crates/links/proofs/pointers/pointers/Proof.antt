@@ -6,7 +6,7 @@ use mathlib.Core.Path.{_≡_, _∙_, subst}
 use native.Mathlib.Omega.{arith}
 use denote.Ref.{now}
 use lib.ListN.{length}
-use Rattle.paper.specs.Chain.{pointedBy}
+use Rattle.paper.specs.rules.Chain.{pointedBy}
 use Rattle.views.specs.Shown.{tableBy}
 use Rattle.links.specs.Trail.{Trailed}
 use Rattle.links.proofs.Pointing.{Pointing, pointing-start, pointing-asks, pointing-done, pointing-ring, pointing-next}

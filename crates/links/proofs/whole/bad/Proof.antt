@@ -5,8 +5,8 @@ use mathlib.Core.Path.{refl, sym, _∙_}
 use native.Mathlib.Omega.{arith}
 use Rattle.links.proofs.Linking.{refs-due, over-all}
 use Rattle.paper.proofs.gates.Looks.{Looking, looking-start, looking-done, looking-says, looking-next}
-use Rattle.paper.specs.Gate.{phase4}
-use Rattle.paper.specs.Walk.{placeAt}
+use Rattle.paper.specs.rules.Gate.{phase4}
+use Rattle.paper.specs.rules.Walk.{placeAt}
 use Rattle.views.proofs.Shows.{tableBy-count}
 use Rattle.views.specs.Shown.{tableBy}
 use borrow.Author.Needs.{needs}

@@ -1,7 +1,7 @@
 -- `links::whole::links` meets its contract: the work slice is cleared after the answer.
 -- Assumes nothing.
 use mathlib.Core.Path.{ap, _∙_}
-use Rattle.paper.specs.Gate.{zeros}
+use Rattle.paper.specs.rules.Gate.{zeros}
 use borrow.Author.Needs.{needs}
 use Rattle.links.proofs.whole.links.Statement.{statement}
 use Rattle.links.proofs.whole.links.Tie as tie

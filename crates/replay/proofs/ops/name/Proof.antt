@@ -3,7 +3,7 @@
 use mathlib.Core.Path.{ap, _∙_}
 use denote.Ref.{now}
 use lib.ListN.{length}
-use Rattle.paper.specs.Answer.{Answer}
+use Rattle.paper.specs.rules.Answer.{Answer}
 use Rattle.replay.specs.Case.{seenWith}
 use Rattle.replay.proofs.Parts.{nameAt-short}
 use native.Mathlib.Omega.{arith}

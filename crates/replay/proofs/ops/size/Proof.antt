@@ -2,7 +2,7 @@
 -- Assumes nothing.
 use denote.Ref.{now}
 use mathlib.Core.Path.{ap, _∙_}
-use Rattle.paper.specs.Answer.{Answer}
+use Rattle.paper.specs.rules.Answer.{Answer}
 use Rattle.replay.specs.Case.{seenWith}
 use borrow.Author.Needs.{needs}
 use Rattle.replay.proofs.ops.size.Statement.{statement}

@@ -4,7 +4,7 @@ use Prim.Native.Nat.{_-_, _≤_}
 use native.Mathlib.Omega.{arith}
 use borrow.Author.Needs.{needs}
 use lib.ListN.{length, drop}
-use Rattle.paper.specs.Word.{lowFirst, bytesOfWords}
+use Rattle.paper.specs.rules.Word.{lowFirst, bytesOfWords}
 use Rattle.replay.specs.Sum.{sumOf}
 use Rattle.replay.proofs.Summing.{Summing, summing-start, summing-end, summing-place, left-none}
 use Rattle.replay.proofs.sums.of_places.Statement.{statement}

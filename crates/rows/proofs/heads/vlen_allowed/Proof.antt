@@ -1,7 +1,7 @@
 -- `rows::heads::vlen_allowed` meets its contract: the column's code stands for what the row says.
 -- Assumes nothing.
 use mathlib.Core.Path.{refl, _∙_}
-use Rattle.paper.specs.Kind.{Row, rows}
+use Rattle.paper.specs.rules.Kind.{Row, rows}
 use Rattle.rows.specs.Codes.{valuesCode, headCode}
 use Rattle.rows.proofs.Columns.{column-is}
 use Rattle.rows.proofs.Members.{allowed-code}

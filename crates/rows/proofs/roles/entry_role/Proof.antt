@@ -1,7 +1,7 @@
 -- `rows::roles::entry_role` meets its contract: a column for each of three places, and past them a plain number.
 -- Assumes nothing.
 use mathlib.Core.Path.{refl}
-use Rattle.paper.specs.Kind.{Row, rows, rowOf}
+use Rattle.paper.specs.rules.Kind.{Row, rows, rowOf}
 use Rattle.rows.specs.Codes.{roleAt, tailCode}
 use Rattle.rows.proofs.Columns.{column-is}
 use Rattle.rows.proofs.RoleCodes.{each-few, roleAt-past}

@@ -2,7 +2,7 @@
 -- Assumes nothing.
 use mathlib.Core.Path.{refl}
 use lib.ListN.{length}
-use Rattle.paper.specs.Kind.{Row, rows}
+use Rattle.paper.specs.rules.Kind.{Row, rows}
 use Rattle.rows.specs.Codes.{tailCode}
 use Rattle.rows.proofs.Columns.{column-is}
 use borrow.Author.Needs.{needs}

@@ -1,7 +1,7 @@
 -- `rows::roles::size_rule` meets its contract: its column is the rule for the size.
 -- Assumes nothing.
 use mathlib.Core.Path.{refl}
-use Rattle.paper.specs.Kind.{Row, rows}
+use Rattle.paper.specs.rules.Kind.{Row, rows}
 use Rattle.rows.specs.Codes.{headCode, sizeCode}
 use Rattle.rows.proofs.Columns.{column-is}
 use borrow.Author.Needs.{needs}

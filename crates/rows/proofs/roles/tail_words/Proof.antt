@@ -2,7 +2,7 @@
 -- Assumes nothing.
 use Prim.Native.Nat.{_+_, _*_, _≤_}
 use native.Mathlib.Omega.{arith}
-use Rattle.paper.specs.Table.{tailLength}
+use Rattle.paper.specs.rules.Table.{tailLength}
 use Rattle.rows.proofs.RoleCodes.{tail-few}
 use borrow.Author.Needs.{needs}
 use Rattle.rows.proofs.roles.tail_words.Statement.{statement}

@@ -1,7 +1,7 @@
 -- `rows::roles::third_role` meets its contract: its column is the role of the third word.
 -- Assumes nothing.
 use mathlib.Core.Path.{refl}
-use Rattle.paper.specs.Kind.{Row, rows}
+use Rattle.paper.specs.rules.Kind.{Row, rows}
 use Rattle.rows.specs.Codes.{headCode, roleCode}
 use Rattle.rows.proofs.Columns.{column-is}
 use borrow.Author.Needs.{needs}

@@ -1,6 +1,6 @@
 -- `rows::table::tail_row` meets its contract: a row for each kind, and the row of no kind for any other.
 -- Assumes nothing.
-use Rattle.paper.specs.Kind.{rows, rowOf}
+use Rattle.paper.specs.rules.Kind.{rows, rowOf}
 use Rattle.rows.specs.Codes.{tailCode}
 use Rattle.rows.proofs.Columns.{row-at, row-unknown}
 use Rattle.rows.proofs.table.tail_row.Statement.{statement}

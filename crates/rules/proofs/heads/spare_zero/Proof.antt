@@ -1,7 +1,7 @@
 -- `rules::heads::spare_zero` meets its contract: the first part that is not 0 decides.
 -- Assumes nothing.
 use borrow.Author.Tests.{eq-eqb, ne-eqb}
-use Rattle.paper.specs.Heads.{spareZero}
+use Rattle.paper.specs.rules.Heads.{spareZero}
 use Rattle.rules.proofs.heads.spare_zero.Statement.{statement}
 use Rattle.rules.proofs.heads.spare_zero.Tie as tie
 

@@ -3,9 +3,9 @@
 use mathlib.Core.Path.{refl, ap, _∙_}
 use borrow.Author.Tests.{eq-eqb, ne-eqb}
 use denote.Ref.{now}
-use Rattle.paper.specs.Kind.{NameRule}
-use Rattle.paper.specs.Name.{nameIn}
-use Rattle.paper.specs.Names.{nameFits}
+use Rattle.paper.specs.rules.Kind.{NameRule}
+use Rattle.paper.specs.rules.Name.{nameIn}
+use Rattle.paper.specs.rules.Names.{nameFits}
 use Rattle.idents.proofs.NameTests.{nonEmpty-first}
 use Rattle.rules.proofs.NameRoles.{nameRuleOf-other}
 use borrow.Author.Needs.{needs}

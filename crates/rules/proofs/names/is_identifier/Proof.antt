@@ -2,8 +2,8 @@
 -- Assumes nothing.
 use mathlib.Core.Path.{_≡_, sym, ap, _∙_}
 use denote.Ref.{now}
-use Rattle.paper.specs.Choice.{isSome}
-use Rattle.paper.specs.Name.{nameIn, isIdentifier}
+use Rattle.paper.specs.rules.Choice.{isSome}
+use Rattle.paper.specs.rules.Name.{nameIn, isIdentifier}
 use Rattle.idents.specs.declared.Spelt.{Spelt}
 use Rattle.idents.specs.Spelling.{speltAsPaper}
 use borrow.Author.Needs.{needs}

@@ -1,8 +1,8 @@
 -- `rules::names::names_ok` meets its contract: the words of the head, then the tail.
 -- Assumes nothing.
 use denote.Ref.{now}
-use Rattle.paper.specs.Names.{nameWordOk, namesOk}
-use Rattle.paper.specs.Word.{lowFirst}
+use Rattle.paper.specs.rules.Names.{nameWordOk, namesOk}
+use Rattle.paper.specs.rules.Word.{lowFirst}
 use Rattle.rows.proofs.ByRole.{record-head, record-tail}
 use borrow.Author.Needs.{needs}
 use Rattle.rules.proofs.names.names_ok.Statement.{statement}

@@ -3,11 +3,11 @@
 use native.Mathlib.Omega.{arith}
 use mathlib.Core.Path.{_≡_, refl, _∙_}
 use denote.Ref.{now}
-use Rattle.paper.specs.Kind.{rowOf}
+use Rattle.paper.specs.rules.Kind.{rowOf}
 use Rattle.rows.proofs.RoleCodes.{once-few}
-use Rattle.paper.specs.Names.{nameWordOk}
-use Rattle.paper.specs.Reading.{roled}
-use Rattle.paper.specs.Word.{lowFirst}
+use Rattle.paper.specs.rules.Names.{nameWordOk}
+use Rattle.paper.specs.terms.Reading.{roled}
+use Rattle.paper.specs.rules.Word.{lowFirst}
 use Rattle.rows.proofs.ByRole.{three-codes, tail-once, tail-entries}
 use borrow.Author.Needs.{needs}
 use Rattle.rules.proofs.names.tail_names_ok.Statement.{statement}

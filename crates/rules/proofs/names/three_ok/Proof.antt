@@ -2,8 +2,8 @@
 -- Assumes nothing.
 use Rattle.rows.specs.Codes.{roleOf}
 use denote.Ref.{now}
-use Rattle.paper.specs.Names.{nameWordOk}
-use Rattle.paper.specs.Word.{lowFirst}
+use Rattle.paper.specs.rules.Names.{nameWordOk}
+use Rattle.paper.specs.rules.Word.{lowFirst}
 use Rattle.rows.proofs.ByRole.{three-first, three-second, three-third}
 use borrow.Author.Needs.{needs}
 use Rattle.rules.proofs.names.three_ok.Statement.{statement}

@@ -2,7 +2,7 @@
 -- Assumes nothing.
 use mathlib.Core.Path.{ap, _∙_}
 use denote.Ref.{now}
-use Rattle.paper.specs.Names.{nameWordOk}
+use Rattle.paper.specs.rules.Names.{nameWordOk}
 use Rattle.rows.specs.Codes.{roleOf}
 use Rattle.rules.proofs.NameRoles.{word-other, word-outside, word-inside}
 use borrow.Author.Needs.{needs}

@@ -1,8 +1,8 @@
 -- `rules::phase::phase3` meets its contract: the first test that fails decides.
 -- Assumes nothing.
 use denote.Ref.{now}
-use Rattle.paper.specs.Reading.{recordIn}
-use Rattle.paper.specs.Word.{lowFirst}
+use Rattle.paper.specs.terms.Reading.{recordIn}
+use Rattle.paper.specs.rules.Word.{lowFirst}
 use Rattle.rules.proofs.Dues.{due-head, due-named, due-tail, due-none}
 use borrow.Author.Needs.{needs}
 use Rattle.rules.proofs.phase.phase3.Statement.{statement}

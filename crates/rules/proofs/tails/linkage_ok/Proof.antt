@@ -1,6 +1,6 @@
 -- `rules::tails::linkage_ok` meets its contract: up to 2.
 -- Assumes nothing.
-use Rattle.paper.specs.Tails.{linkageWordOk}
+use Rattle.paper.specs.rules.Tails.{linkageWordOk}
 use Rattle.rows.proofs.Members.{member-linkage}
 use Rattle.rules.proofs.tails.linkage_ok.Statement.{statement}
 use Rattle.rules.proofs.tails.linkage_ok.Tie as tie

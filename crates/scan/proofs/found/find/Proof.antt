@@ -1,6 +1,6 @@
 -- `scan::found::find` meets its contract: the first of the header, the walk and the places that has a report.
 -- Assumes nothing.
-use Rattle.paper.specs.Answer.{reportAsPaper}
+use Rattle.paper.specs.rules.Answer.{reportAsPaper}
 use Rattle.scan.proofs.Founds.{found-header, found-section, found-stopped, found-places, found-work, found-count}
 use borrow.Author.Needs.{needs}
 use Rattle.scan.proofs.found.find.Statement.{statement}

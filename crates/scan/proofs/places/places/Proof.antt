@@ -6,10 +6,10 @@ use native.Mathlib.Omega.{arith}
 use borrow.Author.Needs.{needs}
 use denote.Ref.{now}
 use lib.ListN.{length}
-use Rattle.paper.specs.Gate.{indexOf}
-use Rattle.paper.specs.Limits.{byteLimit}
-use Rattle.paper.specs.Table.{tailLength}
-use Rattle.paper.specs.Word.{lowFirst, wordAt}
+use Rattle.paper.specs.rules.Gate.{indexOf}
+use Rattle.paper.specs.rules.Limits.{byteLimit}
+use Rattle.paper.specs.rules.Table.{tailLength}
+use Rattle.paper.specs.rules.Word.{lowFirst, wordAt}
 use Rattle.scan.proofs.Placing.{Placing, placing-start, placing-length, placing-inside, placing-room, placing-step, placing-done}
 use Rattle.scan.proofs.places.places.Statement.{statement}
 use Rattle.scan.proofs.places.places.Tie as tie

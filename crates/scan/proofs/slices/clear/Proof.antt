@@ -8,7 +8,7 @@ use borrow.Author.Fill.{fill-more}
 use denote.Ref.{now}
 use lib.Seq.{drop-length}
 use lib.ListN.{length, set, drop, length-set}
-use Rattle.paper.specs.Gate.{zeros}
+use Rattle.paper.specs.rules.Gate.{zeros}
 use Rattle.scan.proofs.slices.clear.Statement.{statement}
 use Rattle.scan.proofs.slices.clear.Tie as tie
 

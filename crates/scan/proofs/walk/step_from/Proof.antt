@@ -5,8 +5,8 @@ use mathlib.Core.Path.{_≡_, sym, ap, _∙_}
 use native.Mathlib.Omega.{arith}
 use borrow.Author.Tests.{not-true, not-false}
 use denote.Ref.{now}
-use Rattle.paper.specs.Table.{kindIn, tailLength}
-use Rattle.paper.specs.Walk.{known}
+use Rattle.paper.specs.rules.Table.{kindIn, tailLength}
+use Rattle.paper.specs.rules.Walk.{known}
 use Rattle.scan.specs.declared.walk.Step.the-variants.{Next}
 use Rattle.rows.proofs.RoleCodes.{tailLength-few}
 use Rattle.scan.proofs.WalkSteps.{nextPlace, knownAt, way-stepFrom, head-cut, unknown, tail-cut, onward}

@@ -5,7 +5,7 @@ use mathlib.Core.Path.{_≡_, sym, _∙_}
 use native.Mathlib.Omega.{arith}
 use borrow.Author.Needs.{needs}
 use denote.Ref.{now}
-use Rattle.paper.specs.Answer.{reportAsPaper}
+use Rattle.paper.specs.rules.Answer.{reportAsPaper}
 use Rattle.scan.specs.declared.walk.Step.{Step}
 use Rattle.scan.proofs.Progress.{Standing, Told, standing-start, standing-done, standing-full, standing-step}
 use Rattle.scan.proofs.walk.walk.Statement.{statement}

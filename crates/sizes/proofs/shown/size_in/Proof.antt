@@ -6,8 +6,8 @@ use native.Mathlib.Omega.{arith}
 use Rattle.sizes.proofs.Scales.{Left, left-void, left-far, left-is, left-many, left-sizeless, left-lost}
 use Rattle.sizes.proofs.TableSizes.{tellIn, tellIn-cut, left-shown, stepIn-read}
 use Rattle.sizes.specs.SizeStep.{stepAsPaper}
-use Rattle.paper.specs.Answer.{sizedAsPaper}
-use Rattle.paper.specs.Size.{stepIn, exactSize, answerOf}
+use Rattle.paper.specs.rules.Answer.{sizedAsPaper}
+use Rattle.paper.specs.rules.Size.{stepIn, exactSize, answerOf}
 use Rattle.views.proofs.Shows.{tableBy-count}
 use Rattle.views.specs.Shown.{tableBy}
 use borrow.Author.Needs.{needs}

@@ -4,10 +4,10 @@ use mathlib.Core.Bool.{Bool, true, not, _&&_, _||_}
 use mathlib.Core.List.{List}
 use lib.Dec.{eqb, ltb}
 use lib.ListN.{length}
-use Rattle.paper.specs.Choice.{isEmpty}
-use Rattle.paper.specs.Kind.{NameRule, offset0, anyName, offset0OrIdentifier, identifier, nonEmpty, sectionName, Role, names, refers, holds, number}
-use Rattle.paper.specs.Name.{nameIn, isIdentifier, isSectionName}
-use Rattle.paper.specs.Table.{Record, Table, recordAt, everyWord}
+use Rattle.paper.specs.rules.Choice.{isEmpty}
+use Rattle.paper.specs.rules.Kind.{NameRule, offset0, anyName, offset0OrIdentifier, identifier, nonEmpty, sectionName, Role, names, refers, holds, number}
+use Rattle.paper.specs.rules.Name.{nameIn, isIdentifier, isSectionName}
+use Rattle.paper.specs.rules.Table.{Record, Table, recordAt, everyWord}
 
 -- what a rule asks of an offset and the name that stands there
 abbrev pub nameFits : NameRule → ℕ → List ℕ → Bool

@@ -5,10 +5,10 @@ use mathlib.Core.Bool.{true}
 use mathlib.Core.List.{List, [], _∷_}
 use mathlib.Core.Option.{none}
 use lib.ListN.{length}
-use Rattle.paper.specs.Gate.{refusal}
-use Rattle.paper.specs.Limits.{typeLimit, fullPlaces}
-use Rattle.paper.specs.Table.{Record, Table, count, kindOf, tailLength}
-use Rattle.paper.specs.Walk.{known, flat, typeLenOf}
+use Rattle.paper.specs.rules.Gate.{refusal}
+use Rattle.paper.specs.rules.Limits.{typeLimit, fullPlaces}
+use Rattle.paper.specs.rules.Table.{Record, Table, count, kindOf, tailLength}
+use Rattle.paper.specs.rules.Walk.{known, flat, typeLenOf}
 
 -- every number of a list is below a bound
 abbrev pub Below : ℕ → List ℕ → Type 0

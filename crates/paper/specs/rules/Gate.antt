@@ -5,17 +5,17 @@ use mathlib.Core.List.{List, [], _∷_, _++_}
 use mathlib.Core.Option.{Option, none, some}
 use lib.Dec.{ltb}
 use lib.ListN.{replicate}
-use Rattle.paper.specs.Answer.{Answer, reportAt, accepted}
-use Rattle.paper.specs.Chain.{endless}
-use Rattle.paper.specs.Choice.{Rule, _when_, firstDue, orElse}
-use Rattle.paper.specs.Header.{headerReport}
-use Rattle.paper.specs.Heads.{headBad}
-use Rattle.paper.specs.Layout.{layoutBad}
-use Rattle.paper.specs.Names.{nameBad}
-use Rattle.paper.specs.References.{refBad}
-use Rattle.paper.specs.Table.{Table, count}
-use Rattle.paper.specs.Tails.{tailBad}
-use Rattle.paper.specs.Walk.{Walked, records, stopped, walk, tableOf, placesOf, placeAt}
+use Rattle.paper.specs.rules.Answer.{Answer, reportAt, accepted}
+use Rattle.paper.specs.rules.Chain.{endless}
+use Rattle.paper.specs.rules.Choice.{Rule, _when_, firstDue, orElse}
+use Rattle.paper.specs.rules.Header.{headerReport}
+use Rattle.paper.specs.rules.Heads.{headBad}
+use Rattle.paper.specs.rules.Layout.{layoutBad}
+use Rattle.paper.specs.rules.Names.{nameBad}
+use Rattle.paper.specs.rules.References.{refBad}
+use Rattle.paper.specs.rules.Table.{Table, count}
+use Rattle.paper.specs.rules.Tails.{tailBad}
+use Rattle.paper.specs.rules.Walk.{Walked, records, stopped, walk, tableOf, placesOf, placeAt}
 
 -- a report's number, at the type that it names and the place of that type's record
 abbrev pub namingAt : ℕ → ℕ → Option ℕ → Option Answer

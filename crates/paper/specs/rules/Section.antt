@@ -4,9 +4,9 @@ use mathlib.Core.Bool.{Bool, true, _&&_, _||_}
 use mathlib.Core.List.{List, [], _∷_}
 use mathlib.Core.Option.{Option, none, some}
 use lib.Dec.{leb, eqb}
-use Rattle.paper.specs.Choice.{every}
-use Rattle.paper.specs.Size.{exactSize}
-use Rattle.paper.specs.Table.{Record, Table}
+use Rattle.paper.specs.rules.Choice.{every}
+use Rattle.paper.specs.rules.Size.{exactSize}
+use Rattle.paper.specs.rules.Table.{Record, Table}
 
 pub record Entry : Type 0 where
   pub variable : ℕ

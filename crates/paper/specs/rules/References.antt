@@ -3,11 +3,11 @@ use Prim.Native.Nat.{ℕ}
 use mathlib.Core.Bool.{Bool, true, false, not, _&&_, _||_}
 use mathlib.Core.List.{[], _∷_}
 use lib.Dec.{eqb}
-use Rattle.paper.specs.Choice.{member}
-use Rattle.paper.specs.Kind.{RefRule, voidOrPlain, plain, anInt, aProto, aVar, taggable, Role, names, refers, holds, number}
-use Rattle.paper.specs.KindNo.{INT, STRUCT, UNION, TYPEDEF, FUNC, FUNC-PROTO, VAR, DATASEC, DECL-TAG}
-use Rattle.paper.specs.Table.{Record, Table, recordAt, kindAt, everyWord}
-use Rattle.paper.specs.Walk.{known}
+use Rattle.paper.specs.rules.Choice.{member}
+use Rattle.paper.specs.rules.Kind.{RefRule, voidOrPlain, plain, anInt, aProto, aVar, taggable, Role, names, refers, holds, number}
+use Rattle.paper.specs.rules.KindNo.{INT, STRUCT, UNION, TYPEDEF, FUNC, FUNC-PROTO, VAR, DATASEC, DECL-TAG}
+use Rattle.paper.specs.rules.Table.{Record, Table, recordAt, kindAt, everyWord}
+use Rattle.paper.specs.rules.Walk.{known}
 
 -- "Plain kinds are all but FUNC, VAR, DATASEC, DECL_TAG"
 unfoldable pub isPlain : ℕ → Bool

@@ -5,15 +5,15 @@ use mathlib.Core.List.{List}
 use mathlib.Core.Option.{Option, none, some}
 use lib.Dec.{leb, ltb, eqb}
 use lib.ListN.{length, getD}
-use Rattle.paper.specs.Answer.{Answer, report, value}
-use Rattle.paper.specs.Choice.{isSome}
-use Rattle.paper.specs.Header.{headerLength, orderOf}
-use Rattle.paper.specs.Kind.{SizeRule, eight, sizeWord, countTimes, referent, noSize, rowOf}
-use Rattle.paper.specs.KindNo.{ARRAY}
-use Rattle.paper.specs.Limits.{sizeLimit}
-use Rattle.paper.specs.Table.{Table, count, recordAt, kindIn, kindOf}
-use Rattle.paper.specs.Walk.{known}
-use Rattle.paper.specs.Word.{wordAt}
+use Rattle.paper.specs.rules.Answer.{Answer, report, value}
+use Rattle.paper.specs.rules.Choice.{isSome}
+use Rattle.paper.specs.rules.Header.{headerLength, orderOf}
+use Rattle.paper.specs.rules.Kind.{SizeRule, eight, sizeWord, countTimes, referent, noSize, rowOf}
+use Rattle.paper.specs.rules.KindNo.{ARRAY}
+use Rattle.paper.specs.rules.Limits.{sizeLimit}
+use Rattle.paper.specs.rules.Table.{Table, count, recordAt, kindIn, kindOf}
+use Rattle.paper.specs.rules.Walk.{known}
+use Rattle.paper.specs.rules.Word.{wordAt}
 
 -- what one record says of a size: it, so many times another type's, none, or that the record cannot be read (21)
 pub data Step : Type 0 where

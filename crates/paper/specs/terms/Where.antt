@@ -3,10 +3,10 @@ use Prim.Native.Nat.{ℕ, _+_, _≤_}
 use mathlib.Core.Path.{_≡_}
 use mathlib.Core.List.{List, _++_}
 use lib.ListN.{length}
-use Rattle.paper.specs.Fit.{EveryWhole}
-use Rattle.paper.specs.Header.{headerLength}
-use Rattle.paper.specs.Table.{Record}
-use Rattle.paper.specs.Walk.{typeWords, flat, typeLenOf}
+use Rattle.paper.specs.terms.Fit.{EveryWhole}
+use Rattle.paper.specs.rules.Header.{headerLength}
+use Rattle.paper.specs.rules.Table.{Record}
+use Rattle.paper.specs.rules.Walk.{typeWords, flat, typeLenOf}
 
 -- some words begin with record k, at place o; record t begins at place p, where whole records end and words are left
 pub record Begins (ws : List ℕ) (k o t p : ℕ) : Type 0 where

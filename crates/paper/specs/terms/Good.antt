@@ -5,20 +5,20 @@ use mathlib.Core.Bool.{true, false}
 use mathlib.Core.List.{List}
 use mathlib.Core.Option.{none}
 use lib.ListN.{length, getD, take}
-use Rattle.paper.specs.Chain.{endless}
-use Rattle.paper.specs.Fit.{EveryWhole}
-use Rattle.paper.specs.Gate.{refusal}
-use Rattle.paper.specs.Header.{headerLength, opening, orderOf, typeOff, typeLen, strOff, strLen, stringsIn}
-use Rattle.paper.specs.Heads.{headOk}
-use Rattle.paper.specs.Join.{joinedBytes}
-use Rattle.paper.specs.Layout.{layoutOk}
-use Rattle.paper.specs.Limits.{byteLimit, typeLimit}
-use Rattle.paper.specs.Names.{namesOk}
-use Rattle.paper.specs.References.{refsOk}
-use Rattle.paper.specs.Table.{Record, Table, count, recordAt}
-use Rattle.paper.specs.Tails.{tailOk}
-use Rattle.paper.specs.Walk.{typeWords, tableOf, flat}
-use Rattle.paper.specs.Word.{wordAt}
+use Rattle.paper.specs.rules.Chain.{endless}
+use Rattle.paper.specs.terms.Fit.{EveryWhole}
+use Rattle.paper.specs.rules.Gate.{refusal}
+use Rattle.paper.specs.rules.Header.{headerLength, opening, orderOf, typeOff, typeLen, strOff, strLen, stringsIn}
+use Rattle.paper.specs.rules.Heads.{headOk}
+use Rattle.paper.specs.rules.Join.{joinedBytes}
+use Rattle.paper.specs.rules.Layout.{layoutOk}
+use Rattle.paper.specs.rules.Limits.{byteLimit, typeLimit}
+use Rattle.paper.specs.rules.Names.{namesOk}
+use Rattle.paper.specs.rules.References.{refsOk}
+use Rattle.paper.specs.rules.Table.{Record, Table, count, recordAt}
+use Rattle.paper.specs.rules.Tails.{tailOk}
+use Rattle.paper.specs.rules.Walk.{typeWords, tableOf, flat}
+use Rattle.paper.specs.rules.Word.{wordAt}
 
 -- phase 1: what a header and the sections behind it are
 pub record HeaderFacts (b : List ℕ) : Type 0 where

@@ -4,11 +4,11 @@ use mathlib.Core.Bool.{Bool, cond, _&&_}
 use mathlib.Core.List.{List, [], _∷_, _++_}
 use lib.Dec.{leb}
 use lib.ListN.{length, getD, take, drop}
-use Rattle.paper.specs.Header.{headerLength, opening, orderOf, typeLen, stringsIn}
-use Rattle.paper.specs.KindNo.{INT, ENUM64}
-use Rattle.paper.specs.Limits.{typeLimit}
-use Rattle.paper.specs.Table.{Record, Table, kindIn, tailLength, wordsOf}
-use Rattle.paper.specs.Word.{Order, words, bytesOfWords}
+use Rattle.paper.specs.rules.Header.{headerLength, opening, orderOf, typeLen, stringsIn}
+use Rattle.paper.specs.rules.KindNo.{INT, ENUM64}
+use Rattle.paper.specs.rules.Limits.{typeLimit}
+use Rattle.paper.specs.rules.Table.{Record, Table, kindIn, tailLength, wordsOf}
+use Rattle.paper.specs.rules.Word.{Order, words, bytesOfWords}
 
 -- what a walk of the type section finds: its records, or a report's number, the record that it names and that record's place
 pub data Walked : Type 0 where

@@ -4,11 +4,11 @@ use mathlib.Core.Path.{_≡_}
 use mathlib.Core.Bool.{Bool, true, cond, _||_}
 use mathlib.Core.List.{List, [], _∷_, List·Memᴰ}
 use lib.Dec.{eqb}
-use Rattle.paper.specs.Choice.{member, any}
-use Rattle.paper.specs.Kind.{Role, names, refers, holds, number}
-use Rattle.paper.specs.KindNo.{PTR}
-use Rattle.paper.specs.Span.{aliases}
-use Rattle.paper.specs.Table.{Table, count, recordAt, kindAt, rolesOf, wordsOf}
+use Rattle.paper.specs.rules.Choice.{member, any}
+use Rattle.paper.specs.rules.Kind.{Role, names, refers, holds, number}
+use Rattle.paper.specs.rules.KindNo.{PTR}
+use Rattle.paper.specs.rules.Span.{aliases}
+use Rattle.paper.specs.rules.Table.{Table, count, recordAt, kindAt, rolesOf, wordsOf}
 
 -- a step's end in front of the others: "void not counted as a step's end"
 abbrev pub stepTo : ℕ → List ℕ → List ℕ

@@ -5,11 +5,11 @@ use mathlib.Core.List.{List, [], _∷_}
 use mathlib.Core.Option.{Option, none, some}
 use lib.Dec.{eqb, leb}
 use lib.ListN.{take}
-use Rattle.paper.specs.Join.{JoinOutcome, join}
-use Rattle.paper.specs.Limits.{typeLimit, byteLimit, fullPlaces}
-use Rattle.paper.specs.Table.{Table, count}
-use Rattle.paper.specs.Walk.{blobLength, bytesOf}
-use Rattle.paper.specs.Word.{Order}
+use Rattle.paper.specs.rules.Join.{JoinOutcome, join}
+use Rattle.paper.specs.rules.Limits.{typeLimit, byteLimit, fullPlaces}
+use Rattle.paper.specs.rules.Table.{Table, count}
+use Rattle.paper.specs.rules.Walk.{blobLength, bytesOf}
+use Rattle.paper.specs.rules.Word.{Order}
 
 abbrev pub handed : JoinOutcome → Option (List ℕ)
 handed j = cond (eqb (j .answer .number) 0) (some (take (j .answer .p) (j .output))) none

@@ -4,14 +4,14 @@ use mathlib.Core.List.{List, [], _∷_, _++_, map}
 use mathlib.Core.Option.{Option, none, some}
 use lib.Dec.{ltb}
 use lib.ListN.{length, drop}
-use Rattle.paper.specs.Answer.{Answer, value, inside}
-use Rattle.paper.specs.Choice.{Rule, _when_, firstDue, orElse}
-use Rattle.paper.specs.Gate.{refusal, naming, zeros}
-use Rattle.paper.specs.Header.{orderOf}
-use Rattle.paper.specs.Limits.{typeLimit, byteLimit}
-use Rattle.paper.specs.Rename.{rename, raise}
-use Rattle.paper.specs.Table.{Record, Table, count}
-use Rattle.paper.specs.Walk.{tableOf, bytesOf}
+use Rattle.paper.specs.rules.Answer.{Answer, value, inside}
+use Rattle.paper.specs.rules.Choice.{Rule, _when_, firstDue, orElse}
+use Rattle.paper.specs.rules.Gate.{refusal, naming, zeros}
+use Rattle.paper.specs.rules.Header.{orderOf}
+use Rattle.paper.specs.rules.Limits.{typeLimit, byteLimit}
+use Rattle.paper.specs.rules.Rename.{rename, raise}
+use Rattle.paper.specs.rules.Table.{Record, Table, count}
+use Rattle.paper.specs.rules.Walk.{tableOf, bytesOf}
 
 -- a record of a second table "as demand 3 raises" it: type numbers by the first's count, name offsets by its string length less one
 abbrev pub raised : Table → Record → Record

@@ -6,14 +6,14 @@ use mathlib.Core.Bool.{true, false}
 use mathlib.Core.List.{List}
 use mathlib.Core.Logic.{_⊎_}
 use lib.ListN.{length, getD}
-use Rattle.paper.specs.Answer.{Answer}
-use Rattle.paper.specs.Good.{HeaderFacts, WholeWalk}
-use Rattle.paper.specs.Header.{headerRules}
-use Rattle.paper.specs.Limits.{typeLimit}
-use Rattle.paper.specs.Smallest.{DueFirst}
-use Rattle.paper.specs.Table.{count, kindIn, tailLength}
-use Rattle.paper.specs.Walk.{known, typeWords, tableOf}
-use Rattle.paper.specs.Where.{StandsAt}
+use Rattle.paper.specs.rules.Answer.{Answer}
+use Rattle.paper.specs.terms.Good.{HeaderFacts, WholeWalk}
+use Rattle.paper.specs.rules.Header.{headerRules}
+use Rattle.paper.specs.rules.Limits.{typeLimit}
+use Rattle.paper.specs.terms.Smallest.{DueFirst}
+use Rattle.paper.specs.rules.Table.{count, kindIn, tailLength}
+use Rattle.paper.specs.rules.Walk.{known, typeWords, tableOf}
+use Rattle.paper.specs.terms.Where.{StandsAt}
 
 -- what is wrong, by its number, with record t, which the words that are left begin with, where so many records may stand
 pub data Fault (limit number t : ℕ) (left : List ℕ) : Type 0 where

@@ -4,11 +4,11 @@ use mathlib.Core.Path.{_≡_}
 use mathlib.Core.Bool.{true, false}
 use mathlib.Core.List.{List, [], _∷_}
 use mathlib.Core.Logic.{_⊎_}
-use Rattle.paper.specs.Answer.{Answer}
-use Rattle.paper.specs.Choice.{Rule, _when_}
-use Rattle.paper.specs.Gate.{phase3, phase4, phase5, phase6}
-use Rattle.paper.specs.Table.{Table, count}
-use Rattle.paper.specs.Walk.{placeAt}
+use Rattle.paper.specs.rules.Answer.{Answer}
+use Rattle.paper.specs.rules.Choice.{Rule, _when_}
+use Rattle.paper.specs.rules.Gate.{phase3, phase4, phase5, phase6}
+use Rattle.paper.specs.rules.Table.{Table, count}
+use Rattle.paper.specs.rules.Walk.{placeAt}
 
 -- none of some rules is due
 abbrev pub NoneDue : List Rule → Type 0

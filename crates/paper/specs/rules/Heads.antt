@@ -2,9 +2,9 @@
 use Prim.Native.Nat.{ℕ}
 use mathlib.Core.Bool.{Bool, true, not, _&&_}
 use lib.Dec.{eqb}
-use Rattle.paper.specs.Choice.{member}
-use Rattle.paper.specs.Kind.{Values, free, oneOf}
-use Rattle.paper.specs.Table.{Record, Table, recordAt, bits, vlenOf, flagOf, rowIn}
+use Rattle.paper.specs.rules.Choice.{member}
+use Rattle.paper.specs.rules.Kind.{Values, free, oneOf}
+use Rattle.paper.specs.rules.Table.{Record, Table, recordAt, bits, vlenOf, flagOf, rowIn}
 
 abbrev pub allowed : Values → ℕ → Bool
 allowed free w = true

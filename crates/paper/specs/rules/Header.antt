@@ -5,9 +5,9 @@ use mathlib.Core.List.{List, [], _∷_}
 use mathlib.Core.Option.{Option}
 use lib.Dec.{ltb, eqb}
 use lib.ListN.{length, getD, take, drop}
-use Rattle.paper.specs.Choice.{differ, same, Rule, _when_, firstDue}
-use Rattle.paper.specs.Limits.{byteLimit}
-use Rattle.paper.specs.Word.{Order, lowFirst, wordAt}
+use Rattle.paper.specs.rules.Choice.{differ, same, Rule, _when_, firstDue}
+use Rattle.paper.specs.rules.Limits.{byteLimit}
+use Rattle.paper.specs.rules.Word.{Order, lowFirst, wordAt}
 
 abbrev pub headerLength : ℕ
 headerLength = 24

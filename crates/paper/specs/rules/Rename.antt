@@ -1,8 +1,8 @@
 -- New numbers for the types and new offsets for the names of a record: each word by its role, once for all kinds.
 use Prim.Native.Nat.{ℕ, zero, suc, _+_}
 use mathlib.Core.List.{List, [], _∷_}
-use Rattle.paper.specs.Kind.{Role, names, refers, holds, number}
-use Rattle.paper.specs.Table.{Record, rowIn, tailRoles}
+use Rattle.paper.specs.rules.Kind.{Role, names, refers, holds, number}
+use Rattle.paper.specs.rules.Table.{Record, rowIn, tailRoles}
 
 module _ (type name : ℕ → ℕ) where
   abbrev pub renameWord : Role → ℕ → ℕ

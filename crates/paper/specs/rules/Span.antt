@@ -4,11 +4,11 @@ use mathlib.Core.Bool.{Bool, true, false, not, cond, _&&_, _||_}
 use mathlib.Core.List.{List, [], _∷_}
 use mathlib.Core.Option.{Option, none, some}
 use lib.Dec.{leb, eqb}
-use Rattle.paper.specs.Choice.{member}
-use Rattle.paper.specs.KindNo.{INT, ENUM, TYPEDEF, VOLATILE, CONST, RESTRICT, TYPE-TAG, ENUM64}
-use Rattle.paper.specs.Size.{smallSize}
-use Rattle.paper.specs.Table.{Record, Table, count, recordAt, kindAt, kindOf, bits}
-use Rattle.paper.specs.Tails.{intWord, offsetIn, widthIn}
+use Rattle.paper.specs.rules.Choice.{member}
+use Rattle.paper.specs.rules.KindNo.{INT, ENUM, TYPEDEF, VOLATILE, CONST, RESTRICT, TYPE-TAG, ENUM64}
+use Rattle.paper.specs.rules.Size.{smallSize}
+use Rattle.paper.specs.rules.Table.{Record, Table, count, recordAt, kindAt, kindOf, bits}
+use Rattle.paper.specs.rules.Tails.{intWord, offsetIn, widthIn}
 
 pub record Member : Type 0 where
   pub name : ℕ

@@ -1,6 +1,6 @@
 -- Every answer in the paper's numbers, and which numbers each case of each answer enum is. Promises speak through these.
 use Prim.Native.Nat.{ℕ, _+_}
-use Rattle.paper.specs.Limits.{typeLimit}
+use Rattle.paper.specs.rules.Limits.{typeLimit}
 use Rattle.paper.specs.declared.Report.{Report}
 use Rattle.paper.specs.declared.Report.the-variants.{Length, Opening, HeaderLength, Sections, Strings, RecordCut, UnknownKind, ManyTypes, SlicesShort, Head, Named, Tail, Reference, Endless, Layout}
 use Rattle.paper.specs.declared.Checked.{Checked}

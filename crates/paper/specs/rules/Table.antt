@@ -3,8 +3,8 @@ use Prim.Native.Nat.{ℕ, zero, suc, _+_, _-_, _*_, _/_, _%_, _^_}
 use mathlib.Core.Bool.{Bool, true, _&&_}
 use mathlib.Core.List.{List, [], _∷_, _++_}
 use lib.ListN.{length, getD}
-use Rattle.paper.specs.Choice.{times}
-use Rattle.paper.specs.Kind.{Row, Role, names, number, rowOf}
+use Rattle.paper.specs.rules.Choice.{times}
+use Rattle.paper.specs.rules.Kind.{Row, Role, names, number, rowOf}
 
 -- "Head: name_off, info, size or type", and the words of the tail
 pub record Record : Type 0 where

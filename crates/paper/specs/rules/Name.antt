@@ -5,8 +5,8 @@ use mathlib.Core.List.{List, [], _∷_}
 use mathlib.Core.Option.{Option, none, some}
 use lib.Dec.{leb, ltb, eqb}
 use lib.ListN.{length, drop}
-use Rattle.paper.specs.Choice.{every, isSome}
-use Rattle.paper.specs.Header.{headerLength, typeLen, stringsIn, strLen, headerReport}
+use Rattle.paper.specs.rules.Choice.{every, isSome}
+use Rattle.paper.specs.rules.Header.{headerLength, typeLen, stringsIn, strLen, headerReport}
 
 -- up to the first zero byte
 abbrev pub untilZero : List ℕ → List ℕ

@@ -4,9 +4,9 @@ use mathlib.Core.Bool.{Bool, true, not, _&&_, _||_}
 use mathlib.Core.List.{List, [], _∷_}
 use lib.Dec.{eqb, leb}
 use lib.ListN.{getD}
-use Rattle.paper.specs.Choice.{member, differ, isEmpty}
-use Rattle.paper.specs.KindNo.{INT, VAR, FUNC-PROTO}
-use Rattle.paper.specs.Table.{Record, Table, recordAt, bits, kindOf}
+use Rattle.paper.specs.rules.Choice.{member, differ, isEmpty}
+use Rattle.paper.specs.rules.KindNo.{INT, VAR, FUNC-PROTO}
+use Rattle.paper.specs.rules.Table.{Record, Table, recordAt, bits, kindOf}
 
 -- the word of an INT: "bits 0 to 7 width, 16 to 23 offset, 24 to 27 encoding, the others 0"
 abbrev pub widthIn : ℕ → ℕ

@@ -4,13 +4,13 @@ use mathlib.Core.Bool.{Bool, true, not, cond, _&&_, _||_}
 use mathlib.Core.List.{List, [], _∷_, map}
 use lib.Dec.{leb, ltb, eqb}
 use lib.ListN.{getD}
-use Rattle.paper.specs.Choice.{member, differ, every}
-use Rattle.paper.specs.KindNo.{ARRAY, STRUCT, UNION, FUNC, VAR, DATASEC, DECL-TAG}
-use Rattle.paper.specs.Section.{sectionOk}
-use Rattle.paper.specs.Size.{hasSize, hasSmallSize}
-use Rattle.paper.specs.Span.{Member, membersOf, spanOf, bitOffset, endsBy, isRegular}
-use Rattle.paper.specs.Table.{Record, Table, recordAt, kindOf, vlenOf, flagOf}
-use Rattle.paper.specs.Tails.{Parameter, parametersOf, isLast00}
+use Rattle.paper.specs.rules.Choice.{member, differ, every}
+use Rattle.paper.specs.rules.KindNo.{ARRAY, STRUCT, UNION, FUNC, VAR, DATASEC, DECL-TAG}
+use Rattle.paper.specs.rules.Section.{sectionOk}
+use Rattle.paper.specs.rules.Size.{hasSize, hasSmallSize}
+use Rattle.paper.specs.rules.Span.{Member, membersOf, spanOf, bitOffset, endsBy, isRegular}
+use Rattle.paper.specs.rules.Table.{Record, Table, recordAt, kindOf, vlenOf, flagOf}
+use Rattle.paper.specs.rules.Tails.{Parameter, parametersOf, isLast00}
 
 -- "Every span ends by 8 times the struct's size"
 unfoldable pub memberOk : Table → Record → Member → Bool

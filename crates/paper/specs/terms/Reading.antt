@@ -3,10 +3,10 @@ use Prim.Native.Nat.{ℕ, zero, suc, _+_, _*_}
 use mathlib.Core.Bool.{Bool, _&&_}
 use mathlib.Core.List.{List, [], _∷_}
 use lib.ListN.{length}
-use Rattle.paper.specs.Choice.{times}
-use Rattle.paper.specs.Kind.{Role, rowOf}
-use Rattle.paper.specs.Table.{Record, kindIn, vlenIn, tailLength, everyRoled}
-use Rattle.paper.specs.Word.{Order, wordAt}
+use Rattle.paper.specs.rules.Choice.{times}
+use Rattle.paper.specs.rules.Kind.{Role, rowOf}
+use Rattle.paper.specs.rules.Table.{Record, kindIn, vlenIn, tailLength, everyRoled}
+use Rattle.paper.specs.rules.Word.{Order, wordAt}
 
 module _ (order : Order) where
   -- so many words from a place on

@@ -1,0 +1,23 @@
+-- The rules of the paper, one file for each part of it, in its order.
+pub mod Answer
+pub mod Choice
+pub mod Limits
+pub mod Word
+pub mod KindNo
+pub mod Kind
+pub mod Table
+pub mod Header
+pub mod Walk
+pub mod Name
+pub mod Heads
+pub mod Names
+pub mod Tails
+pub mod References
+pub mod Chain
+pub mod Size
+pub mod Span
+pub mod Section
+pub mod Layout
+pub mod Gate
+pub mod Rename
+pub mod Join
