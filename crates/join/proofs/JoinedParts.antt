@@ -3,29 +3,32 @@
 use Prim.Native.Nat.{ℕ, _+_, _-_, _≤_}
 use mathlib.Core.Path.{_≡_, refl, sym, ap, ap₂, _∙_}
 use mathlib.Core.List.{List, [], _∷_, _++_, map, append-assoc, append-nil}
+use mathlib.Core.Option.{none}
 use native.Mathlib.Omega.{arith}
 use lib.ListN.{length, take, drop, length-append, length-drop}
 use lib.Seq.{drop-drop, drop-length, length-take-le}
 use Rattle.join.specs.Joins.{WriteAsk}
-use Rattle.join.specs.Raising.{recordsBytes, RecordsAsk}
-use Rattle.join.specs.declared.groups.Shift.{Shift}
-use Rattle.join.proofs.RaisedRecords.{length-recordsBytes}
-use Rattle.paper.proofs.bytes.Blobs.{header-first, typeWords-bytes, strings-tableOf, strings-length, types-length}
-use Rattle.paper.proofs.bytes.Bytes.{part-rest, bytesOfWords-append}
+use Rattle.paper.proofs.bytes.Blobs.{bytesOf-tableOf, tableOf-fits, header-first, typeWords-bytes, strings-tableOf, strings-length, types-length}
+use Rattle.paper.proofs.bytes.Bytes.{part-rest, part-back, bytesOfWords-append}
+use Rattle.paper.proofs.bytes.Headers.{facts-headerReport}
 use Rattle.paper.proofs.bytes.Places.{flat-append}
-use Rattle.paper.proofs.bytes.Puts.{put-put}
+use Rattle.paper.proofs.bytes.Puts.{length-put, put-put, put-front, put-whole, put-behind, laid-fits}
 use Rattle.paper.proofs.bytes.Tables.{headerOf, bytesOf-parts, length-bytesOf}
-use Rattle.paper.proofs.gates.Acceptance.{accepted-meets, accepted-closed}
+use Rattle.paper.proofs.gates.Acceptance.{accepted-meets, accepted-closed, readable-walk}
 use Rattle.paper.proofs.joins.Grouping.{words-join}
 use Rattle.paper.proofs.joins.Joining.{length-strings}
 use Rattle.paper.specs.terms.Good.{Readable}
-use Rattle.paper.specs.rules.Header.{orderOf, typeLen, strLen, stringsIn}
+use Rattle.paper.specs.rules.Header.{headerReport, orderOf, typeLen, strLen, stringsIn}
 use Rattle.paper.specs.rules.Join.{raised, joinTables, joinedBytes}
 use Rattle.paper.specs.rules.Limits.{byteLimit}
-use Rattle.paper.specs.terms.Put.{put}
+use Rattle.paper.specs.terms.Put.{put, laid}
 use Rattle.paper.specs.rules.Rename.{rename, raise}
-use Rattle.paper.specs.rules.Walk.{tableOf, flat, typeLenOf}
+use Rattle.paper.specs.rules.Table.{Table}
+use Rattle.paper.specs.rules.Walk.{records, walk, tableOf, flat, typeLenOf}
 use Rattle.paper.specs.rules.Word.{lowFirst, wordAt, bytesOfWords}
+use Rattle.shift.proofs.RaisedRecords.{length-recordsBytes, raisedRun-records}
+use Rattle.shift.specs.Raising.{recordsBytes, raisedRun}
+use Rattle.shift.specs.declared.groups.Shift.{Shift}
 
 -- ── the lengths ──
 
@@ -56,17 +59,11 @@ module _ {b : List ℕ} {places work : ℕ} (r : Readable b places work) where
   unfolding orderOf typeLen strLen
   readable-widths = let f = r .header in record { sum = f .sum; some-strings = f .some-strings; short = f .short }
 
--- one run behind another, and all of an output
+-- one run behind another
 pub put-next : (out : List ℕ) (s : List ℕ) {out₁ out₂ : List ℕ} {q : ℕ} (t : List ℕ) → length s ≤ length out → q ≡ length s
     → out₁ ≡ put out 0 s → out₂ ≡ put out₁ q t → out₂ ≡ put out 0 (s ++ t)
 put-next out s {out₁} {out₂} {q} t room far e f =
     f ∙ ap (λ (o : List ℕ). put o q t) e ∙ put-put out 0 s (omega arith) (omega arith) t
-
-pub put-whole : (out s : List ℕ) → length s ≡ length out → put out 0 s ≡ s
-unfolding put
-put-whole out s e =
-    let far : 0 + length s ≡ length out = omega arith in
-    ap (λ (n : ℕ). s ++ drop n out) far ∙ ap (λ (t : List ℕ). s ++ t) (drop-length out) ∙ append-nil s
 
 -- ── the parts ──
 
@@ -117,22 +114,33 @@ module _ {a b : List ℕ} {n m room : ℕ} (w : WriteAsk a b n m room) where
       let t = w .short in
       record { first-sum = omega arith; second-sum = omega arith; first-some = omega arith; second-some = omega arith; sum = omega arith; short = omega arith }
 
-  pub records-ask : {first room₁ : ℕ} → first ≡ wordAt lowFirst a 12 → room₁ ≡ room → RecordsAsk b m first room₁
+  -- the second's records, raised into the output from a place on
+  records-run : (by : Shift) (out : List ℕ) (q : ℕ) → q + wordAt lowFirst b 12 ≤ length out → take q out ++ raisedRun by m (drop 24 b) (drop q out) ≡ put out q (recordsBytes by (tableOf b .records))
   unfolding orderOf typeLen
-  records-ask e same =
-      let r = joined-room in
-      let s = types-length b (readable-second .header) (readable-second .section) in
-      let short = w .short in
-      let f = w .fits in
-      record {
-        places = w .both .places;
-        work = w .both .work;
-        bytes = w .both .second-bytes;
-        readable = readable-second;
-        counted = w .both .second-count;
-        fits = omega arith;
-        small = omega arith;
-      }
+  records-run by out q room =
+      let T : Table = tableOf b in
+      let x : List ℕ = recordsBytes by (T .records) in
+      let fits = tableOf-fits b (w .both .second-bytes) silent (T .records) walked in
+      let long = types-length b (readable-second .header) (readable-second .section) in
+      let wide = length-recordsBytes by (T .records) in
+      let d = length-drop q out in
+      ap₂ (λ (k : ℕ) (s : List ℕ). take q out ++ raisedRun by k s (drop q out)) (w .both .second-count) behind
+      ∙ ap (λ (t : List ℕ). take q out ++ t)
+      (raisedRun-records by (T .records) (T .strings) (drop q out) (fits .whole) (fits .words-fit) (omega arith)
+      ∙ ap (λ (k : ℕ). x ++ drop k (drop q out)) (sym wide)
+      ∙ sym (put-front (drop q out) x))
+      ∙ put-behind out q x
+    where
+      silent : headerReport b ≡ none
+      silent = facts-headerReport b (readable-second .header)
+
+      walked : walk b ≡ records (tableOf b .records)
+      walked = readable-walk b (w .both .places) (w .both .work) readable-second
+
+      behind : drop 24 b ≡ bytesOfWords lowFirst (flat (tableOf b .records)) ++ tableOf b .strings
+      behind =
+          ap (drop 24) (sym (bytesOf-tableOf b (w .both .second-bytes) silent (tableOf b .records) walked))
+          ∙ ap (drop 24) (bytesOf-parts lowFirst (tableOf b))
 
   -- the header that is written is that of the joined blob
   header-part : (types strings : ℕ) → headerOf lowFirst types strings ≡ take 12 a ++ bytesOfWords lowFirst (types ∷ types ∷ strings ∷ [])
@@ -227,20 +235,40 @@ module _ {a b : List ℕ} {n m room : ℕ} (w : WriteAsk a b n m room) where
         regroup : (u v x y z : List ℕ) → u ++ v ++ x ++ y ++ z ≡ u ++ ((v ++ x) ++ (y ++ z))
         regroup u v x y z = simp append-assoc
 
-    -- the same, as code cuts the parts out
-    pub write-parts : (out : List ℕ) {out₁ out₂ out₃ out₄ out₅ : List ℕ} {first second strings₁ : ℕ}
+    -- the same, as code cuts the parts out, lays them, and gets one back
+    pub write-parts : (out : List ℕ) {out₁ out₂ part out₄ out₅ : List ℕ} {first second strings₁ : ℕ}
         → first ≡ wordAt lowFirst a 12 → second ≡ wordAt lowFirst b 12 → strings₁ ≡ wordAt lowFirst a 20
         → length out ≡ room
         → out₁ ≡ put out 0 header
-        → out₂ ≡ put out₁ 24 (take (24 + first - 24) (drop 24 a))
-        → out₃ ≡ put out₂ (first + 24) seconds
-        → out₄ ≡ put out₃ (24 + types) (take (length a - (24 + first)) (drop (24 + first) a))
-        → out₅ ≡ put out₄ (24 + types + strings₁) (take (length b - (25 + second)) (drop (25 + second) b))
+        → out₂ ≡ laid out₁ 24 (take (24 + first - 24) (drop 24 a))
+        → part ≡ raisedRun by m (take (length b - 24) (drop 24 b)) (take (length out₂ - (24 + first)) (drop (24 + first) out₂))
+        → let out₃ = take (24 + first) out₂ ++ (part ++ drop (length out₂ - (24 + first)) (drop (24 + first) out₂)) in
+        out₄ ≡ laid out₃ (24 + types) (take (length a - (24 + first)) (drop (24 + first) a))
+        → out₅ ≡ laid out₄ (24 + types + strings₁) (take (length b - (25 + second)) (drop (25 + second) b))
+        → length out₁ ≡ length out → length out₂ ≡ length out₁ → length out₄ ≡ length out₃
         → out₅ ≡ joinedBytes a b
-    write-parts out {out₁} {out₂} {out₃} {out₄} {out₅} {first} {second} {strings₁} e f g same p₁ p₂ p₃ p₄ p₅ =
+    unfolding orderOf typeLen
+    write-parts out {out₁} {out₂} {part} {out₄} {out₅} {first} {second} {strings₁} e f g same p₁ p₂ p₃ p₄ p₅ l₁ l₂ l₄ =
+        let wa = widths-first .sum in
+        let wb = widths-second .sum in
+        let sa = widths-first .some-strings in
+        let sb = widths-second .some-strings in
+        let whole = joined-room in
         let cut : 24 + first - 24 ≡ wordAt lowFirst a 12 = omega arith in
+        let there : 24 + first ≡ wordAt lowFirst a 12 + 24 = omega arith in
+        let n₂ = length-part a first (omega arith) in
+        let n₃ = length-recordsBytes by (tableOf b .records) ∙ types-length b (readable-second .header) (readable-second .section) in
+        let n₄ = length-rest a (24 + first) in
+        let n₅ = length-rest b (25 + second) in
+        let out₃ : List ℕ = take (24 + first) out₂ ++ (part ++ drop (length out₂ - (24 + first)) (drop (24 + first) out₂)) in
+        let q₃ : out₃ ≡ put out₂ (24 + first) seconds =
+        part-back out₂ (24 + first) part
+        ∙ ap (λ (t : List ℕ). take (24 + first) out₂ ++ t) p₃
+        ∙ ap₂ (λ (s t : List ℕ). take (24 + first) out₂ ++ raisedRun by m s t) (part-rest b 24) (part-rest out₂ (24 + first))
+        ∙ records-run by out₂ (24 + first) (omega arith) in
+        let l₃ = ap length q₃ ∙ length-put out₂ (24 + first) seconds (omega arith) in
         write-joined out same p₁
-        (p₂ ∙ ap (λ (k : ℕ). put out₁ 24 (take k (drop 24 a))) cut) refl
-        p₃ (omega arith)
-        (p₄ ∙ ap (put out₃ (24 + types)) (part-rest a (24 + first) ∙ ap (λ (k : ℕ). drop (24 + k) a) e)) refl
-        (p₅ ∙ ap (put out₄ (24 + types + strings₁)) (part-rest b (25 + second) ∙ ap (λ (k : ℕ). drop (25 + k) b) f)) (omega arith)
+        (p₂ ∙ sym (laid-fits out₁ 24 _ (omega arith)) ∙ ap (λ (k : ℕ). put out₁ 24 (take k (drop 24 a))) cut) refl
+        q₃ there
+        (p₄ ∙ sym (laid-fits out₃ (24 + types) _ (omega arith)) ∙ ap (put out₃ (24 + types)) (part-rest a (24 + first) ∙ ap (λ (k : ℕ). drop (24 + k) a) e)) refl
+        (p₅ ∙ sym (laid-fits out₄ (24 + types + strings₁) _ (omega arith)) ∙ ap (put out₄ (24 + types + strings₁)) (part-rest b (25 + second) ∙ ap (λ (k : ℕ). drop (25 + k) b) f)) (omega arith)

@@ -1,11 +1,10 @@
 // The joined blob is written: "the header, the first's records, the second's as demand 3 raises them, the first's strings,
 // the second's strings without their first byte".
-use crate::groups::Shift;
-use crate::records::raise_records;
-use crate::runs::copy;
 use paper::NameOff;
 use paper::Place;
 use paper::TypeNo;
+use shift::Shift;
+use shift::raise_records;
 ghost use mathlib.Core.Path.{_≡_};
 ghost use mathlib.Core.List.{[], _∷_, _++_};
 ghost use Prim.Native.Nat.{_≤_};
@@ -20,7 +19,7 @@ fn write_header(a: &[u8], types: u32, strings: u32, out: &mut [u8])
     requires { ⌜ (24 ≤ length (now a)) × (24 ≤ length (now out)) ⌝ }
     ensures { λ r. ⌜ now (out .exit) ≡ put (now (out .entry)) 0 (take 12 (now (a .entry)) ++ bytesOfWords lowFirst (types ∷ types ∷ strings ∷ [])) ⌝ }
 {
-    copy(&a[..12], out, Place(0));
+    words::lay(out, 0, &a[..12]);
     words::write(out, Place(12), types);
     words::write(out, Place(16), types);
     words::write(out, Place(20), strings);
@@ -39,16 +38,16 @@ pub(crate) fn write(a: &[u8], b: &[u8], n: u32, m: u32, out: &mut [u8])
     let strings = first_strings + (second_strings - 1);
     write_header(a, types, strings, out);
     let end = 24 + first as usize;
-    copy(&a[24..end], out, Place(24));
+    words::lay(out, 24, &a[24..end]);
     let names = first_strings - 1;
     let by = Shift {
         types: TypeNo(n),
         names: NameOff(names),
     };
-    raise_records(b, m, by, out, first);
-    let behind = 24 + types;
-    copy(&a[end..], out, Place(behind));
+    raise_records(&b[24..], m, by, &mut out[end..]);
+    let behind = 24 + types as usize;
+    words::lay(out, behind, &a[end..]);
     let skip = 25 + second as usize;
-    let last = behind + first_strings;
-    copy(&b[skip..], out, Place(last));
+    let last = behind + first_strings as usize;
+    words::lay(out, last, &b[skip..]);
 }

@@ -1,12 +1,14 @@
-// Words of 32 bits at a place of a slice, the bytes from a place on, and the shift of a number by its kind.
-// Total: a word that is not wholly inside reads as 0 and is not written.
+// Words of 32 bits at a place of a slice, the bytes from a place on, a run of bytes laid over others, and the shift of a number by its kind.
+// Total: a word that is not wholly inside reads as 0 and is not written, and a run that does not fit is not laid.
 use paper::NameOff;
 use paper::Place;
 use paper::TypeNo;
 ghost use mathlib.Core.Path.{_≡_};
-ghost use Prim.Native.Nat.{_%_};
+ghost use Prim.Native.Nat.{_+_, _%_, _≤_};
+ghost use lib.ListN.{length};
 ghost use Rattle.paper.specs.rules.Rename.{raise};
 ghost use Rattle.paper.specs.rules.Word.{lowFirst, wordOf, wordAt, putWord};
+ghost use Rattle.paper.specs.terms.Put.{laid, put};
 ghost use Rattle.words.specs.Rest.{RestOf};
 
 // The word of four bytes.
@@ -49,6 +51,30 @@ pub fn write(b: &mut [u8], at: Place, w: u32)
     b[p + 1] = (w / 256 % 256) as u8;
     b[p + 2] = (w / 65536 % 256) as u8;
     b[p + 3] = (w / 16777216 % 256) as u8;
+}
+
+fn copy(out: &mut [u8], at: usize, s: &[u8])
+    requires { ⌜ at + length (now s) ≤ length (now out) ⌝ }
+    ensures { λ r. ⌜ now (out .exit) ≡ put (now (out .entry)) at (now (s .entry)) ⌝ }
+{
+    let mut i = 0;
+    while i < s.len() {
+        out[at + i] = s[i];
+        i += 1;
+    }
+}
+
+// The bytes are laid over others, from a place on. Nothing changes where they do not fit behind it.
+pub fn lay(out: &mut [u8], at: usize, s: &[u8])
+    ensures { λ r. ⌜ now (out .exit) ≡ laid (now (out .entry)) at (now (s .entry)) ⌝ }
+{
+    if out.len() < at {
+        return;
+    }
+    if out.len() - at < s.len() {
+        return;
+    }
+    copy(out, at, s)
 }
 
 // The number raised, in 32 bits; 0 stands.

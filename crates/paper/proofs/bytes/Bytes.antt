@@ -1,11 +1,11 @@
 -- Laws of `Word` and `Fit`, in any byte order: runs of words and runs of bytes undo each other, and what of a bounded list is bounded.
 -- Assumes nothing.
 use Prim.Native.Nat.{ℕ, zero, suc, _-_, _*_, _/_, _%_}
-use mathlib.Core.Path.{_≡_, refl, ap, _∙_}
-use mathlib.Core.List.{List, [], _∷_, _++_}
+use mathlib.Core.Path.{_≡_, refl, sym, ap, _∙_}
+use mathlib.Core.List.{List, [], _∷_, _++_, append-nil}
 use native.Mathlib.Omega.{arith}
 use lib.ListN.{length, getD, take, drop, length-drop}
-use lib.Seq.{take-all}
+use lib.Seq.{take-all, drop-length}
 use mir.Syntax.{w8}
 use mir.Val.{Fits}
 use Rattle.paper.specs.terms.Fit.{Below, Bytes, wordBound}
@@ -43,6 +43,13 @@ below-drop n (suc k) (x ∷ s) h = below-drop n k s (h .1)
 -- the rest of a list, as a part of a slice has it
 pub part-rest : (b : List ℕ) (p : ℕ) → take (length b - p) (drop p b) ≡ drop p b
 part-rest b p = take-all (length b - p) (drop p b) (simp length-drop (omega arith))
+
+-- and what a slice is where other bytes have come back for that part
+pub part-back : (b : List ℕ) (p : ℕ) (s : List ℕ) → take p b ++ (s ++ drop (length b - p) (drop p b)) ≡ take p b ++ s
+part-back b p s =
+    ap (λ (n : ℕ). take p b ++ (s ++ drop n (drop p b))) (sym (length-drop p b))
+    ∙ ap (λ (t : List ℕ). take p b ++ (s ++ t)) (drop-length (drop p b))
+    ∙ ap (λ (t : List ℕ). take p b ++ t) (append-nil s)
 
 -- a u8 slice holds bytes: what code knows of every element of one
 pub slice-bytes : (b : List ℕ) → ((i : ℕ) → Fits w8 (getD b i 0)) → Bytes b

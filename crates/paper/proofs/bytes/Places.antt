@@ -92,25 +92,31 @@ module _ (order : Order) (T : Table) (t : ℕ) (h : t < count T) where
 -- ── the words read there ──
 
 -- the words of bytes made from words, one by one
-firstWord-at : (order : Order) (ws s : List ℕ) (j : ℕ) → Below wordBound ws → j < length ws → firstWord order (drop (4 * j) (bytesOfWords order ws ++ s)) ≡ getD ws j 0
+pub firstWord-at : (order : Order) (ws s : List ℕ) (j : ℕ) → Below wordBound ws → j < length ws → firstWord order (drop (4 * j) (bytesOfWords order ws ++ s)) ≡ getD ws j 0
 firstWord-at order [] s j fit h = absurd (omega arith)
 firstWord-at order (w ∷ ws) s zero fit h = firstWord-wordBytes order w (bytesOfWords order ws ++ s) (fit .0)
 firstWord-at order (w ∷ ws) s (suc j) fit h =
     let four : 4 * suc j ≡ suc (suc (suc (suc (4 * j)))) = omega arith in
     ap (λ (n : ℕ). firstWord order (drop n (bytesOfWords order (w ∷ ws) ++ s))) four ∙ firstWord-at order ws s j (fit .1) (omega arith)
 
+-- the words of each record of a table that some blob can hold fit words
+pub record-fits : (T : Table) → Fits T → (t : ℕ) → t < count T → Below wordBound (wordsOf (getD (T .records) t nothing))
+record-fits T fits t h =
+    let before : List ℕ = flat (take t (T .records)) in
+    let here : List ℕ = wordsOf (getD (T .records) t nothing) in
+    let after : List ℕ = flat (drop (suc t) (T .records)) in
+    let all : Below wordBound (before ++ (here ++ after)) = rw (flat-at (T .records) t h) at (fits .words-fit) in
+    below-left wordBound here after (below-right wordBound before (here ++ after) all)
+
 -- word j of a record is read 4 * j bytes behind the record's place
 pub place-word : (order : Order) (T : Table) → Fits T → (t : ℕ) → t < count T → (j : ℕ) → j < length (wordsOf (getD (T .records) t nothing))
     → wordAt order (bytesOf order T) (getD (placesOf T) t 0 + 4 * j) ≡ getD (wordsOf (getD (T .records) t nothing)) j 0
 unfolding wordAt
 place-word order T fits t h j inside =
-    let before : List ℕ = flat (take t (T .records)) in
     let here : List ℕ = wordsOf (getD (T .records) t nothing) in
-    let after : List ℕ = flat (drop (suc t) (T .records)) in
-    let all : Below wordBound (before ++ (here ++ after)) = rw (flat-at (T .records) t h) at (fits .words-fit) in
     ap (firstWord order) (sym (drop-drop (4 * j) (getD (placesOf T) t 0) (bytesOf order T)))
     ∙ ap (λ (s : List ℕ). firstWord order (drop (4 * j) s)) (place-record order T t h)
-    ∙ firstWord-at order here (bytesOfWords order after ++ T .strings) j (below-left wordBound here after (below-right wordBound before (here ++ after) all)) inside
+    ∙ firstWord-at order here _ j (record-fits T fits t h) inside
 
 -- ── the same of a blob that passes phases 1 and 2 ──
 
@@ -118,10 +124,3 @@ module _ (b : List ℕ) (bytes : Bytes b) (silent : headerReport b ≡ none) (rs
   -- every record of the table that a blob holds ends inside the blob
   pub blob-place-high : getD (placesOf (tableOf b)) t 0 + 4 * length (wordsOf (getD (tableOf b .records) t nothing)) ≤ length b
   blob-place-high = omega (arith, place-high (orderOf b) (tableOf b) t h, ap length (bytesOf-tableOf b bytes silent rs e))
-
-  -- word j of such a record is read in the blob 4 * j bytes behind the record's place
-  pub blob-place-word : (j : ℕ) → j < length (wordsOf (getD (tableOf b .records) t nothing))
-      → wordAt (orderOf b) b (getD (placesOf (tableOf b)) t 0 + 4 * j) ≡ getD (wordsOf (getD (tableOf b .records) t nothing)) j 0
-  blob-place-word j inside =
-      ap (λ (s : List ℕ). wordAt (orderOf b) s (getD (placesOf (tableOf b)) t 0 + 4 * j)) (sym (bytesOf-tableOf b bytes silent rs e))
-      ∙ place-word (orderOf b) (tableOf b) (tableOf-fits b bytes silent rs e) t h j inside

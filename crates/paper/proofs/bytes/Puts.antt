@@ -1,12 +1,13 @@
--- Laws of `put`: its length, one run put behind another, bytes stored or copied one behind the other.
+-- Laws of `put` and `laid`: the length, one run put behind another, bytes stored or copied one behind the other.
 -- Assumes nothing.
 use Prim.Native.Nat.{ℕ, suc, _+_, _≤_, _<_}
 use mathlib.Core.Path.{_≡_, refl, sym, ap, ap₂, _∙_}
-use mathlib.Core.List.{List, [], _++_, append-assoc}
+use mathlib.Core.List.{List, [], _++_, append-assoc, append-nil}
 use native.Mathlib.Omega.{arith}
+use borrow.Author.Tests.{le-leb, lt-leb}
 use lib.ListN.{length, getD, take, drop, set, length-append, length-drop, length-set}
-use lib.Seq.{length-take-le, take-at, drop-at, drop-drop, take-length, paste, paste-zero, paste-suc, sets, sets-eq}
-use Rattle.paper.specs.terms.Put.{put}
+use lib.Seq.{length-take-le, take-at, drop-at, drop-drop, drop-length, take-length, paste, paste-zero, paste-suc, sets, sets-eq}
+use Rattle.paper.specs.terms.Put.{put, laid}
 
 -- nothing put changes nothing
 pub put-none : (out : List ℕ) (p : ℕ) → out ≡ put out p []
@@ -17,6 +18,15 @@ put-none out p = paste-zero out p []
 pub put-stores : (out : List ℕ) (p : ℕ) (s : List ℕ) → p + length s ≤ length out → sets out p s ≡ put out p s
 unfolding put
 put-stores out p s h = sets-eq s out p h
+
+-- a piece that fits, and one that does not
+pub laid-fits : (out : List ℕ) (p : ℕ) (s : List ℕ) → p + length s ≤ length out → put out p s ≡ laid out p s
+unfolding laid
+laid-fits out p s h = rw (le-leb (p + length s) (length out) h) refl
+
+pub laid-short : (out : List ℕ) (p : ℕ) (s : List ℕ) → length out < p + length s → out ≡ laid out p s
+unfolding laid
+laid-short out p s h = rw (lt-leb (p + length s) (length out) h) refl
 
 module _ (out : List ℕ) (p : ℕ) (s : List ℕ) (h : p + length s ≤ length out) where
   head-length : length (take p out ++ s) ≡ p + length s
@@ -43,6 +53,22 @@ module _ (out : List ℕ) (p : ℕ) (s : List ℕ) (h : p + length s ≤ length 
       ∙ ap (λ (n : ℕ). drop (length t) (drop n out)) (sym e)
       ∙ drop-drop (length t) q out)
       ∙ ap₂ (λ (x : List ℕ) (n : ℕ). x ++ drop n out) (append-assoc (take p out) s t) far
+
+-- what is put at the front of some bytes stands before the rest of them, and all of them where it is as long
+pub put-front : (out s : List ℕ) → put out 0 s ≡ s ++ drop (length s) out
+unfolding put
+put-front out s = let far : 0 + length s ≡ length s = omega arith in ap (λ (n : ℕ). s ++ drop n out) far
+
+pub put-whole : (out s : List ℕ) → length s ≡ length out → put out 0 s ≡ s
+put-whole out s e = put-front out s ∙ ap (λ (n : ℕ). s ++ drop n out) e ∙ ap (λ (t : List ℕ). s ++ t) (drop-length out) ∙ append-nil s
+
+-- what is put at the front of the bytes from a place on is put at that place
+pub put-behind : (out : List ℕ) (p : ℕ) (s : List ℕ) → take p out ++ put (drop p out) 0 s ≡ put out p s
+unfolding put
+put-behind out p s =
+    ap (λ (t : List ℕ). take p out ++ t) (put-front (drop p out) s)
+    ∙ sym (append-assoc (take p out) s (drop (length s) (drop p out)))
+    ∙ ap (λ (t : List ℕ). take p out ++ s ++ t) (drop-drop (length s) p out)
 
 -- ── a run that is copied byte by byte ──
 

@@ -9,15 +9,15 @@ use native.Mathlib.Omega.{arith}
 use lib.ListN.{length, getD, drop, length-append}
 use lib.Seq.{drop-drop}
 use Rattle.paper.specs.rules.Choice.{times}
-use Rattle.paper.specs.terms.Fit.{Bytes}
+use Rattle.paper.specs.terms.Fit.{Below, Bytes, Whole, wordBound}
 use Rattle.paper.specs.rules.Header.{orderOf, headerReport}
 use Rattle.paper.specs.rules.Kind.{Role, names, number, rowOf}
 use Rattle.paper.specs.terms.Reading.{wordsFrom, recordIn, roled, tailRoled}
-use Rattle.paper.specs.rules.Table.{Record, count, nothing, kindIn, vlenIn, tailLength, tailRoles, wordsOf, everyRoled, everyWord}
+use Rattle.paper.specs.rules.Table.{Record, Table, count, nothing, kindIn, vlenIn, tailLength, tailRoles, wordsOf, everyRoled, everyWord}
 use Rattle.paper.specs.rules.Walk.{records, walk, tableOf, placesOf}
-use Rattle.paper.specs.rules.Word.{Order, wordAt}
-use Rattle.paper.proofs.bytes.Blobs.{tableOf-fits}
-use Rattle.paper.proofs.bytes.Places.{blob-place-word}
+use Rattle.paper.specs.rules.Word.{Order, firstWord, wordAt, bytesOfWords}
+use Rattle.paper.proofs.bytes.Blobs.{bytesOf-tableOf, tableOf-fits}
+use Rattle.paper.proofs.bytes.Places.{firstWord-at, place-record, record-fits}
 use Rattle.paper.proofs.bytes.Sections.{whole-at}
 
 -- ── words and tests of them, in a byte order ──
@@ -32,6 +32,10 @@ module _ (order : Order) where
   pub wordAt-drop : (b : List ℕ) (p k : ℕ) → wordAt order (drop p b) k ≡ wordAt order b (p + k)
   unfolding wordAt
   wordAt-drop b p k = rw drop-drop refl
+
+  wordAt-first : (b : List ℕ) (k : ℕ) → wordAt order b k ≡ firstWord order (drop k b)
+  unfolding wordAt
+  wordAt-first b k = refl
 
   -- so many words from a place on
   pub length-wordsFrom : (s : List ℕ) (p n : ℕ) → length (wordsFrom order s p n) ≡ n
@@ -92,30 +96,32 @@ module _ (order : Order) where
 
 -- ── the record at a place ──
 
+-- bytes that begin with those of a whole record begin with that record
+pub recordIn-whole : (order : Order) (r : Record) (s : List ℕ) → Whole r → Below wordBound (wordsOf r) → recordIn order (bytesOfWords order (wordsOf r) ++ s) ≡ r
+unfolding recordIn
+recordIn-whole order r s whole fit =
+    let b : List ℕ = bytesOfWords order (wordsOf r) ++ s in
+    let info = word 1 (omega arith) in
+    let tail =
+    ap (λ (w : ℕ). wordsFrom order b 12 (tailLength w)) info
+    ∙ ap (wordsFrom order b 12) (sym (whole .whole-tail))
+    ∙ wordsFrom-are order b 12 (r .tail) later in
+    λ i. record { nameOff = word 0 (omega arith) i; info = info i; third = word 2 (omega arith) i; tail = tail i }
+  where
+    word : (j : ℕ) → j < suc (suc (suc (length (r .tail)))) → wordAt order (bytesOfWords order (wordsOf r) ++ s) (4 * j) ≡ getD (wordsOf r) j 0
+    word j l = wordAt-first order (bytesOfWords order (wordsOf r) ++ s) (4 * j) ∙ firstWord-at order (wordsOf r) s j fit l
+
+    later : (j : ℕ) → j < length (r .tail) → wordAt order (bytesOfWords order (wordsOf r) ++ s) (12 + 4 * j) ≡ getD (r .tail) j 0
+    later j l =
+        let there : 12 + 4 * j ≡ 4 * suc (suc (suc j)) = omega arith in
+        ap (wordAt order (bytesOfWords order (wordsOf r) ++ s)) there ∙ word (suc (suc (suc j))) (omega arith)
+
 module _ (b : List ℕ) (bytes : Bytes b) (silent : headerReport b ≡ none) (rs : List Record) (e : walk b ≡ records rs) (t : ℕ) (h : t < count (tableOf b)) where
-  -- the record of a type, as it is numbered from 0
-  abbrev here : Record
-  here = getD (tableOf b .records) t nothing
-
-  abbrev place : ℕ
-  place = getD (placesOf (tableOf b)) t 0
-
-  word-here : (j : ℕ) → j < suc (suc (suc (length (here .tail)))) → wordAt (orderOf b) (drop place b) (4 * j) ≡ getD (here .nameOff ∷ here .info ∷ here .third ∷ here .tail) j 0
-  word-here j l = wordAt-drop (orderOf b) b place (4 * j) ∙ blob-place-word b bytes silent rs e t h j l
-
-  -- the bytes from a record's place on begin with that record
-  pub recordIn-place : recordIn (orderOf b) (drop place b) ≡ here
-  unfolding recordIn
+  -- the bytes from a record's place on begin with that record, as types are numbered from 0
+  pub recordIn-place : recordIn (orderOf b) (drop (getD (placesOf (tableOf b)) t 0) b) ≡ getD (tableOf b .records) t nothing
   recordIn-place =
-      let info = word-here 1 (omega arith) in
-      let few = whole-at (tableOf b .records) (tableOf-fits b bytes silent rs e .whole) t h .whole-tail in
-      let tail =
-      ap (λ (w : ℕ). wordsFrom (orderOf b) (drop place b) 12 (tailLength w)) info
-      ∙ ap (wordsFrom (orderOf b) (drop place b) 12) (sym few)
-      ∙ wordsFrom-are (orderOf b) (drop place b) 12 (here .tail) later in
-      λ i. record { nameOff = word-here 0 (omega arith) i; info = info i; third = word-here 2 (omega arith) i; tail = tail i }
-    where
-      later : (j : ℕ) → j < length (here .tail) → wordAt (orderOf b) (drop place b) (12 + 4 * j) ≡ getD (here .tail) j 0
-      later j l =
-          let there : 12 + 4 * j ≡ 4 * suc (suc (suc j)) = omega arith in
-          ap (wordAt (orderOf b) (drop place b)) there ∙ word-here (suc (suc (suc j))) (omega arith)
+      let T : Table = tableOf b in
+      let fits = tableOf-fits b bytes silent rs e in
+      ap (λ (s : List ℕ). recordIn (orderOf b) (drop (getD (placesOf T) t 0) s)) (sym (bytesOf-tableOf b bytes silent rs e))
+      ∙ ap (recordIn (orderOf b)) (place-record (orderOf b) T t h)
+      ∙ recordIn-whole (orderOf b) (getD (T .records) t nothing) _ (whole-at (T .records) (fits .whole) t h) (record-fits T fits t h)

@@ -5,7 +5,7 @@ use mathlib.Core.Path.{refl, ap, ap₂, _∙_}
 use native.Mathlib.Omega.{arith}
 use denote.Ref.{now}
 use lib.ListN.{length}
-use Rattle.join.proofs.JoinedParts.{Lengths, length-part, length-rest, write-lengths, records-ask, write-parts}
+use Rattle.join.proofs.JoinedParts.{Lengths, write-lengths, write-parts}
 use borrow.Author.Needs.{needs}
 use Rattle.join.proofs.blob.write.Statement.{statement}
 use Rattle.join.proofs.blob.write.Tie as tie
@@ -45,89 +45,104 @@ cast-end : tie.Need-cast-end
 cast-end c = search needs
 
 add-end : tie.Need-add-end
-add-end c = let l = lengths (c .before .before .before .before) in omega arith
+add-end c = search needs
 
-sub-copy : tie.Need-sub-copy
-sub-copy c = let l = lengths (c .before .before .before .before) in omega arith
+sub-lay : tie.Need-sub-lay
+sub-lay c = search needs
 
-part-copy-start : tie.Need-part-copy-start
-part-copy-start c = let l = lengths (c .before .before .before .before) in omega arith
+part-lay-start : tie.Need-part-lay-start
+part-lay-start c = search needs
 
-part-copy-end : tie.Need-part-copy-end
-part-copy-end c = let l = lengths (c .before .before .before .before) in omega arith
+part-lay-end : tie.Need-part-lay-end
+part-lay-end c = let l = lengths (c .before .before .before .before .before) in omega arith
 
-copy-requires : tie.Need-copy-requires
-copy-requires c κs =
-    let r = c .before .before .before .before .before .before in
-    let l = lengths r in
-    let a = r .before .before .before .before .before .before .before .args in
-    omega (arith, length-part (now (a .a)) (r .before .before .before .read .result) (omega arith), c .before .before .before .before .write-header .kept .1 .1 .1 .0)
+lay-requires : tie.Need-lay-requires
+lay-requires c κs = search needs
 
 sub-names : tie.Need-sub-names
 sub-names c = let l = lengths (c .before .before .before .before .before .before .before .before .before) in omega arith
 
+sub-raise-records : tie.Need-sub-raise-records
+sub-raise-records c = let l = lengths (c .before .before .before .before .before .before .before .before .before) in omega arith
+
+part-raise-records-start : tie.Need-part-raise-records-start
+part-raise-records-start c = let l = lengths (c .before .before .before .before .before .before .before .before .before) in omega arith
+
+part-raise-records-end : tie.Need-part-raise-records-end
+part-raise-records-end c = search needs
+
+sub-raise-records-2 : tie.Need-sub-raise-records-2
+sub-raise-records-2 c = let l = lengths (c .before .before .before .before .before .before .before .before .before .before) in omega (arith, c .before .before .before .lay .kept .0, c .before .before .before .before .before .before .before .before .write-header .kept .1 .1 .1 .0)
+
+part-raise-records-start-2 : tie.Need-part-raise-records-start-2
+part-raise-records-start-2 c = let l = lengths (c .before .before .before .before .before .before .before .before .before .before) in omega (arith, c .before .before .before .lay .kept .0, c .before .before .before .before .before .before .before .before .write-header .kept .1 .1 .1 .0)
+
+part-raise-records-end-2 : tie.Need-part-raise-records-end-2
+part-raise-records-end-2 c = search needs
+
 raise-records-requires : tie.Need-raise-records-requires
-raise-records-requires c κs =
-    let r = c .before .before .before .before .before .before .before .before .before .before in
-    let a = r .before .before .before .before .before .before .before in
-    records-ask (a .pre) (r .before .before .before .read .ensures) (c .before .before .before .copy .kept .1 .0 ∙ c .before .before .before .before .before .before .before .before .write-header .kept .1 .1 .1 .0)
+raise-records-requires c κs = search needs
+
+cast-behind : tie.Need-cast-behind
+cast-behind c = search needs
 
 add-behind : tie.Need-add-behind
-add-behind c = let l = lengths (c .before .before .before .before .before .before .before .before .before .before .before .before .before) in omega arith
+add-behind c = search needs
 
-sub-copy-2 : tie.Need-sub-copy-2
-sub-copy-2 c = let l = lengths (c .before .before .before .before .before .before .before .before .before .before .before .before .before) in omega arith
+sub-lay-2 : tie.Need-sub-lay-2
+sub-lay-2 c = let l = lengths (c .before .before .before .before .before .before .before .before .before .before .before .before .before .before .before) in omega arith
 
-part-copy-start-2 : tie.Need-part-copy-start-2
-part-copy-start-2 c = let l = lengths (c .before .before .before .before .before .before .before .before .before .before .before .before .before) in omega arith
+part-lay-start-2 : tie.Need-part-lay-start-2
+part-lay-start-2 c = let l = lengths (c .before .before .before .before .before .before .before .before .before .before .before .before .before .before .before) in omega arith
 
-part-copy-end-2 : tie.Need-part-copy-end-2
-part-copy-end-2 c = search needs
+part-lay-end-2 : tie.Need-part-lay-end-2
+part-lay-end-2 c = search needs
 
-copy-requires-2 : tie.Need-copy-requires-2
-copy-requires-2 c κs =
-    let r = c .before .before .before .before .before .before .before .before .before .before .before .before .before .before .before in
-    let l = lengths r in
-    let a = r .before .before .before .before .before .before .before .args in
-    omega (arith, length-rest (now (a .a)) (24 + r .before .before .before .read .result), c .before .before .before .before .raise-records .kept .1 .1 .1 .0, c .before .before .before .before .before .before .before .before .copy .kept .1 .0, c .before .before .before .before .before .before .before .before .before .before .before .before .before .write-header .kept .1 .1 .1 .0)
+lay-requires-2 : tie.Need-lay-requires-2
+lay-requires-2 c κs = search needs
 
 cast-skip : tie.Need-cast-skip
 cast-skip c = search needs
 
 add-skip : tie.Need-add-skip
-add-skip c = let l = lengths (c .before .before .before .before .before .before .before .before .before .before .before .before .before .before .before .before .before .before) in omega arith
+add-skip c = search needs
+
+cast-last : tie.Need-cast-last
+cast-last c = search needs
 
 add-last : tie.Need-add-last
-add-last c = let l = lengths (c .before .before .before .before .before .before .before .before .before .before .before .before .before .before .before .before .before .before) in omega arith
+add-last c = search needs
 
-sub-copy-3 : tie.Need-sub-copy-3
-sub-copy-3 c = let l = lengths (c .before .before .before .before .before .before .before .before .before .before .before .before .before .before .before .before .before .before) in omega arith
+sub-lay-3 : tie.Need-sub-lay-3
+sub-lay-3 c = let l = lengths (c .before .before .before .before .before .before .before .before .before .before .before .before .before .before .before .before .before .before .before .before) in omega arith
 
-part-copy-start-3 : tie.Need-part-copy-start-3
-part-copy-start-3 c = let l = lengths (c .before .before .before .before .before .before .before .before .before .before .before .before .before .before .before .before .before .before) in omega arith
+part-lay-start-3 : tie.Need-part-lay-start-3
+part-lay-start-3 c = let l = lengths (c .before .before .before .before .before .before .before .before .before .before .before .before .before .before .before .before .before .before .before .before) in omega arith
 
-part-copy-end-3 : tie.Need-part-copy-end-3
-part-copy-end-3 c = search needs
+part-lay-end-3 : tie.Need-part-lay-end-3
+part-lay-end-3 c = search needs
 
-copy-requires-3 : tie.Need-copy-requires-3
-copy-requires-3 c κs =
-    let r = c .before .before .before .before .before .before .before .before .before .before .before .before .before .before .before .before .before .before .before .before in
-    let l = lengths r in
-    let a = r .before .before .before .before .before .before .before .args in
-    omega (arith, length-rest (now (a .b)) (25 + r .before .read3 .result), c .before .before .before .before .copy2 .kept .1 .0, c .before .before .before .before .before .before .before .before .before .raise-records .kept .1 .1 .1 .0, c .before .before .before .before .before .before .before .before .before .before .before .before .before .copy .kept .1 .0, c .before .before .before .before .before .before .before .before .before .before .before .before .before .before .before .before .before .before .write-header .kept .1 .1 .1 .0)
+lay-requires-3 : tie.Need-lay-requires-3
+lay-requires-3 c κs = search needs
 
 same-length : tie.Need-same-length
 same-length c = search needs
 
 returns : tie.Need-returns
 returns c =
-    let r = c .before .before .before .before .before .before .before .before .before .before .before .before .before .before .before .before .before .before .before .before .before .before .before in
+    let l3 = c .before .before in
+    let l2 = l3 .before .before .before .before .before in
+    let rr = l2 .before .before .before .before .before in
+    let l1 = rr .before .before .before .before .before in
+    let h = l1 .before .before .before .before .before in
+    let r = h .before .before in
     let f = r .before .before .before in
     let a = f .before .before .before .before in
     write-parts (a .pre) _ refl (ap (λ (n : ℕ). n - 1) (r .before .before .read2 .ensures)) (ap₂ (λ (x y : ℕ). x + y) (f .read .ensures) (r .before .read3 .ensures))
     (ap₂ (λ (x y : ℕ). x + (y - 1)) (r .before .before .read2 .ensures) (r .read4 .ensures))
     (now (a .args .out)) (f .read .ensures) (r .before .read3 .ensures) (r .before .before .read2 .ensures) refl
-    (c .before .before .before .before .before .before .before .before .before .before .before .before .before .before .before .before .before .before .before .before .before .write-header .ensures) (c .before .before .before .before .before .before .before .before .before .before .before .before .before .before .before .before .copy .ensures) (c .before .before .before .before .before .before .before .before .before .before .before .before .raise-records .ensures) (c .before .before .before .before .before .before .before .copy2 .ensures) (c .before .before .copy3 .ensures)
+    (h .write-header .ensures) (l1 .lay .ensures) (rr .raise-records .ensures) (l2 .lay2 .ensures) (l3 .lay3 .ensures)
+    (h .write-header .kept .1 .1 .1 .0) (l1 .lay .kept .0) (l2 .lay2 .kept .0)
 
 pub write-spec : {M : Type 1} → statement M
 write-spec =
@@ -143,23 +158,31 @@ write-spec =
     write-header-requires
     cast-end
     add-end
-    sub-copy
-    part-copy-start
-    part-copy-end
-    copy-requires
+    sub-lay
+    part-lay-start
+    part-lay-end
+    lay-requires
     sub-names
+    sub-raise-records
+    part-raise-records-start
+    part-raise-records-end
+    sub-raise-records-2
+    part-raise-records-start-2
+    part-raise-records-end-2
     raise-records-requires
+    cast-behind
     add-behind
-    sub-copy-2
-    part-copy-start-2
-    part-copy-end-2
-    copy-requires-2
+    sub-lay-2
+    part-lay-start-2
+    part-lay-end-2
+    lay-requires-2
     cast-skip
     add-skip
+    cast-last
     add-last
-    sub-copy-3
-    part-copy-start-3
-    part-copy-end-3
-    copy-requires-3
+    sub-lay-3
+    part-lay-start-3
+    part-lay-end-3
+    lay-requires-3
     same-length
     returns)

@@ -1,0 +1,3 @@
+pub mod RaisedWords
+pub mod Entries
+pub mod RaisedRecords

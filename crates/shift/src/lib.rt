@@ -1,0 +1,6 @@
+// Records with new numbers: each word raised by its role, once for all kinds.
+mod groups; // words raised by their roles
+mod records; // a record, and so many one behind the other
+
+pub use groups::Shift;
+pub use records::raise_records;
