@@ -14,6 +14,7 @@ pub mod changed;
 pub mod generate;
 pub mod make;
 pub mod rules;
+pub mod timing;
 pub mod vectors;
 
 pub use rules::{
