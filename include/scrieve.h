@@ -1,8 +1,8 @@
 /* The C interface of Scrieveply: the check of a BTF table, the size of a type, the name at an offset, the join of two tables.
  *
  * Every function is proved: for any bytes in the lent slices it ends, reads and writes nothing outside them, and leaves in each place
- * exactly what is written here (crates/abi/src/lib.rt has the contracts). Build with `rt staticlib abi`, link with
- * target/staticlib/libabi.a (x86-64). The archive needs `memset` and nothing else of a C library.
+ * exactly what is written here (crates/abi/src/lib.rt has the contracts). Build with `tools/archive TARGET OUT`, link
+ * with OUT/libabi.a, for any 64-bit processor. The archive needs `memset` and nothing else of a C library.
  *
  * What holds for every function
  * - A slice is a pointer and the number of its elements: bytes for uint8_t, places for uint32_t. All memory is the caller's: nothing
