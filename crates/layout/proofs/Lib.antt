@@ -2,6 +2,6 @@ pub mod Measured
 pub mod Leads
 pub mod MembersLeft
 pub mod NamedLeft
-pub mod PartTests
+pub mod OtherTests
 pub mod EntriesLeft
 pub mod LayoutKinds

@@ -1,8 +1,8 @@
 // Phase 6, report 15 of one type: by kind, the rule that speaks of it.
 use crate::members::members_ok;
-use crate::parts::array_ok;
-use crate::parts::function_ok;
-use crate::parts::tag_ok;
+use crate::others::array_ok;
+use crate::others::function_ok;
+use crate::others::tag_ok;
 use crate::sections::section_ok;
 use crate::sized::has_small_size;
 use paper::Place;

@@ -3,7 +3,7 @@ mod bases; // the base of a type
 mod sized; // what a rule asks of another type's size
 mod kinds; // by kind, the rule that speaks of a type
 mod members; // structs and unions
-mod parts; // arrays, functions and tags
+mod others; // arrays, functions and tags
 mod sections; // sections
 
 pub use kinds::layout_ok;

@@ -9,8 +9,8 @@ use lib.Dec.{ltb}
 use lib.ListN.{length, getD, set}
 use Rattle.links.specs.declared.chains.Ring.{Ring}
 use Rattle.links.specs.declared.chains.Ring.the-variants.{Nowhere, From}
-use Rattle.links.specs.declared.chains.Step.{Step}
-use Rattle.links.specs.declared.chains.Step.the-variants.{On, Met, Finished}
+use Rattle.links.specs.declared.chains.Move.{Move}
+use Rattle.links.specs.declared.chains.Move.the-variants.{On, Met, Finished}
 use Rattle.links.specs.Holding.{heldFrom, NextHeld}
 use Rattle.paper.specs.rules.Answer.{Answer, reportAt}
 use Rattle.paper.specs.rules.Chain.{heldBy, walks}
@@ -85,10 +85,10 @@ pub record RootDone (r : Record) (work : List ℕ) (t j : ℕ) (work′ : List �
   pub outer : getD work t 0 ≡ asRoot
   pub marked : work′ ≡ set work t done
 
-abbrev pub Stepped : Record → List ℕ → ℕ → ℕ → List ℕ → Step → Type 0
-Stepped r work t j work′ (On v i) = Moved r work t j work′ (v .0) i
-Stepped r work t j work′ Met = RingMet r work j
-Stepped r work t j work′ Finished = RootDone r work t j work′
+abbrev pub MoveOf : Record → List ℕ → ℕ → ℕ → List ℕ → Move → Type 0
+MoveOf r work t j work′ (On v i) = Moved r work t j work′ (v .0) i
+MoveOf r work t j work′ Met = RingMet r work j
+MoveOf r work t j work′ Finished = RootDone r work t j work′
 
 -- ── between two roots ──
 

@@ -6,7 +6,7 @@ use views::View;
 use views::record_of;
 ghost use mathlib.Core.Path.{_≡_};
 ghost use lib.ListN.{getD};
-ghost use Rattle.links.specs.Search.{AtRoot, Followable, Followed, OnWay, Stepped, Unsearched, ringAsPaper, ringsBy};
+ghost use Rattle.links.specs.Search.{AtRoot, Followable, Followed, OnWay, MoveOf, Unsearched, ringAsPaper, ringsBy};
 ghost use Rattle.paper.specs.rules.Chain.{heldBy};
 ghost use Rattle.paper.specs.rules.Gate.{overTypes};
 ghost use Rattle.paper.specs.rules.Table.{recordAt};
@@ -19,7 +19,7 @@ pub(crate) enum Ring {
 }
 
 // How the search goes on: at a word of a type; or a reference leads back into the way; or the root is finished.
-enum Step {
+enum Move {
     On(TypeNo, u32),
     Met,
     Finished,
@@ -32,7 +32,7 @@ const DONE: u32 = 4294967295;
 const WORDS: u32 = 262144;
 
 // One step, from word j of type t on.
-fn step_from<'a>(
+fn move_from<'a>(
     base: &'a [u8],
     b: &'a [u8],
     index: &[u32],
@@ -40,9 +40,9 @@ fn step_from<'a>(
     t: TypeNo,
     j: u32,
     work: &mut [u32],
-) -> Step
+) -> Move
     requires { ⌜ Followable (tableBy (now base) (now b) (now index) view) (view .n) (now work) × OnWay (view .n) (t .0) (now work) ⌝ }
-    ensures { λ r. ⌜ Stepped (recordAt (tableBy (now (base .entry)) (now (b .entry)) (now (index .entry)) view) (t .0)) (now (work .entry)) (t .0) j (now (work .exit)) r ⌝ }
+    ensures { λ r. ⌜ MoveOf (recordAt (tableBy (now (base .entry)) (now (b .entry)) (now (index .entry)) view) (t .0)) (now (work .entry)) (t .0) j (now (work .exit)) r ⌝ }
 {
     let from = t.0 as usize;
     match next_held(record_of(base, b, index, view, t), j) {
@@ -50,22 +50,22 @@ fn step_from<'a>(
             let mark = work[from];
             work[from] = DONE;
             if mark == 1 {
-                return Step::Finished;
+                return Move::Finished;
             }
             let way = mark - 1;
-            Step::On(TypeNo(way / WORDS), way % WORDS)
+            Move::On(TypeNo(way / WORDS), way % WORDS)
         }
         Held::Found(u, k) => {
             let to = u.0 as usize;
             let mark = work[to];
             if mark == DONE {
-                return Step::On(t, k);
+                return Move::On(t, k);
             }
             if mark != 0 {
-                return Step::Met;
+                return Move::Met;
             }
             work[to] = 1 + t.0 * WORDS + k;
-            Step::On(u, 0)
+            Move::On(u, 0)
         }
     }
 }
@@ -86,13 +86,13 @@ fn follow<'a>(
     let mut j: u32 = 0;
     work[t as usize] = 1;
     loop {
-        match step_from(base, b, index, view, TypeNo(t), j, work) {
-            Step::On(u, k) => {
+        match move_from(base, b, index, view, TypeNo(t), j, work) {
+            Move::On(u, k) => {
                 t = u.0;
                 j = k;
             }
-            Step::Met => return true,
-            Step::Finished => return false,
+            Move::Met => return true,
+            Move::Finished => return false,
         }
     }
 }

@@ -13,11 +13,11 @@ use Rattle.paper.specs.rules.Table.{Record, tailLength}
 use Rattle.paper.specs.rules.Walk.{Walked, records, stopped, ahead, walkFrom, walk}
 use Rattle.paper.specs.rules.Word.{lowFirst, wordAt}
 use Rattle.paper.proofs.bytes.Sections.{recordFrom}
-use Rattle.scan.specs.declared.walk.Step.{Step}
-use Rattle.scan.specs.declared.walk.Step.the-variants.{Next, Cut, Unknown}
-use Rattle.scan.specs.Phase2.{TypeSection, Finding, counted, refused, findingOf, stepFrom}
+use Rattle.scan.specs.declared.walk.Behind.{Behind}
+use Rattle.scan.specs.declared.walk.Behind.the-variants.{Next, Cut, Unknown}
+use Rattle.scan.specs.Phase2.{TypeSection, Finding, counted, refused, findingOf, behindOf}
 use Rattle.scan.proofs.Left.{left, typeWords-left, left-length, left-head, left-drop, left-end}
-use Rattle.scan.proofs.WalkSteps.{Way, head-cut, unknown, tail-cut, onward, stepFrom-way, walkFrom-done, walkFrom-full, walkFrom-short, walkRecord-unknown, walkRecord-cut, walkRecord-onward}
+use Rattle.scan.proofs.WalkSteps.{Way, head-cut, unknown, tail-cut, onward, behindOf-way, walkFrom-done, walkFrom-full, walkFrom-short, walkRecord-unknown, walkRecord-cut, walkRecord-onward}
 
 -- ── a finding behind some records ──
 
@@ -40,13 +40,13 @@ findingOf-ahead r (stopped n t p) = refl
 -- ── one step ──
 
 -- what a walk finds that has come to record k at a place and has room for so many behind it, by how its step goes
-abbrev afterStep : List ℕ → ℕ → ℕ → ℕ → ℕ → Step → Finding
+abbrev afterStep : List ℕ → ℕ → ℕ → ℕ → ℕ → Behind → Finding
 afterStep b end room k at Cut = refused (reportAt 6 k at)
 afterStep b end room k at Unknown = refused (reportAt 7 k at)
 afterStep b end room k at (Next p) = behind 1 (findingOf (walkFrom room (suc k) (p .0) (left b (p .0) end)))
 
 module _ (b : List ℕ) (end : ℕ) (inside : end ≤ length b) (room k at : ℕ) (more : at < end) (whole : (end - at) % 4 ≡ 0) where
-  walkFrom-step : {s : Step} → Way b at end s → findingOf (walkFrom (suc room) k at (left b at end)) ≡ afterStep b end room k at s
+  walkFrom-step : {s : Behind} → Way b at end s → findingOf (walkFrom (suc room) k at (left b at end)) ≡ afterStep b end room k at s
   walkFrom-step (head-cut h) =
       let len = left-length b end inside at in
       ap findingOf (walkFrom-short room k at (left b at end) (omega arith) (omega arith))
@@ -117,20 +117,20 @@ module _ (b : List ℕ) (end count at : ℕ) (st : Standing b end count at) wher
       ∙ ap (λ (w : Walked). behind typeLimit (findingOf w)) (walkFrom-full (typeLimit + 1) at (left b at end) some)
 
 -- what a step from there tells: a report, or that the walk stands further on
-abbrev pub Told : List ℕ → ℕ → ℕ → ℕ → Step → Type 0
+abbrev pub Told : List ℕ → ℕ → ℕ → ℕ → Behind → Type 0
 Told b end count at Cut = findingOf (walk b) ≡ refused (reportAt 6 (count + 1) at)
 Told b end count at Unknown = findingOf (walk b) ≡ refused (reportAt 7 (count + 1) at)
 Told b end count at (Next p) = (at < p .0) × Standing b end (count + 1) (p .0)
 
 module _ (b : List ℕ) (end count at : ℕ) (st : Standing b end count at) (more : at < end) (room : count ≡ typeLimit → ⊥) where
-  stepped : {s : Step} → Way b at end s → findingOf (walk b) ≡ behind count (afterStep b end (typeLimit - (count + 1)) (count + 1) at s)
+  stepped : {s : Behind} → Way b at end s → findingOf (walk b) ≡ behind count (afterStep b end (typeLimit - (count + 1)) (count + 1) at s)
   stepped way =
       let one : typeLimit - count ≡ suc (typeLimit - (count + 1)) = omega (arith, st .few) in
       st .finds
       ∙ ap (λ (n : ℕ). behind count (findingOf (walkFrom n (count + 1) at (left b at end)))) one
       ∙ ap (behind count) (walkFrom-step b end (st .inside) (typeLimit - (count + 1)) (count + 1) at more (st .whole) way)
 
-  told : {s : Step} → Way b at end s → Told b end count at s
+  told : {s : Behind} → Way b at end s → Told b end count at s
   told (head-cut h) = stepped (head-cut h)
   told (unknown h e) = stepped (unknown h e)
   told (tail-cut h e n) = stepped (tail-cut h e n)
@@ -150,5 +150,5 @@ module _ (b : List ℕ) (end count at : ℕ) (st : Standing b end count at) (mor
         },
       )
 
-  pub standing-step : {s : Step} → stepFrom b at end ≡ s → Told b end count at s
-  standing-step e = told (rw e at (stepFrom-way b at end))
+  pub standing-step : {s : Behind} → behindOf b at end ≡ s → Told b end count at s
+  standing-step e = told (rw e at (behindOf-way b at end))

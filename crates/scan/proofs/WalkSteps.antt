@@ -1,4 +1,4 @@
--- Laws of `stepFrom`: a step in the bytes is a step of the walk over the words that are left.
+-- Laws of `behindOf`: a step in the bytes is a step of the walk over the words that are left.
 -- Assumes nothing.
 use Prim.Native.Nat.{ℕ, zero, suc, _+_, _*_, _≤_, _<_}
 use mathlib.Core.Path.{_≡_, refl}
@@ -12,9 +12,9 @@ use Rattle.paper.specs.rules.Table.{kindIn, tailLength}
 use Rattle.paper.specs.rules.Walk.{Walked, records, stopped, ahead, known, walkRecord, walkFrom}
 use Rattle.paper.specs.rules.Word.{lowFirst, wordAt}
 use Rattle.paper.proofs.bytes.Sections.{recordFrom}
-use Rattle.scan.specs.declared.walk.Step.{Step}
-use Rattle.scan.specs.declared.walk.Step.the-variants.{Next, Cut, Unknown}
-use Rattle.scan.specs.Phase2.{stepFrom}
+use Rattle.scan.specs.declared.walk.Behind.{Behind}
+use Rattle.scan.specs.declared.walk.Behind.the-variants.{Next, Cut, Unknown}
+use Rattle.scan.specs.Phase2.{behindOf}
 
 -- ── how a step goes ──
 
@@ -26,15 +26,15 @@ abbrev pub knownAt : List ℕ → ℕ → Bool
 knownAt b at = known (kindIn (wordAt lowFirst b (at + 4)))
 
 -- the four ways of a step
-pub data Way (b : List ℕ) (at end : ℕ) : Step → Type 0 where
+pub data Way (b : List ℕ) (at end : ℕ) : Behind → Type 0 where
   head-cut : end < at + 12 → Way b at end Cut
   unknown : at + 12 ≤ end → knownAt b at ≡ false → Way b at end Unknown
   tail-cut : at + 12 ≤ end → knownAt b at ≡ true → end < nextPlace b at → Way b at end Cut
   onward : at + 12 ≤ end → knownAt b at ≡ true → nextPlace b at ≤ end → Way b at end (Next (record { 0 = nextPlace b at }))
 
-pub stepFrom-way : (b : List ℕ) (at end : ℕ) → Way b at end (stepFrom b at end)
-unfolding stepFrom
-stepFrom-way b at end = go (leb (at + 12) end) refl (knownAt b at) refl (leb (nextPlace b at) end) refl
+pub behindOf-way : (b : List ℕ) (at end : ℕ) → Way b at end (behindOf b at end)
+unfolding behindOf
+behindOf-way b at end = go (leb (at + 12) end) refl (knownAt b at) refl (leb (nextPlace b at) end) refl
   where
     go : (t : Bool) → leb (at + 12) end ≡ t → (k : Bool) → knownAt b at ≡ k → (n : Bool) → leb (nextPlace b at) end ≡ n → Way b at end (cond t (cond k (cond n (Next (record { 0 = nextPlace b at })) Cut) Unknown) Cut)
     go false e k ek n en = head-cut (leb-false _ _ e)
@@ -42,13 +42,13 @@ stepFrom-way b at end = go (leb (at + 12) end) refl (knownAt b at) refl (leb (ne
     go true e true ek false en = tail-cut (leb-true _ _ e) ek (leb-false _ _ en)
     go true e true ek true en = onward (leb-true _ _ e) ek (leb-true _ _ en)
 
--- and back: each way is that of `stepFrom`
-pub way-stepFrom : {b : List ℕ} {at end : ℕ} {s : Step} → Way b at end s → stepFrom b at end ≡ s
-unfolding stepFrom
-way-stepFrom (head-cut h) = simp (lt-leb _ _ h)
-way-stepFrom (unknown h k) = simp (le-leb _ _ h, k)
-way-stepFrom (tail-cut h k n) = simp (le-leb _ _ h, k, lt-leb _ _ n)
-way-stepFrom (onward h k n) = simp (le-leb _ _ h, k, le-leb _ _ n)
+-- and back: each way is that of `behindOf`
+pub way-behindOf : {b : List ℕ} {at end : ℕ} {s : Behind} → Way b at end s → behindOf b at end ≡ s
+unfolding behindOf
+way-behindOf (head-cut h) = simp (lt-leb _ _ h)
+way-behindOf (unknown h k) = simp (le-leb _ _ h, k)
+way-behindOf (tail-cut h k n) = simp (le-leb _ _ h, k, lt-leb _ _ n)
+way-behindOf (onward h k n) = simp (le-leb _ _ h, k, le-leb _ _ n)
 
 -- ── a step of the walk ──
 

@@ -12,8 +12,8 @@ use Rattle.paper.specs.rules.Table.{kindIn, tailLength}
 use Rattle.paper.specs.rules.Walk.{records, stopped, known, walk}
 use Rattle.paper.specs.rules.Walk as paper
 use Rattle.paper.specs.rules.Word.{lowFirst, wordAt}
-use Rattle.scan.specs.declared.walk.Step.{Step}
-use Rattle.scan.specs.declared.walk.Step.the-variants.{Next, Cut, Unknown}
+use Rattle.scan.specs.declared.walk.Behind.{Behind}
+use Rattle.scan.specs.declared.walk.Behind.the-variants.{Next, Cut, Unknown}
 use Rattle.scan.specs.declared.walk.Walked.{Walked}
 use Rattle.scan.specs.declared.walk.Walked.the-variants.{Whole, Stopped}
 
@@ -44,8 +44,8 @@ pub record WalkDone (b : List ℕ) (n places : ℕ) : Type 0 where
   pub enough : n + 1 ≤ places
 
 -- one step from a place: the place behind the record there, or why there is none
-unfoldable pub stepFrom : List ℕ → ℕ → ℕ → Step
-stepFrom b at end =
+unfoldable pub behindOf : List ℕ → ℕ → ℕ → Behind
+behindOf b at end =
     let info = wordAt lowFirst b (at + 4) in
     let next = at + 12 + 4 * tailLength info in
     cond (leb (at + 12) end)

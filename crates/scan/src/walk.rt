@@ -8,10 +8,10 @@ use rows::tail_words;
 ghost use mathlib.Core.Path.{_≡_};
 ghost use Prim.Native.Nat.{_≤_};
 ghost use Rattle.paper.specs.rules.Walk as paper;
-ghost use Rattle.scan.specs.Phase2.{TypeSection, findingOf, walkedAsPaper, stepFrom};
+ghost use Rattle.scan.specs.Phase2.{TypeSection, findingOf, walkedAsPaper, behindOf};
 
 // What stands at a record's place: the place behind the record, or why there is none.
-pub(crate) enum Step {
+pub(crate) enum Behind {
     Next(Place),
     Cut,
     Unknown,
@@ -23,24 +23,24 @@ pub(crate) enum Walked {
     Stopped(Report),
 }
 
-// One step, from a record's place in a section that ends at `end`. Differences are taken, since a sum could pass 32 bits.
-fn step_from(b: &[u8], at: Place, end: Place) -> Step
+// What stands behind a record, from its place in a section that ends at `end`. Differences are taken, since a sum could pass 32 bits.
+fn behind_of(b: &[u8], at: Place, end: Place) -> Behind
     requires { ⌜ at .0 ≤ end .0 ⌝ }
-    ensures { λ r. ⌜ r ≡ stepFrom (now (b .entry)) (at .0) (end .0) ⌝ }
+    ensures { λ r. ⌜ r ≡ behindOf (now (b .entry)) (at .0) (end .0) ⌝ }
 {
     let room = end.0 - at.0;
     if room < 12 {
-        return Step::Cut;
+        return Behind::Cut;
     }
     let info = words::read(b, Place(at.0 + 4));
     if !is_known(kind_of(info)) {
-        return Step::Unknown;
+        return Behind::Unknown;
     }
     let tail = 4 * tail_words(info);
     if room - 12 < tail {
-        return Step::Cut;
+        return Behind::Cut;
     }
-    Step::Next(Place(at.0 + 12 + tail))
+    Behind::Next(Place(at.0 + 12 + tail))
 }
 
 // The walk of a type section of `len` bytes. 8 is tested before anything is read of the record.
@@ -56,10 +56,13 @@ pub(crate) fn walk(b: &[u8], len: u32) -> Walked
             return Walked::Stopped(Report::ManyTypes(Place(at)));
         }
         count += 1;
-        match step_from(b, Place(at), Place(end)) {
-            Step::Next(next) => at = next.0,
-            Step::Cut => return Walked::Stopped(Report::RecordCut(TypeNo(count), Place(at))),
-            Step::Unknown => return Walked::Stopped(Report::UnknownKind(TypeNo(count), Place(at))),
+        match behind_of(b, Place(at), Place(end)) {
+            Behind::Next(next) => at = next.0,
+            Behind::Cut => return Walked::Stopped(Report::RecordCut(TypeNo(count), Place(at))),
+            Behind::Unknown => return Walked::Stopped(Report::UnknownKind(
+                TypeNo(count),
+                Place(at),
+            )),
         }
     }
     Walked::Whole(count)

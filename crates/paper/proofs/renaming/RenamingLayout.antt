@@ -19,7 +19,7 @@ use Rattle.paper.specs.rules.Choice.{times, every, member, isSome}
 use Rattle.paper.specs.terms.Fit.{Whole}
 use Rattle.paper.specs.rules.Kind.{Role, names, refers, holds, number, rows, rowOf}
 use Rattle.paper.specs.rules.KindNo.{ARRAY, STRUCT, UNION, FUNC, FUNC-PROTO, VAR, DATASEC, DECL-TAG}
-use Rattle.paper.specs.rules.Layout.{memberOk, notFalling, offsetsOk, membersOk, arrayOk, allNamed, functionOk, partsOf, tagOk, layoutOk}
+use Rattle.paper.specs.rules.Layout.{memberOk, notFalling, offsetsOk, membersOk, arrayOk, allNamed, functionOk, componentsOf, tagOk, layoutOk}
 use Rattle.paper.specs.rules.References.{refOk, refWordOk, refsOk}
 use Rattle.paper.specs.rules.Rename.{renameWord, renameWords, rename}
 use Rattle.paper.specs.rules.Section.{Entry, entriesIn, entriesOf, entryCovers, placedFrom, sectionOk}
@@ -191,9 +191,9 @@ module _ {A B : Table} {type name : ℕ → ℕ} (R : Renaming A B type name)
 
   -- ── tags ──
 
-  partsOf-rename : (target : Record) → Inside A target → partsOf B (rename type name target) ≡ partsOf A target
-  unfolding partsOf rename rowOf rows
-  partsOf-rename target in-A =
+  componentsOf-rename : (target : Record) → Inside A target → componentsOf B (rename type name target) ≡ componentsOf A target
+  unfolding componentsOf rename rowOf rows
+  componentsOf-rename target in-A =
       ap (cond (member (kindOf target) (STRUCT ∷ UNION ∷ [])) (vlenOf target))
       (cond-cong (eqb (kindOf target) FUNC) 0
       (λ x. let e = eqb-true (kindOf target) FUNC x in
@@ -205,9 +205,9 @@ module _ {A B : Table} {type name : ℕ → ℕ} (R : Renaming A B type name)
   tagOk-rename r in-A e =
       let high = third-inside r DECL-TAG e refl in-A in
       ap₂ (λ (c : ℕ) (n : ℕ). eqb c 4294967295 || ltb c n) (tail-number R r DECL-TAG 0 e (λ v. refl))
-      (ap (λ (t : ℕ). partsOf B (recordAt B t)) (third-role R r DECL-TAG e refl)
-      ∙ ap (partsOf B) (R .same-record (r .third) high)
-      ∙ partsOf-rename (recordAt A (r .third)) (all-inside (r .third) high))
+      (ap (λ (t : ℕ). componentsOf B (recordAt B t)) (third-role R r DECL-TAG e refl)
+      ∙ ap (componentsOf B) (R .same-record (r .third) high)
+      ∙ componentsOf-rename (recordAt A (r .third)) (all-inside (r .third) high))
 
   -- ── layout (15) ──
 

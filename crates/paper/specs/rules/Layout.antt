@@ -42,9 +42,9 @@ allNamed (p ∷ ps) = (differ (p .name) 0 || isLast00 p ps) && allNamed ps
 unfoldable pub functionOk : Table → Record → Bool
 functionOk T r = allNamed (parametersOf (recordAt T (r .third)))
 
--- how many parts a tag can point at: a struct's or union's members, a FUNC's parameters, none of a VAR or TYPEDEF
-unfoldable pub partsOf : Table → Record → ℕ
-partsOf T target =
+-- how many components a tag can point at: a struct's or union's members, a FUNC's parameters, none of a VAR or TYPEDEF
+unfoldable pub componentsOf : Table → Record → ℕ
+componentsOf T target =
     cond (member (kindOf target) (STRUCT ∷ UNION ∷ [])) (vlenOf target)
     (cond (eqb (kindOf target) FUNC) (vlenOf (recordAt T (target .third))) 0)
 
@@ -52,7 +52,7 @@ partsOf T target =
 unfoldable pub tagOk : Table → Record → Bool
 tagOk T r =
     let component = getD (r .tail) 0 0 in
-    eqb component 4294967295 || ltb component (partsOf T (recordAt T (r .third)))
+    eqb component 4294967295 || ltb component (componentsOf T (recordAt T (r .third)))
 
 -- which rule speaks of which kinds
 unfoldable pub layoutOk : Table → Record → Bool

@@ -15,7 +15,7 @@ use Rattle.paper.specs.rules.Chain.{heldBy, pointedBy, endless}
 use Rattle.paper.specs.rules.Size.{stepIn, exactSize, hasSize, smallSize, hasSmallSize, stepAtPlace, stepAt, sizeAsked, sizeOf}
 use Rattle.paper.specs.rules.Span.{baseOf, isRegularWord, isRegular, wholeSpan, plainSpan, fieldSpan, spanOf}
 use Rattle.paper.specs.rules.Section.{entryCovers, sectionOk}
-use Rattle.paper.specs.rules.Layout.{memberOk, offsetsOk, membersOk, arrayOk, functionOk, partsOf, tagOk, layoutOk, layoutBad}
+use Rattle.paper.specs.rules.Layout.{memberOk, offsetsOk, membersOk, arrayOk, functionOk, componentsOf, tagOk, layoutOk, layoutBad}
 use Rattle.paper.specs.rules.Gate.{phase1, phase2, shortSlices, phase3, phase4, phase5, phase6, overTypes, tableReport, refusal, indexOf, gate}
 use Rattle.paper.specs.rules.Rename.{rename}
 use Rattle.paper.specs.rules.Join.{joinTables, joinedBytes, limitReport, joinRefusal, join}
@@ -26,6 +26,6 @@ unfolding reportAsPaper checkedAsPaper sizedAsPaper joinedAsPaper wordAt putWord
     bytesOf placesOf placeAt recordIn roled nameIn nameless nameAt isDigit isLetter isSectionName spareZero headOk headBad nameOk namesOk nameBad intWordOk
     linkageWordOk isLast00 tailOk tailBad isPlain refOk refsOk refBad heldBy pointedBy endless stepIn exactSize hasSize smallSize hasSmallSize
     stepAtPlace stepAt sizeAsked sizeOf baseOf isRegularWord isRegular wholeSpan plainSpan fieldSpan spanOf entryCovers sectionOk
-    memberOk offsetsOk membersOk arrayOk functionOk partsOf tagOk layoutOk layoutBad phase1 phase2 shortSlices phase3 phase4 phase5
+    memberOk offsetsOk membersOk arrayOk functionOk componentsOf tagOk layoutOk layoutBad phase1 phase2 shortSlices phase3 phase4 phase5
     phase6 overTypes tableReport refusal indexOf gate rename joinTables joinedBytes limitReport joinRefusal join
 computes = tt

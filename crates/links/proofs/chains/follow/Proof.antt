@@ -5,8 +5,8 @@ use denote.Ref.{now}
 use lib.ListN.{length, length-set}
 use Rattle.paper.specs.rules.Table.{recordAt}
 use Rattle.views.specs.Shown.{tableBy}
-use Rattle.links.specs.declared.chains.Step.{Step}
-use Rattle.links.specs.Search.{Stepped}
+use Rattle.links.specs.declared.chains.Move.{Move}
+use Rattle.links.specs.Search.{MoveOf}
 use Rattle.links.proofs.Following.{Following, toDo, following-start, following-type, following-ring, following-finished, following-on}
 use borrow.Author.Needs.{needs}
 use Rattle.links.proofs.chains.follow.Statement.{statement}
@@ -19,12 +19,12 @@ abbrev μ-loop : tie.MeasureT-loop
 μ-loop base b index view work₀ t₀ j₀ work t j = toDo (view .n) work j
 
 -- what a step tells, by its answer
-stepped : (c : tie.After-step-from Inv-loop μ-loop) {s : Step} → let l = c .before .before in let a = l .before .before .before .before .before .args in c .step-from .result ≡ s → Stepped (recordAt (tableBy (now (a .base)) (now (a .b)) (now (a .index)) (a .view)) (l .loop .t)) (l .loop .work) (l .loop .t) (l .loop .j) (c .step-from .last .1 .1 .1 .1 .1 .1 .0) s
-stepped c e = subst (Stepped _ _ _ _ _) e (c .step-from .ensures)
+moved : (c : tie.After-move-from Inv-loop μ-loop) {s : Move} → let l = c .before .before in let a = l .before .before .before .before .before .args in c .move-from .result ≡ s → MoveOf (recordAt (tableBy (now (a .base)) (now (a .b)) (now (a .index)) (a .view)) (l .loop .t)) (l .loop .work) (l .loop .t) (l .loop .j) (c .move-from .last .1 .1 .1 .1 .1 .1 .0) s
+moved c e = subst (MoveOf _ _ _ _ _) e (c .move-from .ensures)
 
 -- the work slice is as long as it was
-same-size : (c : tie.After-step-from Inv-loop μ-loop) → length (c .step-from .last .1 .1 .1 .1 .1 .1 .0) ≡ length (now (c .before .before .before .before .before .before .before .args .work))
-same-size c = c .step-from .kept .1 .1 .1 .1 .1 .1 .0 ∙ c .before .before .loop .inv .size-kept ∙ length-set (now (c .before .before .before .before .before .before .before .args .work)) _ _
+same-size : (c : tie.After-move-from Inv-loop μ-loop) → length (c .move-from .last .1 .1 .1 .1 .1 .1 .0) ≡ length (now (c .before .before .before .before .before .before .before .args .work))
+same-size c = c .move-from .kept .1 .1 .1 .1 .1 .1 .0 ∙ c .before .before .loop .inv .size-kept ∙ length-set (now (c .before .before .before .before .before .before .before .args .work)) _ _
 
 cast-work : tie.Need-cast-work Inv-loop μ-loop
 cast-work c = search needs
@@ -38,8 +38,8 @@ slice-write-work c = search needs
 loop-holds : tie.Need-loop-holds Inv-loop μ-loop
 loop-holds c = let p = c .before .before .before .before .pre in following-start (p .0) (p .1)
 
-step-from-requires : tie.Need-step-from-requires Inv-loop μ-loop
-step-from-requires c κs = let l = c .before .loop in (l .inv .ready, following-type (l .inv))
+move-from-requires : tie.Need-move-from-requires Inv-loop μ-loop
+move-from-requires c κs = let l = c .before .loop in (l .inv .ready, following-type (l .inv))
 
 enum-known-u : tie.Need-enum-known-u Inv-loop μ-loop
 enum-known-u c = search needs
@@ -47,12 +47,12 @@ enum-known-u c = search needs
 loop-less : tie.Need-loop-less Inv-loop μ-loop
 loop-less c =
     let s = c .before .before .before .before .before in
-    following-on (s .before .before .loop .inv) (stepped s (c .before .u .given .1)) .0
+    following-on (s .before .before .loop .inv) (moved s (c .before .u .given .1)) .0
 
 loop-again : tie.Need-loop-again Inv-loop μ-loop
 loop-again c =
     let s = c .before .before .before .before .before in
-    following-on (s .before .before .loop .inv) (stepped s (c .before .u .given .1)) .1
+    following-on (s .before .before .loop .inv) (moved s (c .before .u .given .1)) .1
 
 enum-told : tie.Need-enum-told Inv-loop μ-loop
 enum-told c = search needs
@@ -63,7 +63,7 @@ same-length c = same-size (c .before .before .before .before)
 returns : tie.Need-returns Inv-loop μ-loop
 returns c =
     let s = c .before .before .before .before in
-    following-ring (s .before .before .loop .inv) (stepped s (c .enum-told .given .1))
+    following-ring (s .before .before .loop .inv) (moved s (c .enum-told .given .1))
 
 enum-told-2 : tie.Need-enum-told-2 Inv-loop μ-loop
 enum-told-2 c = search needs
@@ -74,7 +74,7 @@ same-length-2 c = same-size (c .before .before .before .before)
 returns-2 : tie.Need-returns-2 Inv-loop μ-loop
 returns-2 c =
     let s = c .before .before .before .before in
-    following-finished (s .before .before .loop .inv) (stepped s (c .enum-told2 .given .1))
+    following-finished (s .before .before .loop .inv) (moved s (c .enum-told2 .given .1))
 
 pub follow-spec : {M : Type 1} → statement M
 follow-spec =
@@ -86,7 +86,7 @@ follow-spec =
     mul-work
     slice-write-work
     loop-holds
-    step-from-requires
+    move-from-requires
     enum-known-u
     loop-less
     loop-again

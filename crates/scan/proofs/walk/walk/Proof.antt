@@ -6,7 +6,7 @@ use native.Mathlib.Omega.{arith}
 use borrow.Author.Needs.{needs}
 use denote.Ref.{now}
 use Rattle.paper.specs.rules.Answer.{reportAsPaper}
-use Rattle.scan.specs.declared.walk.Step.{Step}
+use Rattle.scan.specs.declared.walk.Behind.{Behind}
 use Rattle.scan.proofs.Progress.{Standing, Told, standing-start, standing-done, standing-full, standing-step}
 use Rattle.scan.proofs.walk.walk.Statement.{statement}
 use Rattle.scan.proofs.walk.walk.Tie as tie
@@ -18,10 +18,10 @@ abbrev μ-loop : tie.MeasureT-loop
 μ-loop b len end at₀ count₀ at count = end - at
 
 -- what the step of a turn tells
-told : (c : tie.After-step-from Inv-loop μ-loop) {s : Step} → let l = c .before .before .before in let a = l .before .before .args in c .step-from .result ≡ s → Told (now (a .b)) (24 + a .len) (l .loop .count) (l .loop .at) s
+told : (c : tie.After-behind-of Inv-loop μ-loop) {s : Behind} → let l = c .before .before .before in let a = l .before .before .args in c .behind-of .result ≡ s → Told (now (a .b)) (24 + a .len) (l .loop .count) (l .loop .at) s
 told c e =
     let l = c .before .before .before .loop in
-    standing-step _ _ (l .count) (l .at) (l .inv) (c .before .before .loop-test .taken) (c .before .if1 .left) (sym (c .step-from .ensures) ∙ e)
+    standing-step _ _ (l .count) (l .at) (l .inv) (c .before .before .loop-test .taken) (c .before .if1 .left) (sym (c .behind-of .ensures) ∙ e)
 
 add-end : tie.Need-add-end Inv-loop μ-loop
 add-end c = search needs
@@ -38,8 +38,8 @@ returns c =
 add-count : tie.Need-add-count Inv-loop μ-loop
 add-count c = search needs
 
-step-from-requires : tie.Need-step-from-requires Inv-loop μ-loop
-step-from-requires c κs = search needs
+behind-of-requires : tie.Need-behind-of-requires Inv-loop μ-loop
+behind-of-requires c κs = search needs
 
 enum-known-next : tie.Need-enum-known-next Inv-loop μ-loop
 enum-known-next c = search needs
@@ -79,7 +79,7 @@ walk-spec =
     loop-holds
     returns
     add-count
-    step-from-requires
+    behind-of-requires
     enum-known-next
     loop-less
     loop-again

@@ -9,7 +9,7 @@ use lib.Dec.{eqb, ltb}
 use lib.ListN.{getD}
 use Rattle.paper.specs.rules.Choice.{member}
 use Rattle.paper.specs.rules.KindNo.{STRUCT, UNION, FUNC}
-use Rattle.paper.specs.rules.Layout.{allNamed, arrayOk, functionOk, partsOf, tagOk}
+use Rattle.paper.specs.rules.Layout.{allNamed, arrayOk, functionOk, componentsOf, tagOk}
 use Rattle.paper.specs.rules.Size.{hasSize}
 use Rattle.paper.specs.rules.Span.{isRegular}
 use Rattle.paper.specs.rules.Table.{Record, Table, recordAt, kindOf, vlenOf}
@@ -42,28 +42,28 @@ module _ (T : Table) (r : Record) where
   -- ── tags ──
 
   module _ {k : ℕ} (kind : k ≡ kindOf r) where
-    abbrev parts : ℕ → ℕ
-    parts j = cond (member j (STRUCT ∷ UNION ∷ [])) (vlenOf r) (cond (eqb j FUNC) (vlenOf (recordAt T (r .third))) 0)
+    abbrev components : ℕ → ℕ
+    components j = cond (member j (STRUCT ∷ UNION ∷ [])) (vlenOf r) (cond (eqb j FUNC) (vlenOf (recordAt T (r .third))) 0)
 
-    by-kind : parts k ≡ partsOf T r
-    unfolding partsOf
-    by-kind = ap parts kind
+    by-kind : components k ≡ componentsOf T r
+    unfolding componentsOf
+    by-kind = ap components kind
 
-    pub parts-struct : k ≡ STRUCT → {v : ℕ} → v ≡ vlenOf r → v ≡ partsOf T r
-    parts-struct e d = d ∙ sym (ap parts e) ∙ by-kind
+    pub components-struct : k ≡ STRUCT → {v : ℕ} → v ≡ vlenOf r → v ≡ componentsOf T r
+    components-struct e d = d ∙ sym (ap components e) ∙ by-kind
 
-    pub parts-union : k ≡ UNION → {v : ℕ} → v ≡ vlenOf r → v ≡ partsOf T r
-    parts-union e d = d ∙ sym (ap parts e) ∙ by-kind
+    pub components-union : k ≡ UNION → {v : ℕ} → v ≡ vlenOf r → v ≡ componentsOf T r
+    components-union e d = d ∙ sym (ap components e) ∙ by-kind
 
     module _ (no-struct : k ≡ STRUCT → ⊥) (no-union : k ≡ UNION → ⊥) where
-      by-func : cond (eqb k FUNC) (vlenOf (recordAt T (r .third))) 0 ≡ partsOf T r
+      by-func : cond (eqb k FUNC) (vlenOf (recordAt T (r .third))) 0 ≡ componentsOf T r
       by-func = sym (rw (ne-eqb k STRUCT no-struct, ne-eqb k UNION no-union) refl) ∙ by-kind
 
-      pub parts-none : (k ≡ FUNC → ⊥) → 0 ≡ partsOf T r
-      parts-none n = sym (ap (λ (t : Bool). cond t (vlenOf (recordAt T (r .third))) 0) (ne-eqb k FUNC n)) ∙ by-func
+      pub components-none : (k ≡ FUNC → ⊥) → 0 ≡ componentsOf T r
+      components-none n = sym (ap (λ (t : Bool). cond t (vlenOf (recordAt T (r .third))) 0) (ne-eqb k FUNC n)) ∙ by-func
 
-      pub parts-func : k ≡ FUNC → {w : ℕ} → w ≡ r .third → (q : Record) → q ≡ recordAt T w → {v : ℕ} → v ≡ vlenOf q → v ≡ partsOf T r
-      parts-func e third q is d =
+      pub components-func : k ≡ FUNC → {w : ℕ} → w ≡ r .third → (q : Record) → q ≡ recordAt T w → {v : ℕ} → v ≡ vlenOf q → v ≡ componentsOf T r
+      components-func e third q is d =
           d
           ∙ ap vlenOf (is ∙ ap (recordAt T) third)
           ∙ sym (ap (λ (t : Bool). cond t (vlenOf (recordAt T (r .third))) 0) (eq-eqb k FUNC e))
@@ -71,7 +71,7 @@ module _ (T : Table) (r : Record) where
 
   module _ {c : ℕ} (component : c ≡ getD (r .tail) 0 0) where
     abbrev tag : ℕ → Bool → Bool
-    tag x t = t || ltb x (partsOf T (recordAt T (r .third)))
+    tag x t = t || ltb x (componentsOf T (recordAt T (r .third)))
 
     by-component : tag c (eqb c 4294967295) ≡ tagOk T r
     unfolding tagOk
@@ -80,6 +80,6 @@ module _ (T : Table) (r : Record) where
     pub tag-whole : c ≡ 4294967295 → true ≡ tagOk T r
     tag-whole e = sym (ap (tag c) (eq-eqb c 4294967295 e)) ∙ by-component
 
-    pub tag-part : (c ≡ 4294967295 → ⊥) → {w : ℕ} → w ≡ r .third → (q : Record) → q ≡ recordAt T w → {n : ℕ} → n ≡ partsOf T q → ltb c n ≡ tagOk T r
+    pub tag-part : (c ≡ 4294967295 → ⊥) → {w : ℕ} → w ≡ r .third → (q : Record) → q ≡ recordAt T w → {n : ℕ} → n ≡ componentsOf T q → ltb c n ≡ tagOk T r
     tag-part apart third q is d =
-        ap (ltb c) (d ∙ ap (partsOf T) (is ∙ ap (recordAt T) third)) ∙ sym (ap (tag c) (ne-eqb c 4294967295 apart)) ∙ by-component
+        ap (ltb c) (d ∙ ap (componentsOf T) (is ∙ ap (recordAt T) third)) ∙ sym (ap (tag c) (ne-eqb c 4294967295 apart)) ∙ by-component

@@ -1,4 +1,4 @@
--- `layout::parts::function_ok` meets its contract: the names of its prototype's parameters.
+-- `layout::others::function_ok` meets its contract: the names of its prototype's parameters.
 -- Assumes nothing.
 use mathlib.Core.Path.{refl}
 use denote.Ref.{now}
@@ -6,10 +6,10 @@ use Rattle.views.specs.Shown.{tableBy}
 use Rattle.paper.specs.terms.Reading.{recordIn}
 use Rattle.paper.specs.rules.Word.{lowFirst}
 use Rattle.rows.proofs.RecordWords.{third-read}
-use Rattle.layout.proofs.PartTests.{function-names}
+use Rattle.layout.proofs.OtherTests.{function-names}
 use borrow.Author.Needs.{needs}
-use Rattle.layout.proofs.parts.function_ok.Statement.{statement}
-use Rattle.layout.proofs.parts.function_ok.Tie as tie
+use Rattle.layout.proofs.others.function_ok.Statement.{statement}
+use Rattle.layout.proofs.others.function_ok.Tie as tie
 
 read-requires : tie.Need-read-requires
 read-requires c κs = search needs

@@ -13,7 +13,7 @@ use views::View;
 use views::record_of;
 ghost use mathlib.Core.Path.{_≡_};
 ghost use Rattle.paper.specs.rules.KindNo.{ARRAY, DECL-TAG};
-ghost use Rattle.paper.specs.rules.Layout.{allNamed, arrayOk, functionOk, partsOf, tagOk};
+ghost use Rattle.paper.specs.rules.Layout.{allNamed, arrayOk, functionOk, componentsOf, tagOk};
 ghost use Rattle.paper.specs.terms.Reading.{recordIn};
 ghost use Rattle.paper.specs.rules.Table.{kindOf};
 ghost use Rattle.paper.specs.rules.Tails.{parametersOf};
@@ -71,9 +71,9 @@ pub(crate) fn function_ok<'a>(
     all_named(proto)
 }
 
-// How many parts a tag can point at.
-fn parts_of<'a>(base: &'a [u8], b: &'a [u8], index: &[u32], view: View, target: &[u8]) -> u32
-    ensures { λ r. ⌜ r ≡ partsOf (tableBy (now (base .entry)) (now (b .entry)) (now (index .entry)) view) (recordIn lowFirst (now (target .entry))) ⌝ }
+// How many components a tag can point at.
+fn components_of<'a>(base: &'a [u8], b: &'a [u8], index: &[u32], view: View, target: &[u8]) -> u32
+    ensures { λ r. ⌜ r ≡ componentsOf (tableBy (now (base .entry)) (now (b .entry)) (now (index .entry)) view) (recordIn lowFirst (now (target .entry))) ⌝ }
 {
     let info = words::read(target, Place(4));
     let kind = kind_of(info);
@@ -106,5 +106,5 @@ pub(crate) fn tag_ok<'a>(
         return true;
     }
     let target = record_of(base, b, index, view, TypeNo(words::read(bytes, Place(8))));
-    component < parts_of(base, b, index, view, target)
+    component < components_of(base, b, index, view, target)
 }

@@ -1,4 +1,4 @@
--- `layout::parts::parts_of` meets its contract: by the kind of what a tag points at.
+-- `layout::others::components_of` meets its contract: by the kind of what a tag points at.
 -- Assumes nothing.
 use mathlib.Core.Path.{refl}
 use denote.Ref.{now}
@@ -6,10 +6,10 @@ use Rattle.views.specs.Shown.{tableBy}
 use Rattle.paper.specs.terms.Reading.{recordIn}
 use Rattle.paper.specs.rules.Word.{lowFirst}
 use Rattle.rows.proofs.RecordWords.{kind-read, vlen-read, third-read}
-use Rattle.layout.proofs.PartTests.{parts-struct, parts-union, parts-none, parts-func}
+use Rattle.layout.proofs.OtherTests.{components-struct, components-union, components-none, components-func}
 use borrow.Author.Needs.{needs}
-use Rattle.layout.proofs.parts.parts_of.Statement.{statement}
-use Rattle.layout.proofs.parts.parts_of.Tie as tie
+use Rattle.layout.proofs.others.components_of.Statement.{statement}
+use Rattle.layout.proofs.others.components_of.Tie as tie
 
 read-requires : tie.Need-read-requires
 read-requires c κs = search needs
@@ -28,7 +28,7 @@ returns c =
     let target = now (start .args .target) in
     let kind = kind-read target refl (r .read .ensures) (k .kind-of .ensures) in
     let T = tableBy (now (start .args .base)) (now (start .args .b)) (now (start .args .index)) (start .args .view) in
-    parts-struct T (recordIn lowFirst target) kind (c .before .if1 .taken) (vlen-read target refl (r .read .ensures) (c .vlen-of .ensures))
+    components-struct T (recordIn lowFirst target) kind (c .before .if1 .taken) (vlen-read target refl (r .read .ensures) (c .vlen-of .ensures))
 
 vlen-of-requires-2 : tie.Need-vlen-of-requires-2
 vlen-of-requires-2 c κs = search needs
@@ -41,7 +41,7 @@ returns-2 c =
     let target = now (start .args .target) in
     let kind = kind-read target refl (r .read .ensures) (k .kind-of .ensures) in
     let T = tableBy (now (start .args .base)) (now (start .args .b)) (now (start .args .index)) (start .args .view) in
-    parts-union T (recordIn lowFirst target) kind (c .before .if2 .taken) (vlen-read target refl (r .read .ensures) (c .vlen-of2 .ensures))
+    components-union T (recordIn lowFirst target) kind (c .before .if2 .taken) (vlen-read target refl (r .read .ensures) (c .vlen-of2 .ensures))
 
 returns-3 : tie.Need-returns-3
 returns-3 c =
@@ -51,7 +51,7 @@ returns-3 c =
     let target = now (start .args .target) in
     let kind = kind-read target refl (r .read .ensures) (k .kind-of .ensures) in
     let T = tableBy (now (start .args .base)) (now (start .args .b)) (now (start .args .index)) (start .args .view) in
-    parts-none T (recordIn lowFirst target) kind (c .before .before .if1 .left) (c .before .if2 .left) (c .if3 .taken)
+    components-none T (recordIn lowFirst target) kind (c .before .before .if1 .left) (c .before .if2 .left) (c .if3 .taken)
 
 read-requires-2 : tie.Need-read-requires-2
 read-requires-2 c κs = search needs
@@ -76,11 +76,11 @@ returns-4 c =
     let kind = kind-read target refl (r .read .ensures) (k .kind-of .ensures) in
     let T = tableBy (now (start .args .base)) (now (start .args .b)) (now (start .args .index)) (start .args .view) in
     let proto = now (q .record-of .result) in
-    parts-func T (recordIn lowFirst target) kind (e .before .before .if1 .left) (e .before .if2 .left) (e .if3 .left)
+    components-func T (recordIn lowFirst target) kind (e .before .before .if1 .left) (e .before .if2 .left) (e .if3 .left)
     (third-read target refl (q .before .read2 .ensures)) (recordIn lowFirst proto) (q .record-of .ensures .shows) (vlen-read proto refl (c .before .read3 .ensures) (c .vlen-of3 .ensures))
 
-pub parts-of-spec : {M : Type 1} → statement M
-parts-of-spec =
+pub components-of-spec : {M : Type 1} → statement M
+components-of-spec =
     tie.close
     (tie.spec
     read-requires

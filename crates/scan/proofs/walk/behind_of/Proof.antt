@@ -1,4 +1,4 @@
--- `walk::step_from` meets its contract: each of its answers is one of the ways of a step.
+-- `walk::behind_of` meets its contract: each of its answers is one of the ways of a step.
 -- Assumes nothing.
 use Prim.Native.Nat.{ℕ, _+_, _*_}
 use mathlib.Core.Path.{_≡_, sym, ap, _∙_}
@@ -7,12 +7,12 @@ use borrow.Author.Tests.{not-true, not-false}
 use denote.Ref.{now}
 use Rattle.paper.specs.rules.Table.{kindIn, tailLength}
 use Rattle.paper.specs.rules.Walk.{known}
-use Rattle.scan.specs.declared.walk.Step.the-variants.{Next}
+use Rattle.scan.specs.declared.walk.Behind.the-variants.{Next}
 use Rattle.rows.proofs.RoleCodes.{tailLength-few}
-use Rattle.scan.proofs.WalkSteps.{nextPlace, knownAt, way-stepFrom, head-cut, unknown, tail-cut, onward}
+use Rattle.scan.proofs.WalkSteps.{nextPlace, knownAt, way-behindOf, head-cut, unknown, tail-cut, onward}
 use borrow.Author.Needs.{needs}
-use Rattle.scan.proofs.walk.step_from.Statement.{statement}
-use Rattle.scan.proofs.walk.step_from.Tie as tie
+use Rattle.scan.proofs.walk.behind_of.Statement.{statement}
+use Rattle.scan.proofs.walk.behind_of.Tie as tie
 
 -- the kind that was asked about is that of the record at the place
 known-here : (c : tie.After-is-known) → let a = c .before .before .before .before .before .before .before .before .args in knownAt (now (a .b)) (a .at .0) ≡ c .is-known .result
@@ -27,7 +27,7 @@ sub-room : tie.Need-sub-room
 sub-room c = search needs
 
 returns : tie.Need-returns
-returns c = sym (way-stepFrom (head-cut (omega arith)))
+returns c = sym (way-behindOf (head-cut (omega arith)))
 
 add-is-known : tie.Need-add-is-known
 add-is-known c = search needs
@@ -42,7 +42,7 @@ is-known-requires : tie.Need-is-known-requires
 is-known-requires c κs = search needs
 
 returns-2 : tie.Need-returns-2
-returns-2 c = sym (way-stepFrom (unknown (omega arith) (known-here (c .before) ∙ not-true (c .before .is-known .result) (c .if2 .taken))))
+returns-2 c = sym (way-behindOf (unknown (omega arith) (known-here (c .before) ∙ not-true (c .before .is-known .result) (c .if2 .taken))))
 
 tail-words-requires : tie.Need-tail-words-requires
 tail-words-requires c κs = search needs
@@ -54,7 +54,7 @@ returns-3 : tie.Need-returns-3
 returns-3 c =
     let e = c .before .before in
     let next = next-here (c .before) in
-    sym (way-stepFrom (tail-cut (omega arith) (known-here (e .before) ∙ not-false (e .before .is-known .result) (e .if2 .left)) (omega arith)))
+    sym (way-behindOf (tail-cut (omega arith) (known-here (e .before) ∙ not-false (e .before .is-known .result) (e .if2 .left)) (omega arith)))
 
 add-t8 : tie.Need-add-t8
 add-t8 c = search needs
@@ -67,10 +67,10 @@ returns-4 c =
     let e = c .before .before .before in
     let next = next-here (c .before .before) in
     ap (λ (p : ℕ). Next (record { 0 = p })) (sym next)
-    ∙ sym (way-stepFrom (onward (omega arith) (known-here (e .before) ∙ not-false (e .before .is-known .result) (e .if2 .left)) (omega arith)))
+    ∙ sym (way-behindOf (onward (omega arith) (known-here (e .before) ∙ not-false (e .before .is-known .result) (e .if2 .left)) (omega arith)))
 
-pub step-from-spec : {M : Type 1} → statement M
-step-from-spec =
+pub behind-of-spec : {M : Type 1} → statement M
+behind-of-spec =
     tie.close
     (tie.spec
     sub-room

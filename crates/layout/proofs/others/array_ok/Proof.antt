@@ -1,14 +1,14 @@
--- `layout::parts::array_ok` meets its contract: the element decides, and then the index INT.
+-- `layout::others::array_ok` meets its contract: the element decides, and then the index INT.
 -- Assumes nothing.
 use denote.Ref.{now}
 use Rattle.views.specs.Shown.{tableBy}
 use Rattle.paper.specs.terms.Reading.{recordIn}
 use Rattle.paper.specs.rules.Word.{lowFirst}
 use Rattle.rows.proofs.RecordWords.{element-read, index-read}
-use Rattle.layout.proofs.PartTests.{array-sizeless, array-index}
+use Rattle.layout.proofs.OtherTests.{array-sizeless, array-index}
 use borrow.Author.Needs.{needs}
-use Rattle.layout.proofs.parts.array_ok.Statement.{statement}
-use Rattle.layout.proofs.parts.array_ok.Tie as tie
+use Rattle.layout.proofs.others.array_ok.Statement.{statement}
+use Rattle.layout.proofs.others.array_ok.Tie as tie
 
 read-requires : tie.Need-read-requires
 read-requires c κs = search needs

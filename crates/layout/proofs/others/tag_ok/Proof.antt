@@ -1,4 +1,4 @@
--- `layout::parts::tag_ok` meets its contract: all ones, or a part of what it points at.
+-- `layout::others::tag_ok` meets its contract: all ones, or a part of what it points at.
 -- Assumes nothing.
 use mathlib.Core.Path.{refl}
 use denote.Ref.{now}
@@ -6,10 +6,10 @@ use Rattle.views.specs.Shown.{tableBy}
 use Rattle.paper.specs.terms.Reading.{recordIn}
 use Rattle.paper.specs.rules.Word.{lowFirst}
 use Rattle.rows.proofs.RecordWords.{third-read, component-read}
-use Rattle.layout.proofs.PartTests.{tag-whole, tag-part}
+use Rattle.layout.proofs.OtherTests.{tag-whole, tag-part}
 use borrow.Author.Needs.{needs}
-use Rattle.layout.proofs.parts.tag_ok.Statement.{statement}
-use Rattle.layout.proofs.parts.tag_ok.Tie as tie
+use Rattle.layout.proofs.others.tag_ok.Statement.{statement}
+use Rattle.layout.proofs.others.tag_ok.Tie as tie
 
 read-requires : tie.Need-read-requires
 read-requires c κs = search needs
@@ -27,8 +27,8 @@ read-requires-2 c κs = search needs
 record-of-requires : tie.Need-record-of-requires
 record-of-requires c κs = search needs
 
-parts-of-requires : tie.Need-parts-of-requires
-parts-of-requires c κs = search needs
+components-of-requires : tie.Need-components-of-requires
+components-of-requires c κs = search needs
 
 returns-2 : tie.Need-returns-2
 returns-2 c =
@@ -38,9 +38,9 @@ returns-2 c =
     let start = r .before .before .before .before .before in
     let bytes = now (start .args .bytes) in
     tag-part (tableBy (now (start .args .base)) (now (start .args .b)) (now (start .args .index)) (start .args .view)) (recordIn lowFirst bytes) (component-read bytes (start .pre) (r .read .ensures)) (e .if1 .left)
-    (third-read bytes refl (q .before .read2 .ensures)) (recordIn lowFirst (now (q .record-of .result))) (q .record-of .ensures .shows) (c .parts-of .ensures)
+    (third-read bytes refl (q .before .read2 .ensures)) (recordIn lowFirst (now (q .record-of .result))) (q .record-of .ensures .shows) (c .components-of .ensures)
 
 pub tag-ok-spec : {M : Type 1} → statement M
 tag-ok-spec =
     tie.close
-    (tie.spec read-requires returns read-requires-2 record-of-requires parts-of-requires returns-2)
+    (tie.spec read-requires returns read-requires-2 record-of-requires components-of-requires returns-2)

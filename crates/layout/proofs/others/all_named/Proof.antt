@@ -1,11 +1,11 @@
--- `layout::parts::all_named` meets its contract. The loop's invariant: what is left of the parameters is asked what all are asked.
+-- `layout::others::all_named` meets its contract. The loop's invariant: what is left of the parameters is asked what all are asked.
 -- Assumes nothing.
 use native.Mathlib.Omega.{arith}
 use denote.Ref.{now}
 use Rattle.layout.proofs.NamedLeft.{Naming, naming-start, naming-done, naming-next, naming-inner, naming-last}
 use borrow.Author.Needs.{needs}
-use Rattle.layout.proofs.parts.all_named.Statement.{statement}
-use Rattle.layout.proofs.parts.all_named.Tie as tie
+use Rattle.layout.proofs.others.all_named.Statement.{statement}
+use Rattle.layout.proofs.others.all_named.Tie as tie
 
 abbrev Inv-loop : tie.InvT-loop
 Inv-loop bytes p₀ left₀ p left = Naming bytes p left

@@ -1,4 +1,4 @@
--- `links::chains::step_from` meets its contract: each answer is one of the ways that a step can go.
+-- `links::chains::move_from` meets its contract: each answer is one of the ways that a step can go.
 -- Assumes nothing.
 use mathlib.Core.List.{[]}
 use mathlib.Core.Path.{_≡_, refl}
@@ -10,8 +10,8 @@ use Rattle.links.specs.Holding.{heldFrom, NextHeld}
 use Rattle.links.specs.Search.{along, into, back}
 use Rattle.links.proofs.HeldTypes.{told, next-type, next-small, few-types}
 use borrow.Author.Needs.{needs}
-use Rattle.links.proofs.chains.step_from.Statement.{statement}
-use Rattle.links.proofs.chains.step_from.Tie as tie
+use Rattle.links.proofs.chains.move_from.Statement.{statement}
+use Rattle.links.proofs.chains.move_from.Tie as tie
 
 -- nothing is left of the type
 spent : (c : tie.After-enum-told) → let a = c .before .before .before .before .before .before .before .before .before .args in heldFrom (recordAt (tableBy (now (a .base)) (now (a .b)) (now (a .index)) (a .view)) (a .t .0)) (a .j) ≡ []
@@ -113,8 +113,8 @@ same-length-3 c = search needs
 returns-5 : tie.Need-returns-5
 returns-5 c = into (found (c .before .before .before .before .before .before)) (c .before .if3 .left) refl refl
 
-pub step-from-spec : {M : Type 1} → statement M
-step-from-spec =
+pub move-from-spec : {M : Type 1} → statement M
+move-from-spec =
     tie.close
     (tie.spec
     cast-from
