@@ -1,4 +1,3 @@
-pub mod Summing
 pub mod Words
 pub mod Parts
 pub mod Runs

@@ -1,49 +1,78 @@
 -- Laws of `Run`: what running a case gives, by its op.
 -- Assumes nothing.
 use Prim.Native.Nat.{ℕ}
-use mathlib.Core.Path.{_≡_, refl}
+use mathlib.Core.Path.{_≡_, refl, ap₂, _∙_}
+use mathlib.Core.Bool.{Bool, cond}
 use mathlib.Core.List.{List}
 use borrow.Author.Tests.{ne-eqb}
+use lib.ListN.{length}
 use Rattle.paper.specs.rules.Answer.{Answer}
 use Rattle.paper.specs.rules.Gate.{gate}
 use Rattle.paper.specs.rules.Join.{join}
-use Rattle.paper.specs.rules.Name.{nameAt}
+use Rattle.paper.specs.rules.Name.{nameless, nameAt}
 use Rattle.paper.specs.rules.Size.{sizeOf}
-use Rattle.paper.specs.rules.Word.{lowFirst, words}
-use Rattle.replay.specs.Case.{checkSeen, joinSeen, named, seenWith}
-use Rattle.replay.specs.Run.{lentPlaces, lentBytes, runOf}
+use Rattle.paper.specs.rules.Word.{lowFirst, words, bytesOfWords}
+use Rattle.sums.specs.Sum.{sumOf, lentPlaces, lentBytes}
+use Rattle.replay.specs.Case.{checkSeen, sizeSeen, nameSeen, joinSeen, plainly, seenSums}
+use Rattle.replay.specs.Run.{RanAs, RunOf}
 use Rattle.replay.specs.declared.cases.Head.{Head}
 use Rattle.replay.specs.declared.cases.Seen.{Seen}
-use Rattle.replay.specs.declared.ops.Ran.the-variants.{Saw, Unknown}
+use Rattle.replay.specs.declared.ops.Ran.{Ran}
+use Rattle.replay.specs.declared.ops.Ran.the-variants.{Unknown}
 
--- what is seen with the gate's answer and the gate's slices is what is seen of a check
-pub check-seen : (a output : List ℕ) (places workPlaces : ℕ) {seen : Seen} {r : Answer} {i w : List ℕ} → seen ≡ seenWith r i w output → r ≡ gate a places workPlaces .answer → i ≡ gate a places workPlaces .index → w ≡ gate a places workPlaces .work → seen ≡ checkSeen a places workPlaces output
-check-seen a output places workPlaces e er ei ew = rw (e, er, ei, ew) refl
+-- what is seen with the gate's answer and the sums of the gate's slices is what is seen of a check
+pub check-seen : (a : List ℕ) (places workPlaces bytes : ℕ) {seen : Seen} {r : Answer} {i w : List ℕ} {x y z : ℕ} → seen ≡ seenSums r x y z
+    → x ≡ sumOf (bytesOfWords lowFirst i) → y ≡ sumOf (bytesOfWords lowFirst w) → z ≡ sumOf (lentBytes bytes)
+    → {p q : ℕ} → p ≡ places → q ≡ workPlaces → r ≡ gate a p q .answer → i ≡ gate a p q .index → w ≡ gate a p q .work
+    → seen ≡ checkSeen a places workPlaces (lentBytes bytes)
+check-seen a places workPlaces bytes e ex ey ez ep eq er ei ew = rw (e, ex, ey, ez, er, ei, ew, ep, eq) refl
 
--- what is seen with the join's answer and the join's slices is what is seen of a join
-pub join-seen : (a b output : List ℕ) (places workPlaces : ℕ) {seen : Seen} {r : Answer} {i w o : List ℕ} → seen ≡ seenWith r i w o → r ≡ join a b places workPlaces output .answer → i ≡ join a b places workPlaces output .index → w ≡ join a b places workPlaces output .work → o ≡ join a b places workPlaces output .output → seen ≡ joinSeen a b places workPlaces output
-join-seen a b output places workPlaces e er ei ew eo = rw (e, er, ei, ew, eo) refl
+-- what is seen with the join's answer and the sums of the join's slices is what is seen of a join
+pub join-seen : (a b : List ℕ) (places workPlaces bytes : ℕ) {seen : Seen} {r : Answer} {i w o : List ℕ} {x y z : ℕ} → seen ≡ seenSums r x y z
+    → x ≡ sumOf (bytesOfWords lowFirst i) → y ≡ sumOf (bytesOfWords lowFirst w) → z ≡ sumOf o
+    → {p q : ℕ} {out : List ℕ} → p ≡ places → q ≡ workPlaces → out ≡ lentBytes bytes
+    → r ≡ join a b p q out .answer → i ≡ join a b p q out .index → w ≡ join a b p q out .work → o ≡ join a b p q out .output
+    → seen ≡ joinSeen a b places workPlaces (lentBytes bytes)
+join-seen a b places workPlaces bytes e ex ey ez ep eq eo er ei ew ez′ = rw (e, ex, ey, ez, er, ei, ew, ez′, ep, eq, eo) refl
 
-module _ (h : Head) (a b : List ℕ) (index work output : ℕ) where
-  pub run-unknown : (h .op ≡ 1 → ⊥) → (h .op ≡ 2 → ⊥) → (h .op ≡ 3 → ⊥) → (h .op ≡ 4 → ⊥) → Unknown ≡ runOf h a b index work output
-  unfolding runOf
+-- and of the size question and the name
+pub size-seen : (a b : List ℕ) (x i w o : ℕ) {seen : Seen} {r : Answer} {si sw so : ℕ} → seen ≡ seenSums r si sw so
+    → si ≡ sumOf (bytesOfWords lowFirst (lentPlaces i)) → sw ≡ sumOf (bytesOfWords lowFirst (lentPlaces w)) → so ≡ sumOf (lentBytes o)
+    → {given : List ℕ} → given ≡ words lowFirst b → r ≡ sizeOf a given x → seen ≡ sizeSeen x a (words lowFirst b) i w o
+size-seen a b x i w o e ei ew eo eg er = rw (e, ei, ew, eo, er, eg) refl
+
+pub name-seen : (a : List ℕ) (x i w : ℕ) {seen : Seen} {r : Answer} {si sw so n : ℕ} {part : List ℕ} {t : Bool} → seen ≡ seenSums r si sw so
+    → si ≡ sumOf (bytesOfWords lowFirst (lentPlaces i)) → sw ≡ sumOf (bytesOfWords lowFirst (lentPlaces w)) → so ≡ sumOf part → part ≡ nameAt a x
+    → t ≡ nameless a x → n ≡ cond t 1 0 → r ≡ plainly n (length part) → seen ≡ nameSeen x a i w
+name-seen a x i w e ei ew eo ep et en er = rw (e, ei, ew, eo, er, en, et, ep) refl
+
+-- as many places and bytes are lent as a case says
+pub check-cut : (a : List ℕ) (bytes : ℕ) {seen : Seen} {p q places workPlaces : ℕ} → p ≡ places → q ≡ workPlaces
+    → seen ≡ checkSeen a p q (lentBytes bytes) → seen ≡ checkSeen a places workPlaces (lentBytes bytes)
+check-cut a bytes ep eq e = e ∙ ap₂ (λ (p q : ℕ). checkSeen a p q (lentBytes bytes)) ep eq
+
+pub join-cut : (a b : List ℕ) {seen : Seen} {p q o places workPlaces bytes : ℕ} → p ≡ places → q ≡ workPlaces → o ≡ bytes
+    → seen ≡ joinSeen a b p q (lentBytes o) → seen ≡ joinSeen a b places workPlaces (lentBytes bytes)
+join-cut a b ep eq eo e = e ∙ (λ i. joinSeen a b (ep i) (eq i) (lentBytes (eo i)))
+
+module _ (h : Head) (a b : List ℕ) where
+  pub run-unknown : (h .op ≡ 1 → ⊥) → (h .op ≡ 2 → ⊥) → (h .op ≡ 3 → ⊥) → (h .op ≡ 4 → ⊥) → RunOf Unknown h a b
+  unfolding RunOf
   run-unknown one two three four =
       rw (ne-eqb _ _ one, ne-eqb _ _ two, ne-eqb _ _ three, ne-eqb _ _ four) refl
 
-  -- as many places of both slices are lent as were filled
-  pub run-check : {seen : Seen} {places workPlaces : ℕ} {o : List ℕ} → h .op ≡ 1 → seen ≡ checkSeen a places workPlaces o → places ≡ index → workPlaces ≡ work → o ≡ lentBytes output → Saw seen ≡ runOf h a b index work output
-  unfolding runOf
-  run-check op e ei ew eo = rw (op, e, ei, ew, eo) refl
+  pub run-check : (r : Ran) → h .op ≡ 1 → RanAs r (checkSeen a (h .index) (h .work) (lentBytes (h .output))) → RunOf r h a b
+  unfolding RunOf
+  run-check r op e = rw op e
 
-  -- the slices are filled, and the index is the words of b
-  pub run-size : {seen : Seen} {given i w o : List ℕ} → h .op ≡ 2 → seen ≡ seenWith (sizeOf a given (h .x)) i w o → given ≡ words lowFirst b → i ≡ lentPlaces index → w ≡ lentPlaces work → o ≡ lentBytes output → Saw seen ≡ runOf h a b index work output
-  unfolding runOf
-  run-size op e g ei ew eo = rw (op, e, g, ei, ew, eo) refl
+  pub run-size : (r : Ran) → h .op ≡ 2 → RanAs r (sizeSeen (h .x) a (words lowFirst b) (h .index) (h .work) (h .output)) → RunOf r h a b
+  unfolding RunOf
+  run-size r op e = rw op e
 
-  pub run-name : {seen : Seen} {i w : List ℕ} → h .op ≡ 3 → seen ≡ seenWith (named a (h .x)) i w (nameAt a (h .x)) → i ≡ lentPlaces index → w ≡ lentPlaces work → Saw seen ≡ runOf h a b index work output
-  unfolding runOf
-  run-name op e ei ew = rw (op, e, ei, ew) refl
+  pub run-name : (r : Ran) → h .op ≡ 3 → RanAs r (nameSeen (h .x) a (h .index) (h .work)) → RunOf r h a b
+  unfolding RunOf
+  run-name r op e = rw op e
 
-  pub run-join : {seen : Seen} {places workPlaces : ℕ} {o : List ℕ} → h .op ≡ 4 → seen ≡ joinSeen a b places workPlaces o → places ≡ index → workPlaces ≡ work → o ≡ lentBytes output → Saw seen ≡ runOf h a b index work output
-  unfolding runOf
-  run-join op e ei ew eo = rw (op, e, ei, ew, eo) refl
+  pub run-join : (r : Ran) → h .op ≡ 4 → RanAs r (joinSeen a b (h .index) (h .work) (lentBytes (h .output))) → RunOf r h a b
+  unfolding RunOf
+  run-join r op e = rw op e

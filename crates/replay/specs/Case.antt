@@ -8,8 +8,9 @@ use Rattle.paper.specs.rules.Answer as paper
 use Rattle.paper.specs.rules.Gate.{gate}
 use Rattle.paper.specs.rules.Join.{join}
 use Rattle.paper.specs.rules.Name.{nameless, nameAt}
+use Rattle.paper.specs.rules.Size.{sizeOf}
 use Rattle.paper.specs.rules.Word.{lowFirst, wordAt, bytesOfWords}
-use Rattle.replay.specs.Sum.{sumOf}
+use Rattle.sums.specs.Sum.{sumOf, lentPlaces, lentBytes}
 use Rattle.replay.specs.declared.cases.Head.{Head}
 use Rattle.replay.specs.declared.cases.Seen.{Seen}
 use Rattle.replay.specs.declared.cases.Opening.{Opening}
@@ -66,22 +67,33 @@ abbrev pub named : List ℕ → ℕ → paper.Answer
 named b off = plainly (cond (nameless b off) 1 0) (length (nameAt b off))
 
 -- what is seen of a call: its answer, and the sums of what was lent, the index, the work and the output
-abbrev pub seenWith : paper.Answer → List ℕ → List ℕ → List ℕ → Seen
-seenWith r index work output =
+abbrev pub seenSums : paper.Answer → ℕ → ℕ → ℕ → Seen
+seenSums r index work output =
     record {
       number = r .number;
       inner = r .inner;
       t = r .t;
       p = r .p;
-      index = sumOf (bytesOfWords lowFirst index);
-      work = sumOf (bytesOfWords lowFirst work);
-      output = sumOf output;
+      index = index;
+      work = work;
+      output = output;
     }
+
+abbrev pub seenWith : paper.Answer → List ℕ → List ℕ → List ℕ → Seen
+seenWith r index work output = seenSums r (sumOf (bytesOfWords lowFirst index)) (sumOf (bytesOfWords lowFirst work)) (sumOf output)
 
 -- op 1: what is seen of a check with so many places lent, its answer and both u32 slices as the gate leaves them
 abbrev pub checkSeen : List ℕ → ℕ → ℕ → List ℕ → Seen
 checkSeen a places workPlaces output =
     seenWith (gate a places workPlaces .answer) (gate a places workPlaces .index) (gate a places workPlaces .work) output
+
+-- op 2: "size of type x in a, b is the index as u32 places"
+abbrev pub sizeSeen : ℕ → List ℕ → List ℕ → ℕ → ℕ → ℕ → Seen
+sizeSeen x a given index work output = seenWith (sizeOf a given x) (lentPlaces index) (lentPlaces work) (lentBytes output)
+
+-- op 3: "name in a at offset x", "the output sum is the part's"
+abbrev pub nameSeen : ℕ → List ℕ → ℕ → ℕ → Seen
+nameSeen x a index work = seenWith (named a x) (lentPlaces index) (lentPlaces work) (nameAt a x)
 
 -- op 4: what is seen of a join into an output of these bytes, its answer and all three slices as the join leaves them
 abbrev pub joinSeen : List ℕ → List ℕ → ℕ → ℕ → List ℕ → Seen

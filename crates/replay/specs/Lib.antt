@@ -1,4 +1,3 @@
-pub mod Sum
 pub mod Case
 pub mod Count
 pub mod Run

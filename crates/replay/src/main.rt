@@ -3,7 +3,7 @@
 mod cases; // what a case lends and passes, and what must be seen
 mod says; // what is written
 mod ops; // a function for each op
-mod sums; // the fill and the sum of a lent slice
+mod given; // the places that bytes stand for
 mod tally; // what becomes of a case, and the count
 
 use cases::Head;
@@ -16,87 +16,36 @@ use tally::Outcome;
 use tally::Tally;
 use tally::Turn;
 ghost use mathlib.Core.Path.{_≡_};
-ghost use Prim.Native.Nat.{_<_, _≤_};
-ghost use lib.ListN.{length};
+ghost use Prim.Native.Nat.{_≤_};
 ghost use Rattle.replay.specs.Count.{ran};
-ghost use Rattle.replay.specs.Run.{outcomeOf};
+ghost use Rattle.replay.specs.Run.{turnOf};
 
-// What was seen is compared with what must be. A line is written where there is still room for one.
-fn judge(k: u32, is_room: bool, op: u32, must: Seen, ran: Ran) -> Outcome
-    ensures { λ r. ⌜ r ≡ outcomeOf must ran ⌝ }
+// What was seen is compared with what must be, and a case that asked for too much is told. A line is written where there is still room for one.
+fn judge(k: u32, is_room: bool, op: u32, must: Seen, ran: Ran) -> Turn
+    ensures { λ r. ⌜ r ≡ turnOf must ran ⌝ }
 {
     match ran {
+        Ran::Large => Turn::Large,
         Ran::Unknown => {
             if is_room {
                 says::unknown(k, op);
             }
-            Outcome::Differed
+            Turn::Ran(Outcome::Differed)
         }
         Ran::Saw(seen) => {
             if cases::same(must, seen) {
-                return Outcome::Agreed;
+                return Turn::Ran(Outcome::Agreed);
             }
             if is_room {
                 says::differs(k, op, must, seen);
             }
-            Outcome::Differed
+            Turn::Ran(Outcome::Differed)
         }
     }
 }
 
-// A case whose a and b are read is run in the first places of the other buffers, as far as each reaches.
-fn lend(
-    k: u32,
-    is_room: bool,
-    h: Head,
-    a: &[u8],
-    b: &[u8],
-    given: &mut [u32],
-    index: &mut [u32],
-    work: &mut [u32],
-    output: &mut [u8],
-) -> Turn
-    requires { ⌜ length (now a) < 4294967296 ⌝ }
-{
-    let given_len = b.len() / 4;
-    let index_len = h.index as usize;
-    let work_len = h.work as usize;
-    let output_len = h.output as usize;
-    if given.len() < given_len {
-        return Turn::Large;
-    }
-    if index.len() < index_len {
-        return Turn::Large;
-    }
-    if work.len() < work_len {
-        return Turn::Large;
-    }
-    if output.len() < output_len {
-        return Turn::Large;
-    }
-    let given = &mut given[..given_len];
-    let index = &mut index[..index_len];
-    let work = &mut work[..work_len];
-    let ran = ops::run(h, a, b, given, index, work, &mut output[..output_len]);
-    let read = cases::read_seen();
-    match read {
-        SeenRead::Cut => Turn::Cut,
-        SeenRead::Got(must) => Turn::Ran(judge(k, is_room, h.op, must, ran)),
-    }
-}
-
-// The bytes of a case are read into the buffers, and the case is run.
-fn fill(
-    k: u32,
-    is_room: bool,
-    h: Head,
-    a: &mut [u8],
-    b: &mut [u8],
-    given: &mut [u32],
-    index: &mut [u32],
-    work: &mut [u32],
-    output: &mut [u8],
-) -> Turn {
+// The case that the head begins: its bytes are read, it is run, and what must be seen is read.
+fn run(k: u32, is_room: bool, h: Head, a: &mut [u8], b: &mut [u8]) -> Turn {
     let a_len = h.a as usize;
     let b_len = h.b as usize;
     if a.len() < a_len {
@@ -111,39 +60,25 @@ fn fill(
     if !cases::read_whole(&mut b[..b_len]) {
         return Turn::Cut;
     }
-    let a = &a[..a_len];
-    let b = &b[..b_len];
-    lend(k, is_room, h, a, b, given, index, work, output)
+    let ran = ops::run(h, &a[..a_len], &b[..b_len]);
+    let read = cases::read_seen();
+    match read {
+        SeenRead::Cut => Turn::Cut,
+        SeenRead::Got(must) => judge(k, is_room, h.op, must, ran),
+    }
 }
 
 // One case, from its first byte to its last.
-fn turn(
-    k: u32,
-    is_room: bool,
-    a: &mut [u8],
-    b: &mut [u8],
-    given: &mut [u32],
-    index: &mut [u32],
-    work: &mut [u32],
-    output: &mut [u8],
-) -> Turn {
+fn turn(k: u32, is_room: bool, a: &mut [u8], b: &mut [u8]) -> Turn {
     let read = cases::read_head();
     match read {
         HeadRead::Cut => Turn::Cut,
-        HeadRead::Got(h) => fill(k, is_room, h, a, b, given, index, work, output),
+        HeadRead::Got(h) => run(k, is_room, h, a, b),
     }
 }
 
 // So many cases, one after the other, up to the first that cannot be read.
-fn replay(
-    total: u32,
-    a: &mut [u8],
-    b: &mut [u8],
-    given: &mut [u32],
-    index: &mut [u32],
-    work: &mut [u32],
-    output: &mut [u8],
-) -> Tally
+fn replay(total: u32, a: &mut [u8], b: &mut [u8]) -> Tally
     ensures { λ r. ⌜ ran r ≤ total ⌝ }
 {
     let mut tally = Tally::new();
@@ -151,7 +86,7 @@ fn replay(
     let mut k: u32 = 0;
     while k < last {
         k += 1;
-        let turn = turn(k, tally.differed < 20, a, b, given, index, work, output);
+        let turn = turn(k, tally.differed < 20, a, b);
         match turn {
             Turn::Ran(o) => tally = tally.counted(o),
             Turn::Cut => {
@@ -169,23 +104,11 @@ fn replay(
     tally
 }
 
-// The cases are run in buffers of the largest size that a case may lend.
-fn run(total: u32) -> Tally {
+// The bytes of a case are read into buffers of the largest size that it may have.
+fn replay_all(total: u32) -> Tally {
     let mut a = [0u8; 70000];
     let mut b = [0u8; 70000];
-    let mut given = [0u32; 17500];
-    let mut index = [0u32; 5000];
-    let mut work = [0u32; 5000];
-    let mut output = [0u8; 70000];
-    replay(
-        total,
-        &mut a,
-        &mut b,
-        &mut given,
-        &mut index,
-        &mut work,
-        &mut output,
-    )
+    replay(total, &mut a, &mut b)
 }
 
 // The last line; a line before it where the file goes on behind its last case.
@@ -201,7 +124,7 @@ fn close(t: Tally) {
 fn main() {
     let opening = cases::read_opening();
     match opening {
-        Opening::Cases(n) => close(run(n)),
+        Opening::Cases(n) => close(replay_all(n)),
         Opening::Foreign => {
             says::foreign();
             close(Tally::new().stopped());

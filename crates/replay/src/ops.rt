@@ -1,40 +1,48 @@
-// A function for each op: the call, its answer in the paper's numbers, and the sums of what was lent to it.
+// Each op: the call, its answer in the paper's numbers, and the sums of what was lent to it. An op has the arrays that it lends from, cuts them to
+// what a case lends, and makes the call; of what a call is lent and does not touch only the sum is made.
 use crate::cases::Head;
 use crate::cases::Seen;
-use crate::sums;
+use crate::given::places;
 use answers::Numbers;
 use answers::of_checked;
 use answers::of_joined;
 use answers::of_sized;
 use paper::NameOff;
 use paper::TypeNo;
+use sums::bytes_lent;
+use sums::fill_bytes;
+use sums::fill_places;
+use sums::of_bytes;
+use sums::of_places;
+use sums::places_lent;
 ghost use mathlib.Core.Path.{_≡_};
 ghost use Prim.Native.Nat.{_/_, _<_};
 ghost use lib.ListN.{length};
 ghost use Rattle.answers.specs.Numbers.{asPaper};
-ghost use Rattle.paper.specs.rules.Name.{nameAt};
-ghost use Rattle.paper.specs.rules.Size.{sizeOf};
-ghost use Rattle.replay.specs.Case.{checkSeen, joinSeen, named, plainly, seenWith};
-ghost use Rattle.replay.specs.Run.{runOf};
+ghost use Rattle.paper.specs.rules.Word.{lowFirst, words};
+ghost use Rattle.replay.specs.Case.{checkSeen, joinSeen, nameSeen, plainly, seenSums, sizeSeen};
+ghost use Rattle.replay.specs.Run.{RanAs, RunOf};
+ghost use Rattle.sums.specs.Sum.{lentBytes};
 
-// What running a case gives: what was seen, or that there is no such op.
+// What running a case gives: what was seen; that there is no such op; or that the case asks for more than the op's arrays hold.
 pub(crate) enum Ran {
     Saw(Seen),
     Unknown,
+    Large,
 }
 
 // An answer with the sums of what was lent.
-fn seen(r: Numbers, index: &[u32], work: &[u32], output: &[u8]) -> Seen
-    ensures { λ s. ⌜ s ≡ seenWith (asPaper r) (now (index .entry)) (now (work .entry)) (now (output .entry)) ⌝ }
+fn seen(r: Numbers, index: u32, work: u32, output: u32) -> Seen
+    ensures { λ s. ⌜ s ≡ seenSums (asPaper r) index work output ⌝ }
 {
     Seen {
         number: r.number,
         inner: r.inner,
         t: r.t,
         p: r.p,
-        index: sums::of_places(index),
-        work: sums::of_places(work),
-        output: sums::of_bytes(output),
+        index,
+        work,
+        output,
     }
 }
 
@@ -51,71 +59,153 @@ fn plain(number: u32, p: u32) -> Numbers
 }
 
 // Op 1: the check of a, with the index and the work slice as it leaves them.
-fn check(a: &[u8], index: &mut [u32], work: &mut [u32], output: &[u8]) -> Seen
-    ensures { λ s. ⌜ s ≡ checkSeen (now (a .entry)) (length (now (index .entry))) (length (now (work .entry))) (now (output .entry)) ⌝ }
+fn check_lent(a: &[u8], index: &mut [u32], work: &mut [u32], bytes: u32) -> Seen
+    ensures { λ s. ⌜ s ≡ checkSeen (now (a .entry)) (length (now (index .entry))) (length (now (work .entry))) (lentBytes bytes) ⌝ }
 {
+    fill_places(index);
+    fill_places(work);
     let answer = of_checked(gate::check(a, index, work));
-    seen(answer, index, work, output)
+    seen(answer, of_places(index), of_places(work), bytes_lent(bytes))
+}
+
+fn check_in(h: Head, a: &[u8], index: &mut [u32], work: &mut [u32]) -> Ran
+    ensures { λ r. ⌜ RanAs r (checkSeen (now (a .entry)) (h .index) (h .work) (lentBytes (h .output))) ⌝ }
+{
+    let places = h.index as usize;
+    let works = h.work as usize;
+    if index.len() < places {
+        return Ran::Large;
+    }
+    if work.len() < works {
+        return Ran::Large;
+    }
+    let index = &mut index[..places];
+    Ran::Saw(check_lent(a, index, &mut work[..works], h.output))
+}
+
+fn check(h: Head, a: &[u8]) -> Ran
+    ensures { λ r. ⌜ RanAs r (checkSeen (now (a .entry)) (h .index) (h .work) (lentBytes (h .output))) ⌝ }
+{
+    let mut index = [0u32; 5000];
+    let mut work = [0u32; 5000];
+    check_in(h, a, &mut index, &mut work)
 }
 
 // Op 2: the size of type x in a; b is the index.
-fn size(x: u32, a: &[u8], given: &[u32], index: &[u32], work: &[u32], output: &[u8]) -> Seen
-    ensures { λ s. ⌜ s ≡ seenWith (sizeOf (now (a .entry)) (now (given .entry)) x) (now (index .entry)) (now (work .entry)) (now (output .entry)) ⌝ }
+fn size_lent(h: Head, a: &[u8], b: &[u8], given: &mut [u32]) -> Seen
+    requires { ⌜ length (now given) ≡ length (now b) / 4 ⌝ }
+    ensures { λ s. ⌜ s ≡ sizeSeen (h .x) (now (a .entry)) (words lowFirst (now (b .entry))) (h .index) (h .work) (h .output) ⌝ }
 {
+    places(b, given);
+    let answer = of_sized(sizes::size(a, given, TypeNo(h.x)));
     seen(
-        of_sized(sizes::size(a, given, TypeNo(x))),
-        index,
-        work,
-        output,
+        answer,
+        places_lent(h.index),
+        places_lent(h.work),
+        bytes_lent(h.output),
     )
 }
 
-// Op 3: the name in a at offset x; the part stands for the output.
-fn name(x: u32, a: &[u8], index: &[u32], work: &[u32]) -> Seen
-    requires { ⌜ length (now a) < 4294967296 ⌝ }
-    ensures { λ s. ⌜ s ≡ seenWith (named (now (a .entry)) x) (now (index .entry)) (now (work .entry)) (nameAt (now (a .entry)) x) ⌝ }
+fn size_in(h: Head, a: &[u8], b: &[u8], given: &mut [u32]) -> Ran
+    ensures { λ r. ⌜ RanAs r (sizeSeen (h .x) (now (a .entry)) (words lowFirst (now (b .entry))) (h .index) (h .work) (h .output)) ⌝ }
 {
-    let part = header::name(a, NameOff(x));
-    let p = part.len() as u32;
-    if header::nameless(a, NameOff(x)) {
-        return seen(plain(1, p), index, work, part);
+    let n = b.len() / 4;
+    if given.len() < n {
+        return Ran::Large;
     }
-    seen(plain(0, p), index, work, part)
+    Ran::Saw(size_lent(h, a, b, &mut given[..n]))
+}
+
+fn size(h: Head, a: &[u8], b: &[u8]) -> Ran
+    ensures { λ r. ⌜ RanAs r (sizeSeen (h .x) (now (a .entry)) (words lowFirst (now (b .entry))) (h .index) (h .work) (h .output)) ⌝ }
+{
+    let mut given = [0u32; 17500];
+    size_in(h, a, b, &mut given)
+}
+
+// Op 3: the name in a at offset x; the part stands for the output.
+fn name_lent(h: Head, a: &[u8]) -> Seen
+    requires { ⌜ length (now a) < 4294967296 ⌝ }
+    ensures { λ s. ⌜ s ≡ nameSeen (h .x) (now (a .entry)) (h .index) (h .work) ⌝ }
+{
+    let at = NameOff(h.x);
+    let part = header::name(a, at);
+    let p = part.len() as u32;
+    let index = places_lent(h.index);
+    let work = places_lent(h.work);
+    let output = of_bytes(part);
+    if header::nameless(a, at) {
+        return seen(plain(1, p), index, work, output);
+    }
+    seen(plain(0, p), index, work, output)
+}
+
+fn name(h: Head, a: &[u8]) -> Ran
+    ensures { λ r. ⌜ RanAs r (nameSeen (h .x) (now (a .entry)) (h .index) (h .work)) ⌝ }
+{
+    if 4294967295 < a.len() {
+        return Ran::Large;
+    }
+    Ran::Saw(name_lent(h, a))
 }
 
 // Op 4: a and b joined into the output, with all three slices as the join leaves them.
-fn join(a: &[u8], b: &[u8], index: &mut [u32], work: &mut [u32], output: &mut [u8]) -> Seen
-    ensures { λ s. ⌜ s ≡ joinSeen (now (a .entry)) (now (b .entry)) (length (now (index .entry))) (length (now (work .entry))) (now (output .entry)) ⌝ }
+fn join_lent(a: &[u8], b: &[u8], index: &mut [u32], work: &mut [u32], output: &mut [u8]) -> Seen
+    ensures { λ s. ⌜ s ≡ joinSeen (now (a .entry)) (now (b .entry)) (length (now (index .entry))) (length (now (work .entry))) (lentBytes (length (now (output .entry)))) ⌝ }
 {
+    fill_places(index);
+    fill_places(work);
+    fill_bytes(output);
     let answer = of_joined(join::join(a, b, index, work, output));
-    seen(answer, index, work, output)
+    seen(answer, of_places(index), of_places(work), of_bytes(output))
 }
 
-// A case by its op.
-pub(crate) fn run(
+fn join_in(
     h: Head,
     a: &[u8],
     b: &[u8],
-    given: &mut [u32],
     index: &mut [u32],
     work: &mut [u32],
     output: &mut [u8],
 ) -> Ran
-    requires { ⌜ (length (now a) < 4294967296) × (length (now given) ≡ length (now b) / 4) ⌝ }
-    ensures { λ r. ⌜ r ≡ runOf h (now (a .entry)) (now (b .entry)) (length (now (index .entry))) (length (now (work .entry))) (length (now (output .entry))) ⌝ }
+    ensures { λ r. ⌜ RanAs r (joinSeen (now (a .entry)) (now (b .entry)) (h .index) (h .work) (lentBytes (h .output))) ⌝ }
 {
-    sums::fill_places(index);
-    sums::fill_places(work);
-    sums::fill_bytes(output);
+    let places = h.index as usize;
+    let works = h.work as usize;
+    let bytes = h.output as usize;
+    if index.len() < places {
+        return Ran::Large;
+    }
+    if work.len() < works {
+        return Ran::Large;
+    }
+    if output.len() < bytes {
+        return Ran::Large;
+    }
+    let index = &mut index[..places];
+    let work = &mut work[..works];
+    Ran::Saw(join_lent(a, b, index, work, &mut output[..bytes]))
+}
+
+fn join(h: Head, a: &[u8], b: &[u8]) -> Ran
+    ensures { λ r. ⌜ RanAs r (joinSeen (now (a .entry)) (now (b .entry)) (h .index) (h .work) (lentBytes (h .output))) ⌝ }
+{
+    let mut index = [0u32; 5000];
+    let mut work = [0u32; 5000];
+    let mut output = [0u8; 70000];
+    join_in(h, a, b, &mut index, &mut work, &mut output)
+}
+
+// A case by its op.
+pub(crate) fn run(h: Head, a: &[u8], b: &[u8]) -> Ran
+    ensures { λ r. ⌜ RunOf r h (now (a .entry)) (now (b .entry)) ⌝ }
+{
     let op = h.op;
     match op {
-        1 => Ran::Saw(check(a, index, work, output)),
-        2 => {
-            sums::places(b, given);
-            Ran::Saw(size(h.x, a, given, index, work, output))
-        }
-        3 => Ran::Saw(name(h.x, a, index, work)),
-        4 => Ran::Saw(join(a, b, index, work, output)),
+        1 => check(h, a),
+        2 => size(h, a, b),
+        3 => name(h, a),
+        4 => join(h, a, b),
         _ => Ran::Unknown,
     }
 }

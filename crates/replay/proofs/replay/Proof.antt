@@ -2,21 +2,19 @@
 -- The measure is how many cases are left; a file that stops sets the last case back to this one.
 -- Assumes nothing.
 use Prim.Native.Nat.{_-_, _<_, _≤_}
-use mathlib.Core.Path.{_≡_}
 use native.Mathlib.Omega.{arith}
-use borrow.Author.Needs.{needs}
 use lib.ListN.{length}
+use mathlib.Core.Path.{_≡_}
+use borrow.Author.Needs.{needs}
 use Rattle.replay.specs.Count.{ran}
 use Rattle.replay.proofs.replay.Statement.{statement}
 use Rattle.replay.proofs.replay.Tie as tie
 
 abbrev Inv-loop : tie.InvT-loop
-Inv-loop total a₀ b₀ given₀ index₀ work₀ output₀ tally₀ last₀ k₀ a b given index work output tally last k =
-    (k ≤ last) × (last ≤ total) × (ran tally ≤ k) × (length a ≡ length a₀) × (length b ≡ length b₀) × (length given ≡ length given₀) × (length index ≡ length index₀) × (length work ≡ length work₀) × (length output ≡ length output₀)
+Inv-loop total a₀ b₀ tally₀ last₀ k₀ a b tally last k = (k ≤ last) × (last ≤ total) × (ran tally ≤ k) × (length a ≡ length a₀) × (length b ≡ length b₀)
 
 abbrev μ-loop : tie.MeasureT-loop
-μ-loop total a₀ b₀ given₀ index₀ work₀ output₀ tally₀ last₀ k₀ a b given index work output tally last k =
-    last - k
+μ-loop total a₀ b₀ tally₀ last₀ k₀ a b tally last k = last - k
 
 new-requires : tie.Need-new-requires Inv-loop μ-loop
 new-requires c κs = tt
@@ -35,9 +33,9 @@ enum-known-turn c = search needs
 
 counted-requires : tie.Need-counted-requires Inv-loop μ-loop
 counted-requires c κs =
-    let t = c .before .before .before .before .before .before .before .before .before .before .before .before .before .before .before .before .before .before .before .before .before .before .before in
+    let t = c .before .before .before .before .before .before .before .before .before .before .before in
     let l = t .before .loop in
-    let room : ran (l .tally) < 4294967295 = omega (arith, l .inv, t .loop-test .taken, t .before .before .before .before .before .before .before .before .before .fits .total) in
+    let room : ran (l .tally) < 4294967295 = omega (arith, l .inv, t .loop-test .taken, t .before .before .before .before .before .fits .total) in
     room
 
 loop-less : tie.Need-loop-less Inv-loop μ-loop
@@ -82,18 +80,6 @@ same-length c = omega arith
 same-length-2 : tie.Need-same-length-2 Inv-loop μ-loop
 same-length-2 c = omega arith
 
-same-length-3 : tie.Need-same-length-3 Inv-loop μ-loop
-same-length-3 c = omega arith
-
-same-length-4 : tie.Need-same-length-4 Inv-loop μ-loop
-same-length-4 c = omega arith
-
-same-length-5 : tie.Need-same-length-5 Inv-loop μ-loop
-same-length-5 c = omega arith
-
-same-length-6 : tie.Need-same-length-6 Inv-loop μ-loop
-same-length-6 c = omega arith
-
 returns : tie.Need-returns Inv-loop μ-loop
 returns c = omega arith
 
@@ -123,8 +109,4 @@ replay-spec =
     loop-again-3
     same-length
     same-length-2
-    same-length-3
-    same-length-4
-    same-length-5
-    same-length-6
     returns)

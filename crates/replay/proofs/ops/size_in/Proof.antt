@@ -1,0 +1,37 @@
+-- `replay::ops::size_in` meets its contract: the index has a place for every four bytes of b.
+-- Assumes nothing.
+use mathlib.Core.Path.{sym}
+use native.Mathlib.Omega.{arith}
+use lib.Seq.{length-take-le}
+use borrow.Author.Needs.{needs}
+use Rattle.replay.proofs.ops.size_in.Statement.{statement}
+use Rattle.replay.proofs.ops.size_in.Tie as tie
+
+returns : tie.Need-returns
+returns c = search needs
+
+slice-relend-prefix-size-lent : tie.Need-slice-relend-prefix-size-lent
+slice-relend-prefix-size-lent c = search needs
+
+slice-aggregate-size-lent : tie.Need-slice-aggregate-size-lent
+slice-aggregate-size-lent c = sym (length-take-le _ _ (omega arith))
+
+size-lent-requires : tie.Need-size-lent-requires
+size-lent-requires c κs = length-take-le _ _ (omega (arith, c .before .if1 .left))
+
+same-length : tie.Need-same-length
+same-length c = search needs
+
+returns-2 : tie.Need-returns-2
+returns-2 c = search needs
+
+pub size-in-spec : {M : Type 1} → statement M
+size-in-spec =
+    tie.close
+    (tie.spec
+    returns
+    slice-relend-prefix-size-lent
+    slice-aggregate-size-lent
+    size-lent-requires
+    same-length
+    returns-2)
