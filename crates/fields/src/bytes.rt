@@ -40,7 +40,7 @@ fn put_mark(buf: &mut [u8; ROOM], o: Out, is_meant: bool) -> Out {
 }
 
 // So many bytes from a place on, as far as they are there.
-pub(crate) fn put_bytes(
+pub fn put_bytes(
     buf: &mut [u8; ROOM],
     o: Out,
     is_meant: bool,
@@ -56,7 +56,7 @@ pub(crate) fn put_bytes(
 }
 
 // A word of which nothing is said; no line where no byte of it is there.
-pub(crate) fn put_bare(buf: &mut [u8; ROOM], o: Out, is_meant: bool, s: &[u8], at: usize) -> Out {
+pub fn put_bare(buf: &mut [u8; ROOM], o: Out, is_meant: bool, s: &[u8], at: usize) -> Out {
     if s.len() <= at {
         return o;
     }

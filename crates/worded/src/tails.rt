@@ -1,5 +1,7 @@
 // The words behind a record's head, each by its role.
+use crate::Look;
 use crate::heads::put_offset;
+use crate::referents::put_referent;
 use lines::Out;
 use lines::ROOM;
 use lines::line;
@@ -156,6 +158,8 @@ pub(crate) fn put_role(
     buf: &mut [u8; ROOM],
     o: Out,
     blob: &[u8],
+    index: &[u32],
+    look: Look,
     info: u32,
     i: u32,
     w: u32,
@@ -166,5 +170,9 @@ pub(crate) fn put_role(
     if is_name(spot.role) {
         return put_offset(buf, o, blob, NameOff(w));
     }
-    put_plain(buf, o, info, spot.which, w)
+    let o = put_plain(buf, o, info, spot.which, w);
+    if is_reference(spot.role) {
+        return put_referent(buf, o, blob, index, look, w);
+    }
+    o
 }
