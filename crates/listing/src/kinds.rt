@@ -4,7 +4,7 @@ use lines::Out;
 use lines::ROOM;
 use lines::line;
 use lines::put;
-use lines::put_escaped;
+use lines::put_name;
 use lines::put_number;
 use lines::put_wide;
 use paper::NameOff;
@@ -48,13 +48,13 @@ pub fn put_many(buf: &mut [u8; ROOM], o: Out, n: u64, one: &[u8], many: &[u8]) -
 }
 
 // The name at an offset, with a space before it; nothing where it is empty.
-fn put_name(buf: &mut [u8; ROOM], o: Out, blob: &[u8], at: NameOff) -> Out {
+fn put_named(buf: &mut [u8; ROOM], o: Out, blob: &[u8], at: NameOff) -> Out {
     let name = header::name(blob, at);
     if name.len() == 0 {
         return o;
     }
     let o = put(buf, o, b" ");
-    put_escaped(buf, o, name)
+    put_name(buf, o, name)
 }
 
 // What the line of an entry begins with: its name, indented.
@@ -64,7 +64,7 @@ pub(crate) fn put_entry_name(buf: &mut [u8; ROOM], o: Out, blob: &[u8], e: &[u8]
         return put(buf, o, b"    (no name)");
     }
     let o = put(buf, o, b"   ");
-    put_name(buf, o, blob, at)
+    put_named(buf, o, blob, at)
 }
 
 // The kind of a record and its name, if it has one.
@@ -75,7 +75,7 @@ pub fn put_record(buf: &mut [u8; ROOM], o: Out, blob: &[u8], r: &[u8]) -> Out {
         return put_number(buf, o, kind);
     }
     let o = put_kind(buf, o, kind);
-    put_name(buf, o, blob, name_of(r))
+    put_named(buf, o, blob, name_of(r))
 }
 
 // A type that another refers to.

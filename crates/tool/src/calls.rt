@@ -1,5 +1,5 @@
 // The arguments: which verb, of which files and numbers; and how the status is told.
-use crate::files::fail;
+use crate::files::fail_text;
 use crate::files::is_dash;
 use crate::files::start;
 use crate::joins::join_files;
@@ -58,7 +58,7 @@ fn help() -> Status {
     if usage(STDOUT_FILENO) {
         return Status::Done;
     }
-    fail(b"standard output");
+    fail_text(b"standard output");
     Status::Failed
 }
 
@@ -78,7 +78,7 @@ fn words_from(first: u32, count: usize) -> usize {
 fn argument(i: usize, s: &mut [u8]) -> Arg {
     let n = os::arg(i, s);
     if os::errno() != 0 {
-        fail(b"argument");
+        fail_text(b"argument");
         return Arg {
             n: 0,
             is_whole: false,

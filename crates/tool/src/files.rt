@@ -1,7 +1,7 @@
 // A table is read from a file, or from standard input where the name is a dash.
 use libc::STDERR_FILENO;
 use libc::STDIN_FILENO;
-use lines::escape;
+use lines::file_text;
 ghost use Prim.Native.Nat.{_≤_};
 ghost use lib.ListN.{length};
 
@@ -25,21 +25,17 @@ pub(crate) fn start(s: &[u8], n: usize) -> &[u8] {
     &s[..n]
 }
 
-// "scrieve: NAME: why", by the errno that a call has left. The name is escaped before it is written.
-fn fail_chunk(name: &[u8])
-    requires { ⌜ length (now name) ≤ 4096 ⌝ }
-{
-    let mut space = [0u8; 16384];
-    let n = escape(name, &mut space);
+// "scrieve: WHAT: why", by the errno that a call has left: what failed in words of ours.
+pub(crate) fn fail_text(what: &[u8]) {
     io::write_all(STDERR_FILENO, b"scrieve: ");
-    os::fail(&space[..n]);
+    os::fail(what);
 }
 
-// A name that is longer than any path is not told.
+// The same of a file. A name that is longer than any path is left out.
 pub(crate) fn fail(name: &[u8]) {
-    if name.len() <= 4096 {
-        fail_chunk(name);
-    }
+    let mut space = [0u8; 16386];
+    let n = file_text(name, &mut space);
+    fail_text(&space[..n]);
 }
 
 fn read_some(fd: i32, s: &mut [u8]) -> Got
@@ -86,7 +82,7 @@ pub(crate) fn read_file(name: &[u8], s: &mut [u8]) -> Read {
     if is_dash(name) {
         let read = read_from(STDIN_FILENO, s);
         if !read.is_read {
-            fail(b"standard input");
+            fail_text(b"standard input");
         }
         return read;
     }

@@ -11,7 +11,7 @@ use lines::Out;
 use lines::ROOM;
 use lines::line;
 use lines::put;
-use lines::put_escaped;
+use lines::put_file;
 use lines::put_with;
 use paper::Joined;
 use reports::put_report;
@@ -26,7 +26,7 @@ fn count(blob: &[u8], index: &mut [u32], work: usize) -> u32 {
 }
 
 fn put_joined(buf: &mut [u8; ROOM], o: Out, name: &[u8], len: u64, n: u32) -> Out {
-    let o = put_escaped(buf, o, name);
+    let o = put_file(buf, o, name);
     let o = put_with(buf, o, b": joined, ", len);
     let o = put_with(buf, o, b" bytes, ", n as u64);
     if n == 1 {
@@ -62,7 +62,7 @@ fn put_inner(
 ) -> Out {
     let o = put(buf, o, b"join: refused, report ");
     let o = put(buf, o, which);
-    let o = put_escaped(buf, o, file);
+    let o = put_file(buf, o, file);
     let o = put(buf, o, b": ");
     put_report(buf, o, blob, told)
 }

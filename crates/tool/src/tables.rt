@@ -1,5 +1,5 @@
 // What is asked of one table, and its answer.
-use crate::files::fail;
+use crate::files::fail_text;
 use crate::files::read_file;
 use crate::files::start;
 use answers::Numbers;
@@ -10,7 +10,8 @@ use lines::Out;
 use lines::ROOM;
 use lines::flush;
 use lines::put;
-use lines::put_escaped;
+use lines::put_file;
+use lines::put_whole;
 use lines::put_with;
 use listing::put_size;
 use listing::put_type;
@@ -43,7 +44,7 @@ pub(crate) fn end(buf: &mut [u8; ROOM], o: Out, s: Status) -> Status {
     if o.is_whole {
         return s;
     }
-    fail(b"standard output");
+    fail_text(b"standard output");
     Status::Failed
 }
 
@@ -75,14 +76,14 @@ fn put_missing(buf: &mut [u8; ROOM], o: Out, ask: Ask, n: u32) -> Out {
 fn missing(file: &[u8], ask: Ask, n: u32) -> Status {
     let mut buf = [0u8; ROOM];
     let o = put(&mut buf, lines::to(STDERR_FILENO), b"scrieve: ");
-    let o = put_escaped(&mut buf, o, file);
+    let o = put_file(&mut buf, o, file);
     let o = put_missing(&mut buf, o, ask, n);
     flush(&mut buf, o);
     Status::Failed
 }
 
 fn put_accepted(buf: &mut [u8; ROOM], o: Out, file: &[u8], n: u32) -> Out {
-    let o = put_escaped(buf, o, file);
+    let o = put_file(buf, o, file);
     let o = put_with(buf, o, b": accepted, ", n as u64);
     if n == 1 {
         return put(buf, o, b" type\n");
@@ -98,7 +99,7 @@ fn put_sized(buf: &mut [u8; ROOM], o: Out, blob: &[u8], index: &[u32], t: u32) -
 }
 
 fn put_string(buf: &mut [u8; ROOM], o: Out, blob: &[u8], at: u32) -> Out {
-    let o = put_escaped(buf, o, header::name(blob, NameOff(at)));
+    let o = put_whole(buf, o, header::name(blob, NameOff(at)));
     put(buf, o, b"\n")
 }
 
@@ -121,7 +122,7 @@ fn put_answer(
 }
 
 fn put_refused(buf: &mut [u8; ROOM], o: Out, file: &[u8], blob: &[u8], told: Numbers) -> Out {
-    let o = put_escaped(buf, o, file);
+    let o = put_file(buf, o, file);
     let o = put(buf, o, b": refused, ");
     put_report(buf, o, blob, told)
 }

@@ -5,7 +5,7 @@ use fields::put_bytes;
 use lines::Out;
 use lines::ROOM;
 use lines::put;
-use lines::put_escaped;
+use lines::put_name;
 use lines::put_with;
 use listing::put_kind;
 use listing::put_many;
@@ -53,7 +53,7 @@ pub(crate) fn put_offset(buf: &mut [u8; ROOM], o: Out, blob: &[u8], at: NameOff)
         return put(buf, o, b", empty");
     }
     let o = put(buf, o, b": ");
-    put_escaped(buf, o, name)
+    put_name(buf, o, name)
 }
 
 fn put_known(buf: &mut [u8; ROOM], o: Out, kind: u32) -> Out {

@@ -1,17 +1,17 @@
--- `lines::out::put_chunk` is safe and ends.
+-- `lines::out::put_short` is safe and ends.
 -- Assumes nothing.
 use mathlib.Core.Path.{sym}
 use lib.Seq.{length-take-le}
 use native.Mathlib.Omega.{arith}
 use borrow.Author.Needs.{needs}
-use Rattle.lines.proofs.out.put_chunk.Statement.{statement}
-use Rattle.lines.proofs.out.put_chunk.Tie as tie
+use Rattle.lines.proofs.out.put_short.Statement.{statement}
+use Rattle.lines.proofs.out.put_short.Tie as tie
 
-slice-aggregate-escape : tie.Need-slice-aggregate-escape
-slice-aggregate-escape c = search needs
+slice-aggregate-name-text : tie.Need-slice-aggregate-name-text
+slice-aggregate-name-text c = search needs
 
-escape-requires : tie.Need-escape-requires
-escape-requires c κs = search needs
+name-text-requires : tie.Need-name-text-requires
+name-text-requires c κs = search needs
 
 array-share-prefix-space : tie.Need-array-share-prefix-space
 array-share-prefix-space c = search needs
@@ -25,12 +25,12 @@ put-requires c κs = search needs
 returns : tie.Need-returns
 returns c = search needs
 
-pub put-chunk-spec : {M : Type 1} → statement M
-put-chunk-spec =
+pub put-short-spec : {M : Type 1} → statement M
+put-short-spec =
     tie.close
     (tie.spec
-    slice-aggregate-escape
-    escape-requires
+    slice-aggregate-name-text
+    name-text-requires
     array-share-prefix-space
     slice-aggregate-put
     put-requires
