@@ -1,13 +1,14 @@
 // What is asked of one table, and its answer.
-use crate::files::fail_text;
-use crate::files::read_file;
-use crate::files::start;
 use answers::Numbers;
 use answers::of_report;
+use files::Status;
+use files::end;
+use files::read_file;
 use libc::STDERR_FILENO;
 use libc::STDOUT_FILENO;
 use lines::Out;
 use lines::ROOM;
+use lines::first_of;
 use lines::flush;
 use lines::put;
 use lines::put_file;
@@ -22,30 +23,13 @@ use paper::NameOff;
 use paper::TypeNo;
 use reports::put_report;
 
-// How a call ends: as asked, with a refusal, or as a call that is wrong or whose files cannot be read or written.
-pub(crate) enum Status {
-    Done,
-    Refused,
-    Failed,
-}
-
 // Everything, one type, a type's size, or the name at an offset.
-pub(crate) enum Ask {
+pub enum Ask {
     Check,
     All,
     One(u32),
     Size(u32),
     Name(u32),
-}
-
-// What waits is written. Standard error says so where that cannot be done.
-pub(crate) fn end(buf: &mut [u8; ROOM], o: Out, s: Status) -> Status {
-    let o = flush(buf, o);
-    if o.is_whole {
-        return s;
-    }
-    fail_text(b"standard output");
-    Status::Failed
 }
 
 // The type or the offset that is asked of a table of so many types is there.
@@ -147,7 +131,7 @@ fn answer(ask: Ask, file: &[u8], blob: &[u8], index: &mut [u32], work: &mut [u32
 }
 
 // One byte more is read than a table may have, so that a file that is too large gets report 1.
-pub(crate) fn ask_file(ask: Ask, file: &[u8]) -> Status {
+pub fn ask_file(ask: Ask, file: &[u8]) -> Status {
     let mut blob = [0u8; 65537];
     let mut index = [0u32; 4097];
     let mut work = [0u32; 4097];
@@ -155,5 +139,5 @@ pub(crate) fn ask_file(ask: Ask, file: &[u8]) -> Status {
     if !read.is_read {
         return Status::Failed;
     }
-    answer(ask, file, start(&blob, read.n), &mut index, &mut work)
+    answer(ask, file, first_of(&blob, read.n), &mut index, &mut work)
 }

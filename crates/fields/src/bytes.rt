@@ -1,6 +1,7 @@
 // A line of bytes: a mark where they are meant, the place of the first, the bytes.
 use lines::Out;
 use lines::ROOM;
+use lines::first_of;
 use lines::line;
 use lines::put;
 use lines::put_hex;
@@ -22,14 +23,6 @@ fn blanks(at: usize) -> u32 {
         return 1;
     }
     0
-}
-
-// The first so many bytes; all where there are fewer. Of a part with a start the check knows how long it is.
-fn first_of(s: &[u8], n: usize) -> &[u8] {
-    if s.len() < n {
-        return s;
-    }
-    &s[0..n]
 }
 
 fn put_mark(buf: &mut [u8; ROOM], o: Out, is_meant: bool) -> Out {

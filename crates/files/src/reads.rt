@@ -12,27 +12,19 @@ struct Got {
 }
 
 // What a whole file gives.
-pub(crate) struct Read {
+pub struct Read {
     pub n: usize,
     pub is_read: bool,
 }
 
-// The first so many bytes; none where there are fewer.
-pub(crate) fn start(s: &[u8], n: usize) -> &[u8] {
-    if s.len() < n {
-        return &s[..0];
-    }
-    &s[..n]
-}
-
 // "scrieve: WHAT: why", by the errno that a call has left: what failed in words of ours.
-pub(crate) fn fail_text(what: &[u8]) {
+pub fn fail_text(what: &[u8]) {
     io::write_all(STDERR_FILENO, b"scrieve: ");
     os::fail(what);
 }
 
 // The same of a file. A name that is longer than any path is left out.
-pub(crate) fn fail(name: &[u8]) {
+pub fn fail(name: &[u8]) {
     let mut space = [0u8; 16386];
     let n = file_text(name, &mut space);
     fail_text(&space[..n]);
@@ -73,13 +65,9 @@ fn read_from(fd: i32, s: &mut [u8]) -> Read {
     }
 }
 
-pub(crate) fn is_dash(name: &[u8]) -> bool {
-    check::same(name, b"-")
-}
-
 // The bytes of the file, as many as the slice holds. Where it cannot be read, standard error says why.
-pub(crate) fn read_file(name: &[u8], s: &mut [u8]) -> Read {
-    if is_dash(name) {
+pub fn read_file(name: &[u8], s: &mut [u8]) -> Read {
+    if check::same(name, b"-") {
         let read = read_from(STDIN_FILENO, s);
         if !read.is_read {
             fail_text(b"standard input");

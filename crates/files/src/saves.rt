@@ -1,7 +1,7 @@
 // A table is written under another name beside its own, and renamed when all of it is on the disk: whatever fails, what
 // stood under its name before stands there still.
-use crate::files::fail;
-use crate::files::start;
+use crate::reads::fail;
+use lines::first_of;
 use lines::lay;
 use paper::Place;
 
@@ -106,7 +106,7 @@ fn sync_directory(name: &[u8]) -> bool {
     if n == 0 {
         return sync(b".");
     }
-    sync(start(name, n))
+    sync(first_of(name, n))
 }
 
 // A device or a pipe is no file that another can take the place of; nothing of it can be brought to a disk.
@@ -124,13 +124,13 @@ fn is_file(name: &[u8]) -> bool {
 }
 
 // The bytes stand under the name, and on the disk; else standard error says why not.
-pub(crate) fn save(name: &[u8], s: &[u8]) -> bool {
+pub fn save(name: &[u8], s: &[u8]) -> bool {
     if !is_file(name) {
         return false;
     }
     let mut other = [0u8; 4128]; // room for the longest argument and what stands behind it
     let n = other_name(name, &mut other);
-    if !replace(start(&other, n), name, s) {
+    if !replace(first_of(&other, n), name, s) {
         return false;
     }
     sync_directory(name)

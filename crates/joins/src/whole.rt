@@ -1,14 +1,17 @@
 // Two tables are read and joined, and the joined one is saved.
-use crate::files::read_file;
-use crate::files::start;
-use crate::save::save;
-use crate::tables::Status;
-use crate::tables::end;
+use crate::twins::put_twins;
 use answers::Numbers;
 use answers::of_report;
+use files::Status;
+use files::end;
+use files::read_file;
+use files::save;
+use libc::STDERR_FILENO;
 use libc::STDOUT_FILENO;
 use lines::Out;
 use lines::ROOM;
+use lines::first_of;
+use lines::flush;
 use lines::line;
 use lines::put;
 use lines::put_file;
@@ -17,7 +20,7 @@ use paper::Joined;
 use reports::put_report;
 use scan::Scanned;
 
-// How many types a joined table has.
+// How many types a table has that has passed, and their places.
 fn count(blob: &[u8], index: &mut [u32], work: usize) -> u32 {
     match scan::scan(blob, index, work) {
         Scanned::Counted(n) => n,
@@ -107,6 +110,34 @@ fn unjoined(j: Joined, a_file: &[u8], a: &[u8], b_file: &[u8], b: &[u8]) -> Stat
     }
 }
 
+// What both tables have in two shapes is told on standard error; the join is what it is.
+fn note_twins(
+    a_file: &[u8],
+    a: &[u8],
+    a_index: &mut [u32],
+    b_file: &[u8],
+    b: &[u8],
+    b_index: &mut [u32],
+) {
+    let a_n = count(a, a_index, 4097);
+    let b_n = count(b, b_index, 4097);
+    let mut buf = [0u8; ROOM];
+    let o = lines::to(STDERR_FILENO);
+    let o = put_twins(
+        &mut buf,
+        o,
+        a_file,
+        a,
+        a_index,
+        a_n,
+        b_file,
+        b,
+        b_index,
+        b_n,
+    );
+    flush(&mut buf, o);
+}
+
 // The tables are joined in slices of full size.
 fn join_tables(a_file: &[u8], a: &[u8], b_file: &[u8], b: &[u8], name: &[u8]) -> Status {
     let mut index = [0u32; 4097];
@@ -114,14 +145,18 @@ fn join_tables(a_file: &[u8], a: &[u8], b_file: &[u8], b: &[u8], name: &[u8]) ->
     let mut joined = [0u8; 65536];
     let answer = join::join(a, b, &mut index, &mut work, &mut joined);
     if let Joined::Whole(len) = answer {
-        let joined = start(&joined, len as usize);
+        let joined = first_of(&joined, len as usize);
         let n = count(joined, &mut index, 4097);
-        return saved(name, joined, n);
+        let status = saved(name, joined, n);
+        if let Status::Done = status {
+            note_twins(a_file, a, &mut index, b_file, b, &mut work);
+        }
+        return status;
     }
     unjoined(answer, a_file, a, b_file, b)
 }
 
-pub(crate) fn join_files(a_file: &[u8], b_file: &[u8], name: &[u8]) -> Status {
+pub fn join_files(a_file: &[u8], b_file: &[u8], name: &[u8]) -> Status {
     let mut a = [0u8; 65537];
     let mut b = [0u8; 65537];
     let a_read = read_file(a_file, &mut a);
@@ -134,9 +169,9 @@ pub(crate) fn join_files(a_file: &[u8], b_file: &[u8], name: &[u8]) -> Status {
     }
     join_tables(
         a_file,
-        start(&a, a_read.n),
+        first_of(&a, a_read.n),
         b_file,
-        start(&b, b_read.n),
+        first_of(&b, b_read.n),
         name,
     )
 }

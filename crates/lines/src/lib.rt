@@ -3,7 +3,7 @@ mod escapes; // bytes that others chose
 mod names; // names, and names of files
 mod numbers; // a decimal argument
 mod out; // the buffer
-mod texts; // a line of a text
+mod texts; // a line of a text, the first bytes of some
 
 pub use names::file_text;
 pub use names::name_text;
@@ -22,4 +22,5 @@ pub use out::put_whole;
 pub use out::put_wide;
 pub use out::put_with;
 pub use out::to;
+pub use texts::first_of;
 pub use texts::line;

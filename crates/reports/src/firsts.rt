@@ -1,5 +1,6 @@
 // Which entry of a record is the first that breaks the rule of a report: the record is cut to its first entries, and what judges it
 // is asked again. A rule that some entries break is broken by more of them too, so halving finds the entry.
+use lines::first_of;
 use lines::lay;
 use links::Linked;
 use links::links;
@@ -42,14 +43,6 @@ fn is_broken(b: &[u8], index: &[u32], work: &mut [u32; 4097], n: u32, t: u32, nu
     }
 }
 
-// The first so many bytes; all where there are fewer.
-fn start(s: &[u8], n: usize) -> &[u8] {
-    if s.len() < n {
-        return s;
-    }
-    &s[0..n]
-}
-
 // The same, with so many entries in the record whose info word stands at a place.
 fn is_cut_broken(
     cut: &mut [u8; BYTES],
@@ -63,7 +56,7 @@ fn is_cut_broken(
     info: u32,
 ) -> bool {
     words::write(cut, at, info);
-    is_broken(start(cut, len), index, work, n, t, number)
+    is_broken(first_of(cut, len), index, work, n, t, number)
 }
 
 // The first entry, from 1, of the record at a place with which a type breaks the rule; 0 where it breaks it without any.

@@ -1,11 +1,11 @@
--- `tool::files::fail` is safe and ends.
+-- `files::reads::fail` is safe and ends.
 -- Assumes nothing.
 use mathlib.Core.Path.{sym}
 use lib.Seq.{length-take-le}
 use native.Mathlib.Omega.{arith}
 use borrow.Author.Needs.{needs}
-use Rattle.tool.proofs.files.fail.Statement.{statement}
-use Rattle.tool.proofs.files.fail.Tie as tie
+use Rattle.files.proofs.reads.fail.Statement.{statement}
+use Rattle.files.proofs.reads.fail.Tie as tie
 
 slice-aggregate-file-text : tie.Need-slice-aggregate-file-text
 slice-aggregate-file-text c = search needs

@@ -1,12 +1,12 @@
--- `tool::files::read_from` is safe and ends.
+-- `files::reads::read_from` is safe and ends.
 -- Assumes nothing.
 use Prim.Native.Nat.{_≤_, _-_}
 use mathlib.Core.Path.{_≡_}
 use lib.ListN.{length}
 use native.Mathlib.Omega.{arith}
 use borrow.Author.Needs.{needs}
-use Rattle.tool.proofs.files.read_from.Statement.{statement}
-use Rattle.tool.proofs.files.read_from.Tie as tie
+use Rattle.files.proofs.reads.read_from.Statement.{statement}
+use Rattle.files.proofs.reads.read_from.Tie as tie
 
 abbrev Inv-loop : tie.InvT-loop
 Inv-loop fd s₀ done₀ s done = (done ≤ length s) × (length s ≡ length s₀)

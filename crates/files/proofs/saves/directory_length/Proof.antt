@@ -1,11 +1,11 @@
--- `tool::save::directory_length` is safe and ends.
+-- `files::saves::directory_length` is safe and ends.
 -- Assumes nothing.
 use Prim.Native.Nat.{_≤_}
 use lib.ListN.{length}
 use native.Mathlib.Omega.{arith}
 use borrow.Author.Needs.{needs}
-use Rattle.tool.proofs.save.directory_length.Statement.{statement}
-use Rattle.tool.proofs.save.directory_length.Tie as tie
+use Rattle.files.proofs.saves.directory_length.Statement.{statement}
+use Rattle.files.proofs.saves.directory_length.Tie as tie
 
 abbrev Inv-loop : tie.InvT-loop
 Inv-loop name n₀ n = n ≤ length name
