@@ -6,7 +6,10 @@ use paper::TypeNo;
 use rows::ARRAY;
 use rows::DECL_TAG;
 use rows::FUNC;
+use rows::FUNC_PROTO;
 use rows::INT;
+use rows::STRUCT;
+use rows::UNION;
 use rows::entry_words;
 use rows::kind_of;
 use rows::tail_words;
@@ -17,6 +20,7 @@ use views::kind_at;
 use views::place_of;
 use views::record_of;
 use worded::Look;
+ghost use Prim.Native.Nat.{_≤_};
 
 // So many words from a place of the record that stands at another.
 fn within(number: u32, n: u32, place: u32, from: u32, words: u32) -> Look {
@@ -40,7 +44,9 @@ pub(crate) fn nowhere(number: u32, n: u32) -> Look {
 }
 
 // How far behind the head's start so many entries end.
-fn entries_end(info: u32, entries: u32) -> u32 {
+fn entries_end(info: u32, entries: u32) -> u32
+    ensures { λ r. ⌜ r ≤ 300000 ⌝ }
+{
     let words = tail_words(cut_info(info, entries));
     if 65536 < words {
         return 0;
@@ -48,13 +54,23 @@ fn entries_end(info: u32, entries: u32) -> u32 {
     12 + 4 * words
 }
 
-// An entry of the record at a place, counted from 1.
+// An entry of the record at a place, counted from 1. Of the layout a member's type and offset break the rule, and the name of a
+// parameter; of all else the whole entry.
 fn entry_fault(number: u32, n: u32, place: u32, info: u32, entry: u32) -> Look {
     if entry == 0 {
         return nowhere(number, n);
     }
+    let kind = kind_of(info);
     let from = entries_end(info, entry - 1);
-    within(number, n, place, from, entry_words(kind_of(info)))
+    let second = from + 4;
+    if number != 15 {
+        return within(number, n, place, from, entry_words(kind));
+    }
+    match kind {
+        STRUCT | UNION => within(number, n, place, second, 2),
+        FUNC_PROTO => within(number, n, place, from, 1),
+        _ => within(number, n, place, from, entry_words(kind)),
+    }
 }
 
 // An array's index breaks the rule; where it does not, the element does.

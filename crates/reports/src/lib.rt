@@ -3,7 +3,6 @@ mod faults; // which bytes break the rule
 mod firsts; // which entry of a record is the first that breaks it
 mod marked; // the bytes of a record that a report names
 mod records; // where the type section ends
-mod rulings; // the rule in words, by report and kind
 mod whole; // a report in words, with its bytes
 
 pub use whole::put_report;

@@ -5,7 +5,6 @@ use crate::marked::put_besides;
 use crate::marked::put_marked;
 use crate::marked::put_unread;
 use crate::records::types_of;
-use crate::rulings::put_rule;
 use answers::Numbers;
 use fields::put_header;
 use fields::put_hint;
@@ -15,6 +14,7 @@ use lines::line;
 use lines::put;
 use lines::put_with;
 use listing::put_record;
+use rulings::put_rule;
 use scan::Scanned;
 use words::rest_from;
 

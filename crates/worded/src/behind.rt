@@ -10,6 +10,7 @@ use lines::ROOM;
 use lines::put;
 use listing::put_many;
 use paper::Place;
+use rows::entry_words;
 use rows::info_of;
 use rows::kind_of;
 use rows::tail_words;
@@ -32,26 +33,32 @@ fn words_there(r: &[u8]) -> u32 {
     n
 }
 
-// How many words of so many are left out in front of the first that is shown.
-fn words_before(look: Look, place: u32, n: u32) -> u32
+// How many words of so many are left out in front of the first that is shown: all before the entry in front of the fault, where
+// the fault is not among the first.
+fn words_before(look: Look, place: u32, kind: u32, n: u32) -> u32
     ensures { λ r. ⌜ r ≤ n ⌝ }
 {
     let first = (place as usize) + 12;
     let from = look.from;
-    let to = look.to;
-    if to < from {
-        return 0;
-    }
-    let size = to - from;
+    let each = entry_words(kind) as usize;
     if from < first + 4 * (MOST as usize) {
         return 0;
     }
-    if from - first < size {
+    if each == 0 {
         return 0;
     }
-    let k = (from - first - size) / 4;
-    if k < n as usize {
-        return k as u32;
+    let k = (from - first) / 4;
+    let inside = k % each;
+    if k < inside {
+        return 0;
+    }
+    let entry = k - inside;
+    if entry < each {
+        return 0;
+    }
+    let before = entry - each;
+    if before < n as usize {
+        return before as u32;
     }
     0
 }
@@ -80,7 +87,7 @@ fn put_more(buf: &mut [u8; ROOM], o: Out, n: u32) -> Out {
         return o;
     }
     let o = put(buf, o, b"    ... ");
-    put_many(buf, o, n as u64, b" word more\n", b" words more\n")
+    put_many(buf, o, n as u64, b" word left out\n", b" words left out\n")
 }
 
 // The words behind the head of the record at a place that the rule is about.
@@ -96,7 +103,7 @@ pub fn put_tail(
     let number = look.number;
     let kind = kind_of(info_of(r));
     let n = words_there(r);
-    let mut i = words_before(look, place, n);
+    let mut i = words_before(look, place, kind, n);
     let mut o = put_more(buf, o, i);
     let mut left = MOST;
     while i < n && 0 < left {

@@ -64,9 +64,9 @@ fn put_known(buf: &mut [u8; ROOM], o: Out, kind: u32) -> Out {
     put(buf, o, b", which is none")
 }
 
-// What is said of a number that the kind may not have.
-fn put_judged(buf: &mut [u8; ROOM], o: Out, is_allowed: bool) -> Out {
-    if is_allowed {
+// What is said of a number that the kind may not have; a kind that is none has no rule.
+fn put_judged(buf: &mut [u8; ROOM], o: Out, kind: u32, is_allowed: bool) -> Out {
+    if is_allowed || !is_known(kind) {
         return o;
     }
     put(buf, o, b" (not allowed)")
@@ -80,13 +80,13 @@ fn put_vlen(buf: &mut [u8; ROOM], o: Out, kind: u32, vlen: u32) -> Out {
     }
     if kind == FUNC {
         let o = put_with(buf, o, b", linkage ", vlen as u64);
-        return put_judged(buf, o, vlen_allowed(kind, vlen));
+        return put_judged(buf, o, kind, vlen_allowed(kind, vlen));
     }
     if vlen == 0 {
         return o;
     }
     let o = put_with(buf, o, b", vlen ", vlen as u64);
-    put_judged(buf, o, vlen_allowed(kind, vlen))
+    put_judged(buf, o, kind, vlen_allowed(kind, vlen))
 }
 
 fn put_flag_bit(buf: &mut [u8; ROOM], o: Out, info: u32) -> Out {
@@ -94,8 +94,9 @@ fn put_flag_bit(buf: &mut [u8; ROOM], o: Out, info: u32) -> Out {
     if flag == 0 {
         return o;
     }
+    let kind = kind_of(info);
     let o = put(buf, o, b", kind_flag 1");
-    put_judged(buf, o, flag_allowed(kind_of(info), flag))
+    put_judged(buf, o, kind, flag_allowed(kind, flag))
 }
 
 // Bits 16 to 23, 29 and 30 are 0.
@@ -107,7 +108,8 @@ fn put_spare(buf: &mut [u8; ROOM], o: Out, info: u32) -> Out {
     if is_spare_zero(info) {
         return o;
     }
-    put(buf, o, b", spare bits set (not allowed)")
+    let o = put(buf, o, b", spare bits set");
+    put_judged(buf, o, kind_of(info), false)
 }
 
 fn put_info(buf: &mut [u8; ROOM], o: Out, info: u32) -> Out {
@@ -147,10 +149,10 @@ fn put_third(
     }
     if size_rule(kind) == 2 {
         let o = put_with(buf, o, b"size ", w as u64);
-        return put_judged(buf, o, third_allowed(kind, w));
+        return put_judged(buf, o, kind, third_allowed(kind, w));
     }
     let o = put_with(buf, o, b"third word ", w as u64);
-    put_judged(buf, o, third_allowed(kind, w))
+    put_judged(buf, o, kind, third_allowed(kind, w))
 }
 
 // The third word of a head, where it is there.

@@ -177,7 +177,8 @@ fn put_rule_of(buf: &mut [u8; ROOM], o: Out, number: u32, info: u32) -> Out {
     }
 }
 
-pub(crate) fn put_rule(buf: &mut [u8; ROOM], o: Out, number: u32, info: u32) -> Out {
+// The line of the rule.
+pub fn put_rule(buf: &mut [u8; ROOM], o: Out, number: u32, info: u32) -> Out {
     let o = put(buf, o, b"    rule: ");
     let o = put_rule_of(buf, o, number, info);
     put(buf, o, b"\n")

@@ -1,9 +1,9 @@
--- `joins::twins::same_tail` is safe and ends.
+-- `joins::same::same_tail` is safe and ends.
 -- Assumes nothing.
 use Prim.Native.Nat.{_-_}
 use borrow.Author.Needs.{needs}
-use Rattle.joins.proofs.twins.same_tail.Statement.{statement}
-use Rattle.joins.proofs.twins.same_tail.Tie as tie
+use Rattle.joins.proofs.same.same_tail.Statement.{statement}
+use Rattle.joins.proofs.same.same_tail.Tie as tie
 
 abbrev Inv-loop : tie.InvT-loop
 Inv-loop a a-index a-n r b b-index b-n s info kind n i₀ i = Unit {0}
