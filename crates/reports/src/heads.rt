@@ -5,8 +5,6 @@ use lines::ROOM;
 use lines::put;
 use lines::put_name;
 use lines::put_with;
-use listing::put_kind;
-use listing::put_many;
 use paper::NameOff;
 use rows::FUNC;
 use rows::entry_words;
@@ -19,6 +17,8 @@ use rows::size_rule;
 use rows::third_of;
 use rows::third_role;
 use rows::vlen_of;
+use titles::put_kind;
+use titles::put_many;
 
 // A word of the record that is named, up to what it is.
 pub(crate) fn put_word(buf: &mut [u8; ROOM], o: Out, blob: &[u8], at: usize) -> Out {

@@ -10,11 +10,11 @@ use lines::Out;
 use lines::ROOM;
 use lines::put;
 use lines::put_with;
-use listing::put_many;
 use paper::Place;
 use rows::info_of;
 use rows::kind_of;
 use rows::tail_words;
+use titles::put_many;
 use words::rest_from;
 
 // How many words behind a head are shown at most.

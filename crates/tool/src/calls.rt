@@ -34,7 +34,7 @@ fn usage(fd: i32) -> bool {
     io::write_all(
         fd,
         b"usage: scrieve check FILE          is the table accepted; else the report, and what it means\n\
-\x20      scrieve show FILE [TYPE]    a line for each type, or for one: kind, name, size, members\n\
+\x20      scrieve show FILE [TYPE]    a line for each type, or for one, by number or by name: size, members\n\
 \x20      scrieve size FILE TYPE      the exact size of a type\n\
 \x20      scrieve name FILE OFFSET    the string at an offset\n\
 \x20      scrieve join A B OUT        both tables in one; OUT changes only when all of it is written\n\
@@ -121,14 +121,31 @@ fn number_at(i: usize) -> Number {
     parse(&s[..n])
 }
 
-// A question about the table in the file that an argument names.
-fn ask_at(ask: Ask, i: usize) -> Status {
+// A question about the table in the file that an argument names, by a name where it has one.
+fn ask_by(ask: Ask, i: usize, name: &[u8]) -> Status {
     let mut s = [0u8; 4096];
     let arg = argument(i, &mut s);
     if !arg.is_whole {
         return Status::Failed;
     }
-    ask_file(ask, start(&s, arg.n))
+    ask_file(ask, start(&s, arg.n), name)
+}
+
+fn ask_at(ask: Ask, i: usize) -> Status {
+    ask_by(ask, i, b"")
+}
+
+// The types that have the name that an argument is; no type is asked for by no name.
+fn ask_named(first: u32) -> Status {
+    let mut s = [0u8; 4096];
+    let arg = argument(place(first, 2), &mut s);
+    if !arg.is_whole {
+        return Status::Failed;
+    }
+    if arg.n == 0 {
+        return wrong(b"scrieve: TYPE is a decimal number of 32 bits, or a name\n");
+    }
+    ask_by(Ask::Named, place(first, 1), start(&s, arg.n))
 }
 
 // What a verb asks of a table, with a number.
@@ -140,8 +157,10 @@ fn ask_of(verb: Verb, n: u32) -> Ask {
     }
 }
 
-fn no_number(verb: Verb) -> Status {
+// A word that is no number: `show` takes it for a name.
+fn no_number(verb: Verb, first: u32) -> Status {
     match verb {
+        Verb::Show => ask_named(first),
         Verb::Name => wrong(b"scrieve: OFFSET is a decimal number of 32 bits\n"),
         _ => wrong(b"scrieve: TYPE is a decimal number of 32 bits\n"),
     }
@@ -151,7 +170,7 @@ fn no_number(verb: Verb) -> Status {
 fn ask_numbered(verb: Verb, first: u32) -> Status {
     match number_at(place(first, 2)) {
         Number::Is(n) => ask_at(ask_of(verb, n), place(first, 1)),
-        Number::Not => no_number(verb),
+        Number::Not => no_number(verb, first),
     }
 }
 
