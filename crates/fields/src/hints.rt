@@ -4,8 +4,8 @@ use lines::ROOM;
 use lines::line;
 use lines::put;
 use lines::put_with;
-use listing::put_many;
 use paper::Place;
+use titles::put_many;
 
 // The parts of a .BTF.ext section begin with the length of their records, 8 bytes for functions and 16 for lines; its header is
 // otherwise one of a table, or has two words more.

@@ -5,8 +5,8 @@ use lines::ROOM;
 use lines::line;
 use lines::put;
 use lines::put_with;
-use listing::put_many;
 use paper::Place;
+use titles::put_many;
 use words::rest_from;
 
 // What stands between so many bytes and their name: as much as makes four of them.

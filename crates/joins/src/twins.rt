@@ -7,13 +7,13 @@ use lines::ROOM;
 use lines::put;
 use lines::put_file;
 use lines::put_with;
-use listing::put_record;
 use rows::DATASEC;
 use rows::DECL_TAG;
 use rows::TYPE_TAG;
 use rows::info_of;
 use rows::kind_of;
 use rows::name_of;
+use titles::put_record;
 
 // How many notes are written at most; how many are left out is told.
 const NOTES: u32 = 8;

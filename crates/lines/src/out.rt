@@ -3,7 +3,7 @@
 use crate::names::file_text;
 use crate::names::name_text;
 use crate::names::text;
-ghost use mathlib.Core.Bool.{true};
+ghost use mathlib.Core.Bool.{true, false};
 ghost use mathlib.Core.Path.{_≡_};
 ghost use Prim.Native.Nat.{_+_, _≤_, _<_};
 ghost use lib.ListN.{length};
@@ -13,20 +13,34 @@ ghost use Rattle.lines.specs.Lay.{laid};
 // The bytes of the buffer. An array's length is known, so that no function need prove that it keeps it.
 pub const ROOM: usize = 65536;
 
-// Where it goes, how many bytes wait in the buffer, and whether every write has taken all its bytes.
+// Where it goes, how many bytes wait in the buffer, whether every write has taken all its bytes, and whether lines get a mark.
 pub struct Out {
     pub fd: i32,
     pub at: usize,
     pub is_whole: bool,
+    pub is_marked: bool,
 }
 
 pub fn to(fd: i32) -> Out
-    ensures { λ r. ⌜ (r .fd ≡ fd) × (r .at ≡ 0) × (r .«is_whole» ≡ true) ⌝ }
+    ensures { λ r. ⌜ (r .fd ≡ fd) × (r .at ≡ 0) × (r .«is_whole» ≡ true) × (r .«is_marked» ≡ false) ⌝ }
 {
     Out {
         fd,
         at: 0,
         is_whole: true,
+        is_marked: false,
+    }
+}
+
+// From here on every line gets a mark.
+pub fn marked(o: Out) -> Out
+    ensures { λ r. ⌜ (r .fd ≡ o .fd) × (r .at ≡ o .at) × (r .«is_whole» ≡ o .«is_whole») × (r .«is_marked» ≡ true) ⌝ }
+{
+    Out {
+        fd: o.fd,
+        at: o.at,
+        is_whole: o.is_whole,
+        is_marked: true,
     }
 }
 
@@ -37,6 +51,7 @@ fn write(o: Out, s: &[u8]) -> Out {
             fd: o.fd,
             at: 0,
             is_whole: false,
+            is_marked: o.is_marked,
         };
     }
     let is_whole = io::write_all(o.fd, s);
@@ -44,6 +59,7 @@ fn write(o: Out, s: &[u8]) -> Out {
         fd: o.fd,
         at: 0,
         is_whole,
+        is_marked: o.is_marked,
     }
 }
 
@@ -95,6 +111,7 @@ pub fn put(buf: &mut [u8; ROOM], o: Out, s: &[u8]) -> Out {
                 fd: o.fd,
                 at: at + s.len(),
                 is_whole: o.is_whole,
+                is_marked: o.is_marked,
             };
         }
     }
@@ -107,7 +124,16 @@ pub fn put(buf: &mut [u8; ROOM], o: Out, s: &[u8]) -> Out {
         fd: o.fd,
         at: s.len(),
         is_whole: o.is_whole,
+        is_marked: o.is_marked,
     }
+}
+
+// What a line begins with: the mark of one that is not checked, or nothing.
+pub fn put_start(buf: &mut [u8; ROOM], o: Out) -> Out {
+    if o.is_marked {
+        return put(buf, o, b"? ");
+    }
+    o
 }
 
 pub fn put_wide(buf: &mut [u8; ROOM], o: Out, n: u64) -> Out {

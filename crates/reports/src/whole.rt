@@ -13,9 +13,9 @@ use lines::ROOM;
 use lines::line;
 use lines::put;
 use lines::put_with;
-use listing::put_record;
 use rulings::put_rule;
 use scan::Scanned;
+use titles::put_record;
 use words::rest_from;
 
 fn put_meaning(buf: &mut [u8; ROOM], o: Out, number: u32) -> Out {

@@ -2,6 +2,7 @@
 use crate::wrongs::NO_OFFSET;
 use crate::wrongs::NO_OUT;
 use crate::wrongs::NO_TYPE;
+use crate::wrongs::NO_TYPE_NAME;
 use crate::wrongs::TOO_FEW;
 use crate::wrongs::TOO_MANY;
 use crate::wrongs::TWO_DASHES;
@@ -96,14 +97,32 @@ fn number_at(i: usize) -> Number {
     parse(&s[..n])
 }
 
-// A question about the table in the file that an argument names.
-fn ask_at(ask: Ask, i: usize) -> Status {
+// A question about the table in the file that an argument names, by a name where it has one.
+fn ask_by(ask: Ask, i: usize, name: &[u8]) -> Status {
     let mut s = [0u8; 4096];
     let arg = argument(i, &mut s);
     if !arg.is_whole {
         return Status::Failed;
     }
-    ask_file(ask, first_of(&s, arg.n))
+    ask_file(ask, first_of(&s, arg.n), name)
+}
+
+fn ask_at(ask: Ask, i: usize) -> Status {
+    ask_by(ask, i, b"")
+}
+
+// The types that have the name that an argument is; no type is asked for by no name.
+fn ask_named(first: u32) -> Status {
+    let mut s = [0u8; 4096];
+    let i = place(first, 2);
+    let arg = argument(i, &mut s);
+    if !arg.is_whole {
+        return Status::Failed;
+    }
+    if arg.n == 0 {
+        return wrong_at(i, NO_TYPE_NAME);
+    }
+    ask_by(Ask::Named, place(first, 1), first_of(&s, arg.n))
 }
 
 // What a verb asks of a table, with a number.
@@ -115,10 +134,12 @@ fn ask_of(verb: Verb, n: u32) -> Ask {
     }
 }
 
-fn no_number(verb: Verb, i: usize) -> Status {
+// A word that is no number: `show` takes it for a name.
+fn no_number(verb: Verb, first: u32) -> Status {
     match verb {
-        Verb::Name => wrong_at(i, NO_OFFSET),
-        _ => wrong_at(i, NO_TYPE),
+        Verb::Show => ask_named(first),
+        Verb::Name => wrong_at(place(first, 2), NO_OFFSET),
+        _ => wrong_at(place(first, 2), NO_TYPE),
     }
 }
 
@@ -126,7 +147,7 @@ fn no_number(verb: Verb, i: usize) -> Status {
 fn ask_numbered(verb: Verb, first: u32) -> Status {
     match number_at(place(first, 2)) {
         Number::Is(n) => ask_at(ask_of(verb, n), place(first, 1)),
-        Number::Not => no_number(verb, place(first, 2)),
+        Number::Not => no_number(verb, first),
     }
 }
 

@@ -24,11 +24,13 @@ pub(crate) const NO_OUT: u32 = 5;
 
 pub(crate) const TWO_DASHES: u32 = 6;
 
+pub(crate) const NO_TYPE_NAME: u32 = 7;
+
 fn usage(fd: i32) -> bool {
     io::write_all(
         fd,
         b"usage: scrieve check FILE          is the table accepted; else the report, and what it means\n\
-\x20      scrieve show FILE [TYPE]    a line for each type, or for one: kind, name, size, members\n\
+\x20      scrieve show FILE [TYPE]    a line for each type, or for one, by number or by name: size, members\n\
 \x20      scrieve size FILE TYPE      the exact size of a type\n\
 \x20      scrieve name FILE OFFSET    the string at an offset\n\
 \x20      scrieve join A B OUT        both tables in one; OUT changes only when all of it is written\n\
@@ -55,7 +57,8 @@ fn put_wrong(word: &[u8], why: u32) {
         TYPE is a decimal number of 32 bits\n\
         OFFSET is a decimal number of 32 bits\n\
         OUT is the name of a file\n\
-        A and B cannot both be standard input\n";
+        A and B cannot both be standard input\n\
+        TYPE is a decimal number of 32 bits, or a name\n";
     let mut buf = [0u8; lines::ROOM];
     let o = put(&mut buf, lines::to(STDERR_FILENO), b"scrieve: ");
     let o = put_file(&mut buf, o, word);

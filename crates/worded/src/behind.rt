@@ -8,12 +8,12 @@ use crate::tails::spot_of;
 use lines::Out;
 use lines::ROOM;
 use lines::put;
-use listing::put_many;
 use paper::Place;
 use rows::entry_words;
 use rows::info_of;
 use rows::kind_of;
 use rows::tail_words;
+use titles::put_many;
 use words::rest_from;
 ghost use Prim.Native.Nat.{_≤_};
 

@@ -7,8 +7,6 @@ use lines::ROOM;
 use lines::put;
 use lines::put_name;
 use lines::put_with;
-use listing::put_kind;
-use listing::put_many;
 use paper::NameOff;
 use rows::FUNC;
 use rows::entry_words;
@@ -24,6 +22,8 @@ use rows::third_of;
 use rows::third_role;
 use rows::vlen_allowed;
 use rows::vlen_of;
+use titles::put_kind;
+use titles::put_many;
 
 // A word of the record, up to what it is.
 pub(crate) fn put_word(

@@ -4,13 +4,13 @@ use lines::Out;
 use lines::ROOM;
 use lines::put;
 use lines::put_with;
-use listing::put_record;
 use listing::put_size;
 use paper::Place;
 use paper::TypeNo;
 use rows::INT;
 use rows::info_of;
 use rows::kind_of;
+use titles::put_record;
 use views::View;
 use views::record_of;
 

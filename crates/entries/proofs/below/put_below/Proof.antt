@@ -1,20 +1,18 @@
--- `listing::members::put_below` is safe and ends: a line less is left where one record more is open.
+-- `entries::below::put_below` is safe and ends: a line less is left where one record more is open.
 -- Assumes nothing.
-use Prim.Native.Nat.{ℕ, _+_, _≤_, _<_}
-use native.Mathlib.Omega.{arith}
+use Prim.Native.Nat.{_+_, _≤_}
 use borrow.Author.Needs.{needs}
-use borrow.Author.Tests.{ltb-true}
-use Rattle.listing.proofs.members.put_below.Statement.{statement}
-use Rattle.listing.proofs.members.put_below.Tie as tie
-
-one-deeper : {d : ℕ} → d < 8 → d + 1 ≤ 8
-one-deeper h = omega arith
+use Rattle.entries.proofs.below.put_below.Statement.{statement}
+use Rattle.entries.proofs.below.put_below.Tie as tie
 
 abbrev Inv-loop : tie.InvT-loop
-Inv-loop buf₀ blob index t start types₀ nexts₀ starts₀ depth₀ left₀ o₀ buf types nexts starts depth left o = depth ≤ 8
+Inv-loop buf₀ l blob index t start types₀ nexts₀ starts₀ depth₀ most left₀ is-cut₀ o₀ buf types nexts starts depth left is-cut o = depth ≤ 8
 
 abbrev μ-loop : tie.MeasureT-loop
-μ-loop buf₀ blob index t start types₀ nexts₀ starts₀ depth₀ left₀ o₀ buf types nexts starts depth left o = left + left + depth
+μ-loop buf₀ l blob index t start types₀ nexts₀ starts₀ depth₀ most left₀ is-cut₀ o₀ buf types nexts starts depth left is-cut o = left + left + depth
+
+least-requires : tie.Need-least-requires Inv-loop μ-loop
+least-requires c κs = search needs
 
 loop-holds : tie.Need-loop-holds Inv-loop μ-loop
 loop-holds c = search needs
@@ -52,8 +50,11 @@ loop-again c = search needs
 put-more-requires : tie.Need-put-more-requires Inv-loop μ-loop
 put-more-requires c κs = search needs
 
-returns : tie.Need-returns Inv-loop μ-loop
-returns c = search needs
+loop-less-2 : tie.Need-loop-less-2 Inv-loop μ-loop
+loop-less-2 c = search needs
+
+loop-again-2 : tie.Need-loop-again-2 Inv-loop μ-loop
+loop-again-2 c = search needs
 
 sub-left : tie.Need-sub-left Inv-loop μ-loop
 sub-left c = search needs
@@ -106,20 +107,38 @@ array-write-starts c = search needs
 add-depth : tie.Need-add-depth Inv-loop μ-loop
 add-depth c = search needs
 
-loop-less-2 : tie.Need-loop-less-2 Inv-loop μ-loop
-loop-less-2 c = search needs
-
-loop-again-2 : tie.Need-loop-again-2 Inv-loop μ-loop
-loop-again-2 c = one-deeper (ltb-true _ 8 (c .if4 .taken))
-
 loop-less-3 : tie.Need-loop-less-3 Inv-loop μ-loop
 loop-less-3 c = search needs
 
 loop-again-3 : tie.Need-loop-again-3 Inv-loop μ-loop
 loop-again-3 c = search needs
 
-returns-2 : tie.Need-returns-2 Inv-loop μ-loop
-returns-2 c = search needs
+add-put-more : tie.Need-add-put-more Inv-loop μ-loop
+add-put-more c = search needs
+
+put-more-requires-2 : tie.Need-put-more-requires-2 Inv-loop μ-loop
+put-more-requires-2 c κs = search needs
+
+loop-less-4 : tie.Need-loop-less-4 Inv-loop μ-loop
+loop-less-4 c = search needs
+
+loop-again-4 : tie.Need-loop-again-4 Inv-loop μ-loop
+loop-again-4 c = c .before .before .before .before .before .before .before .before .before .before .before .before .before .before .before .loop .inv
+
+loop-less-5 : tie.Need-loop-less-5 Inv-loop μ-loop
+loop-less-5 c = search needs
+
+loop-again-5 : tie.Need-loop-again-5 Inv-loop μ-loop
+loop-again-5 c = search needs
+
+less-requires : tie.Need-less-requires Inv-loop μ-loop
+less-requires c κs = search needs
+
+less-requires-2 : tie.Need-less-requires-2 Inv-loop μ-loop
+less-requires-2 c κs = search needs
+
+returns : tie.Need-returns Inv-loop μ-loop
+returns c = search needs
 
 pub put-below-spec : {M : Type 1} → statement M
 put-below-spec =
@@ -127,6 +146,7 @@ put-below-spec =
     (tie.spec
     Inv-loop
     μ-loop
+    least-requires
     loop-holds
     sub-d
     mul-record-of
@@ -139,7 +159,8 @@ put-below-spec =
     loop-less
     loop-again
     put-more-requires
-    returns
+    loop-less-2
+    loop-again-2
     sub-left
     add-nexts
     mul-nexts
@@ -157,8 +178,14 @@ put-below-spec =
     mul-starts
     array-write-starts
     add-depth
-    loop-less-2
-    loop-again-2
     loop-less-3
     loop-again-3
-    returns-2)
+    add-put-more
+    put-more-requires-2
+    loop-less-4
+    loop-again-4
+    loop-less-5
+    loop-again-5
+    less-requires
+    less-requires-2
+    returns)

@@ -1,13 +1,13 @@
-// The lines below a type: members, values, parameters and the entries of a section, each by the kind of its record.
-use crate::kinds::put_entry_name;
-use crate::kinds::put_many;
-use crate::kinds::put_type;
-use crate::members::put_member;
-use crate::records::long_entry;
-use crate::records::short_entry;
+// An entry's line, by the kind of its record: a member, a value, a parameter, or a section's entry.
+use crate::below::Listed;
+use crate::below::put_member;
+use crate::below::with;
+use bases::long_entry;
+use bases::short_entry;
 use lines::Out;
 use lines::ROOM;
 use lines::put;
+use lines::put_start;
 use lines::put_wide;
 use lines::put_with;
 use paper::Place;
@@ -19,6 +19,10 @@ use rows::UNION;
 use rows::flag_of;
 use rows::info_of;
 use rows::kind_of;
+use titles::put_based;
+use titles::put_entry_name;
+use titles::put_many;
+use titles::put_type;
 
 // A number of 64 bits, signed where the flag says so.
 fn put_signed(buf: &mut [u8; ROOM], o: Out, flag: u32, n: u64) -> Out {
@@ -45,6 +49,7 @@ fn widened(flag: u32, w: u32) -> u64 {
 
 // A value of an enum: name and number.
 fn put_value(buf: &mut [u8; ROOM], o: Out, blob: &[u8], flag: u32, e: &[u8], n: u64) -> Out {
+    let o = put_start(buf, o);
     let o = put_entry_name(buf, o, blob, e);
     let o = put(buf, o, b" = ");
     let o = put_signed(buf, o, flag, n);
@@ -61,17 +66,19 @@ fn wide_value(e: &[u8]) -> u64 {
 // A parameter: name and type; the last may stand for any number of others.
 fn put_parameter(buf: &mut [u8; ROOM], o: Out, blob: &[u8], index: &[u32], e: &[u8]) -> Out {
     let t = words::read(e, Place(4));
+    let o = put_start(buf, o);
     if t == 0 {
         return put(buf, o, b"    ...\n");
     }
     let o = put_entry_name(buf, o, blob, e);
     let o = put(buf, o, b": ");
-    let o = put_type(buf, o, blob, index, t);
+    let o = put_based(buf, o, blob, index, t);
     put(buf, o, b"\n")
 }
 
 // A section's entry: variable, size and place.
 fn put_placed(buf: &mut [u8; ROOM], o: Out, blob: &[u8], index: &[u32], e: &[u8]) -> Out {
+    let o = put_start(buf, o);
     let o = put(buf, o, b"    ");
     let o = put_type(buf, o, blob, index, words::read(e, Place(0)));
     let o = put(buf, o, b": ");
@@ -80,32 +87,34 @@ fn put_placed(buf: &mut [u8; ROOM], o: Out, blob: &[u8], index: &[u32], e: &[u8]
     put(buf, o, b"\n")
 }
 
+// A value of an enum, of either width.
+fn put_number_of(buf: &mut [u8; ROOM], o: Out, blob: &[u8], r: &[u8], i: u32) -> Out {
+    let info = info_of(r);
+    let flag = flag_of(info);
+    if kind_of(info) == ENUM {
+        let e = short_entry(r, i);
+        let n = widened(flag, words::read(e, Place(4)));
+        return put_value(buf, o, blob, flag, e, n);
+    }
+    let e = long_entry(r, i);
+    let n = wide_value(e);
+    put_value(buf, o, blob, flag, e, n)
+}
+
 // An entry by the kind of its record.
-pub(crate) fn put_entry(
+pub fn put_entry(
     buf: &mut [u8; ROOM],
-    o: Out,
+    l: Listed,
     blob: &[u8],
     index: &[u32],
     r: &[u8],
     i: u32,
-) -> Out {
-    let info = info_of(r);
-    let kind = kind_of(info);
-    let flag = flag_of(info);
-    let long = long_entry(r, i);
-    let short = short_entry(r, i);
-    match kind {
-        STRUCT | UNION => put_member(buf, o, blob, index, r, i),
-        ENUM => put_value(
-            buf,
-            o,
-            blob,
-            flag,
-            short,
-            widened(flag, words::read(short, Place(4))),
-        ),
-        FUNC_PROTO => put_parameter(buf, o, blob, index, short),
-        ENUM64 => put_value(buf, o, blob, flag, long, wide_value(long)),
-        _ => put_placed(buf, o, blob, index, long),
+) -> Listed {
+    let o = l.o;
+    match kind_of(info_of(r)) {
+        STRUCT | UNION => put_member(buf, l, blob, index, r, i),
+        ENUM | ENUM64 => with(l, put_number_of(buf, o, blob, r, i)),
+        FUNC_PROTO => with(l, put_parameter(buf, o, blob, index, short_entry(r, i))),
+        _ => with(l, put_placed(buf, o, blob, index, long_entry(r, i))),
     }
 }

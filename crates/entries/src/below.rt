@@ -1,19 +1,18 @@
 // The lines of members. Below a member without a name stand those of the struct or union that it holds, since C reads them
 // as the outer one's: their bits count from the start of the record that is shown.
-use crate::kinds::put_entry_name;
-use crate::kinds::put_many;
-use crate::kinds::put_type;
-use crate::records::base_of;
-use crate::records::fourth_of;
-use crate::records::long_entry;
-use crate::records::record_of;
+use bases::base_of;
+use bases::fourth_of;
+use bases::long_entry;
+use bases::record_of;
 use lines::Out;
 use lines::ROOM;
 use lines::put;
+use lines::put_start;
 use lines::put_with;
 use paper::Place;
 use paper::Sized;
 use paper::TypeNo;
+use rows::INT;
 use rows::STRUCT;
 use rows::UNION;
 use rows::flag_of;
@@ -21,6 +20,16 @@ use rows::info_of;
 use rows::kind_of;
 use rows::name_of;
 use rows::vlen_of;
+use titles::put_based;
+use titles::put_entry_name;
+use titles::put_many;
+
+// What is written so far, how many lines members without a name may still get in this call, and whether some were left out.
+pub struct Listed {
+    pub o: Out,
+    pub left: u32,
+    pub is_cut: bool,
+}
 
 // How deep members without a name are followed, and how many lines one gets below it: a small table can nest without measure.
 const LEVELS: usize = 8;
@@ -44,7 +53,7 @@ fn whole_bits(s: Sized) -> u64 {
 // "With kind_flag 0 an INT base member spans its width from bit offset + INT offset; other bases span 8 times size".
 fn plain_span(blob: &[u8], index: &[u32], t: u32, offset: u32) -> Span {
     let base = record_of(blob, index, base_of(blob, index, t));
-    if kind_of(info_of(base)) == 1 {
+    if kind_of(info_of(base)) == INT {
         let w = fourth_of(base);
         return Span {
             from: (offset as u64) + ((w / 65536 % 256) as u64),
@@ -139,10 +148,11 @@ fn put_line(
     bits: Span,
     depth: usize,
 ) -> Out {
+    let o = put_start(buf, o);
     let o = put_indent(buf, o, depth);
     let o = put_entry_name(buf, o, blob, e);
     let o = put(buf, o, b": ");
-    let o = put_type(buf, o, blob, index, words::read(e, Place(4)));
+    let o = put_based(buf, o, blob, index, words::read(e, Place(4)));
     let o = put(buf, o, b", ");
     let o = put_many(buf, o, bits.width, b" bit", b" bits");
     let o = put_with(buf, o, b" from bit ", bits.from);
@@ -151,29 +161,55 @@ fn put_line(
 
 // Where lines are left out.
 fn put_more(buf: &mut [u8; ROOM], o: Out, depth: usize) -> Out {
+    let o = put_start(buf, o);
     let o = put_indent(buf, o, depth);
     put(buf, o, b"    ...\n")
 }
 
+fn least(a: u32, b: u32) -> u32 {
+    if a < b {
+        return a;
+    }
+    b
+}
+
+// A difference that stops at 0.
+fn less(a: u32, b: u32) -> u32 {
+    if a < b {
+        return 0;
+    }
+    a - b
+}
+
 // The members of a struct or union that begins at a bit of the record that is shown, and of those that members without a name
 // hold, each right below its member. For each that is open: its number, its next member and where it begins.
-fn put_below(buf: &mut [u8; ROOM], o: Out, blob: &[u8], index: &[u32], t: u32, start: u64) -> Out {
+fn put_below(
+    buf: &mut [u8; ROOM],
+    l: Listed,
+    blob: &[u8],
+    index: &[u32],
+    t: u32,
+    start: u64,
+) -> Listed {
     let mut types = [t; LEVELS];
     let mut nexts = [0u32; LEVELS];
     let mut starts = [start; LEVELS];
     let mut depth: usize = 1;
-    let mut left = LINES;
-    let mut o = o;
+    let most = least(LINES, l.left);
+    let mut left = most;
+    let mut is_cut = l.is_cut;
+    let mut o = l.o;
     while 0 < depth {
         let d = depth - 1;
         let r = record_of(blob, index, types[d]);
         let i = nexts[d];
         if vlen_of(info_of(r)) <= i {
             depth = d;
+        } else if left == 0 {
+            o = put_more(buf, o, depth);
+            is_cut = true;
+            depth = 0;
         } else {
-            if left == 0 {
-                return put_more(buf, o, depth);
-            }
             left -= 1;
             nexts[d] = i + 1;
             let e = long_entry(r, i);
@@ -181,33 +217,52 @@ fn put_below(buf: &mut [u8; ROOM], o: Out, blob: &[u8], index: &[u32], t: u32, s
             let from = bits.from;
             o = put_line(buf, o, blob, index, e, bits, depth);
             let held = held_by(blob, index, e);
-            if held != 0 && depth < LEVELS {
-                types[depth] = held;
-                nexts[depth] = 0;
-                starts[depth] = from;
-                depth += 1;
+            if held != 0 {
+                if depth < LEVELS {
+                    types[depth] = held;
+                    nexts[depth] = 0;
+                    starts[depth] = from;
+                    depth += 1;
+                } else {
+                    o = put_more(buf, o, LEVELS + 1);
+                    is_cut = true;
+                }
             }
         }
     }
-    o
+    Listed {
+        o,
+        left: less(l.left, less(most, left)),
+        is_cut,
+    }
+}
+
+// The same, with other text written.
+pub(crate) fn with(l: Listed, o: Out) -> Listed {
+    Listed {
+        o,
+        left: l.left,
+        is_cut: l.is_cut,
+    }
 }
 
 // A member of the record that is shown, and what stands below it where it has no name.
 pub(crate) fn put_member(
     buf: &mut [u8; ROOM],
-    o: Out,
+    l: Listed,
     blob: &[u8],
     index: &[u32],
     r: &[u8],
     i: u32,
-) -> Out {
+) -> Listed {
     let e = long_entry(r, i);
     let bits = bits_of(blob, index, r, i, 0);
     let from = bits.from;
+    let o = l.o;
     let o = put_line(buf, o, blob, index, e, bits, 0);
     let held = held_by(blob, index, e);
     if held == 0 {
-        return o;
+        return with(l, o);
     }
-    put_below(buf, o, blob, index, held, from)
+    put_below(buf, with(l, o), blob, index, held, from)
 }

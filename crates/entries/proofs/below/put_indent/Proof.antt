@@ -1,8 +1,8 @@
--- `listing::members::put_indent` is safe and ends.
+-- `entries::below::put_indent` is safe and ends.
 -- Assumes nothing.
 use borrow.Author.Needs.{needs}
-use Rattle.listing.proofs.members.put_indent.Statement.{statement}
-use Rattle.listing.proofs.members.put_indent.Tie as tie
+use Rattle.entries.proofs.below.put_indent.Statement.{statement}
+use Rattle.entries.proofs.below.put_indent.Tie as tie
 
 abbrev Inv-loop : tie.InvT-loop
 Inv-loop buf₀ depth o₀ left₀ blanks buf o left = Unit {0}
