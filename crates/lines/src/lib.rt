@@ -1,21 +1,28 @@
 // The tool's text: pieces that wait in a buffer, bytes that others chose, one line of several, and a decimal argument.
 mod escapes; // bytes that others chose
+mod names; // names, and names of files
 mod numbers; // a decimal argument
 mod out; // the buffer
-mod texts; // a line of a text
+mod texts; // a line of a text, the first bytes of some
 
-pub use escapes::escape;
+pub use names::file_text;
+pub use names::name_text;
 pub use numbers::Number;
 pub use numbers::parse;
 pub use out::Out;
 pub use out::ROOM;
 pub use out::flush;
 pub use out::lay;
+pub use out::marked;
 pub use out::put;
-pub use out::put_escaped;
+pub use out::put_file;
 pub use out::put_hex;
+pub use out::put_name;
 pub use out::put_number;
+pub use out::put_start;
+pub use out::put_whole;
 pub use out::put_wide;
 pub use out::put_with;
 pub use out::to;
+pub use texts::first_of;
 pub use texts::line;

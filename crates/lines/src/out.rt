@@ -1,7 +1,9 @@
 // What is written waits in a lent buffer, which is written when it is full: a listing is then a few system calls and not
 // one for each piece.
-use crate::escapes::escape;
-ghost use mathlib.Core.Bool.{true};
+use crate::names::file_text;
+use crate::names::name_text;
+use crate::names::text;
+ghost use mathlib.Core.Bool.{true, false};
 ghost use mathlib.Core.Path.{_≡_};
 ghost use Prim.Native.Nat.{_+_, _≤_, _<_};
 ghost use lib.ListN.{length};
@@ -11,20 +13,34 @@ ghost use Rattle.lines.specs.Lay.{laid};
 // The bytes of the buffer. An array's length is known, so that no function need prove that it keeps it.
 pub const ROOM: usize = 65536;
 
-// Where it goes, how many bytes wait in the buffer, and whether every write has taken all its bytes.
+// Where it goes, how many bytes wait in the buffer, whether every write has taken all its bytes, and whether lines get a mark.
 pub struct Out {
     pub fd: i32,
     pub at: usize,
     pub is_whole: bool,
+    pub is_marked: bool,
 }
 
 pub fn to(fd: i32) -> Out
-    ensures { λ r. ⌜ (r .fd ≡ fd) × (r .at ≡ 0) × (r .«is_whole» ≡ true) ⌝ }
+    ensures { λ r. ⌜ (r .fd ≡ fd) × (r .at ≡ 0) × (r .«is_whole» ≡ true) × (r .«is_marked» ≡ false) ⌝ }
 {
     Out {
         fd,
         at: 0,
         is_whole: true,
+        is_marked: false,
+    }
+}
+
+// From here on every line gets a mark.
+pub fn marked(o: Out) -> Out
+    ensures { λ r. ⌜ (r .fd ≡ o .fd) × (r .at ≡ o .at) × (r .«is_whole» ≡ o .«is_whole») × (r .«is_marked» ≡ true) ⌝ }
+{
+    Out {
+        fd: o.fd,
+        at: o.at,
+        is_whole: o.is_whole,
+        is_marked: true,
     }
 }
 
@@ -35,6 +51,7 @@ fn write(o: Out, s: &[u8]) -> Out {
             fd: o.fd,
             at: 0,
             is_whole: false,
+            is_marked: o.is_marked,
         };
     }
     let is_whole = io::write_all(o.fd, s);
@@ -42,6 +59,7 @@ fn write(o: Out, s: &[u8]) -> Out {
         fd: o.fd,
         at: 0,
         is_whole,
+        is_marked: o.is_marked,
     }
 }
 
@@ -59,7 +77,7 @@ pub fn flush(buf: &mut [u8; ROOM], o: Out) -> Out {
 }
 
 // The piece is laid at a place of the buffer that has room for all of it.
-fn copy(buf: &mut [u8], at: usize, s: &[u8])
+pub(crate) fn copy(buf: &mut [u8], at: usize, s: &[u8])
     requires { ⌜ at + length (now s) ≤ length (now buf) ⌝ }
     ensures { λ r. ⌜ now (buf .exit) ≡ put (now (buf .entry)) at (now (s .entry)) ⌝ }
 {
@@ -93,6 +111,7 @@ pub fn put(buf: &mut [u8; ROOM], o: Out, s: &[u8]) -> Out {
                 fd: o.fd,
                 at: at + s.len(),
                 is_whole: o.is_whole,
+                is_marked: o.is_marked,
             };
         }
     }
@@ -105,7 +124,16 @@ pub fn put(buf: &mut [u8; ROOM], o: Out, s: &[u8]) -> Out {
         fd: o.fd,
         at: s.len(),
         is_whole: o.is_whole,
+        is_marked: o.is_marked,
     }
+}
+
+// What a line begins with: the mark of one that is not checked, or nothing.
+pub fn put_start(buf: &mut [u8; ROOM], o: Out) -> Out {
+    if o.is_marked {
+        return put(buf, o, b"? ");
+    }
+    o
 }
 
 pub fn put_wide(buf: &mut [u8; ROOM], o: Out, n: u64) -> Out {
@@ -143,34 +171,42 @@ pub fn put_hex(buf: &mut [u8; ROOM], o: Out, s: &[u8]) -> Out {
     o
 }
 
-// A few bytes of a name, escaped.
-fn put_chunk(buf: &mut [u8; ROOM], o: Out, s: &[u8]) -> Out
-    requires { ⌜ length (now s) ≤ 256 ⌝ }
-{
-    let mut space = [0u8; 1024];
-    let n = escape(s, &mut space);
+// A name of at most so many bytes, as it stands in a line.
+fn put_short(buf: &mut [u8; ROOM], o: Out, s: &[u8]) -> Out {
+    let mut space = [0u8; 510];
+    let n = name_text(s, &mut space);
     put(buf, o, &space[..n])
 }
 
-// So many bytes of what is left go into a chunk.
-fn chunk_size(left: usize) -> usize
-    requires { ⌜ 0 < left ⌝ }
-    ensures { λ r. ⌜ (0 < r) × (r ≤ left) × (r ≤ 256) ⌝ }
+// The first bytes of a name that is longer, between quotes, and behind them how many it has.
+fn put_cut(buf: &mut [u8; ROOM], o: Out, s: &[u8]) -> Out
+    requires { ⌜ 127 < length (now s) ⌝ }
 {
-    if left <= 256 {
-        return left;
-    }
-    256
+    let mut space = [0u8; 510];
+    let n = text(false, &s[0..127], &mut space);
+    let o = put(buf, o, &space[..n]);
+    let o = put_with(buf, o, b"... (", s.len() as u64);
+    put(buf, o, b" bytes)")
 }
 
-// Bytes that others chose, escaped, however many.
-pub fn put_escaped(buf: &mut [u8; ROOM], o: Out, s: &[u8]) -> Out {
-    let mut o = o;
-    let mut from = 0;
-    while from < s.len() {
-        let end = from + chunk_size(s.len() - from);
-        o = put_chunk(buf, o, &s[from..end]);
-        from = end;
+// A name: an identifier bare, any other between quotes, and of one with over 127 bytes the first of them.
+pub fn put_name(buf: &mut [u8; ROOM], o: Out, s: &[u8]) -> Out {
+    if s.len() <= 127 {
+        return put_short(buf, o, s);
     }
-    o
+    put_cut(buf, o, s)
+}
+
+// A name with all its bytes; nothing of one that is longer than any table.
+pub fn put_whole(buf: &mut [u8; ROOM], o: Out, s: &[u8]) -> Out {
+    let mut space = [0u8; 262146];
+    let n = name_text(s, &mut space);
+    put(buf, o, &space[..n])
+}
+
+// A file's name, bare or between quotes; nothing of one that is longer than any path.
+pub fn put_file(buf: &mut [u8; ROOM], o: Out, s: &[u8]) -> Out {
+    let mut space = [0u8; 16386];
+    let n = file_text(s, &mut space);
+    put(buf, o, &space[..n])
 }

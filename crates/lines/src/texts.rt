@@ -2,6 +2,7 @@
 // proved in ten times the time.
 ghost use Prim.Native.Nat.{_≤_};
 ghost use lib.ListN.{length};
+ghost use Rattle.lines.specs.First.{FirstOf};
 ghost use Rattle.lines.specs.Line.{EndOf, LineOf, StartOf};
 
 // Where the line that a place stands in ends.
@@ -42,4 +43,14 @@ pub fn line(s: &[u8], k: u32) -> &[u8]
     let from = line_start(s, k);
     let end = line_end(s, from);
     &s[from..end]
+}
+
+// The first so many bytes; all where there are fewer.
+pub fn first_of(s: &[u8], n: usize) -> &[u8]
+    ensures { λ r. ⌜ FirstOf r (s .entry) n ⌝ }
+{
+    if s.len() < n {
+        return s;
+    }
+    &s[..n]
 }

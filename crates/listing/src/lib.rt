@@ -1,14 +1,11 @@
 // A table in words: a line for each type and entry.
-mod entries; // the lines below a type
-mod kinds; // a type in a line
-mod members; // the lines of members
-mod records; // where a record stands
-mod show; // the lines of the types
+mod faults; // what can be read of a refused table
+mod show; // the lines of a type
+mod tables; // which types, and how much
 
-pub use kinds::put_kind;
-pub use kinds::put_many;
-pub use kinds::put_record;
-pub use kinds::put_type;
+pub use faults::show_before;
 pub use show::put_size;
-pub use show::show_all;
-pub use show::show_one;
+pub use tables::Named;
+pub use tables::show_all;
+pub use tables::show_named;
+pub use tables::show_one;

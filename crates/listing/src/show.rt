@@ -1,13 +1,13 @@
-// The listing of an accepted table: a line for each type, and below it a line for each entry.
-use crate::entries::put_entry;
-use crate::kinds::put_many;
-use crate::kinds::put_type;
-use crate::records::fourth_of;
-use crate::records::record_of;
+// The lines of a type: its own, and below it one for each entry.
+use bases::fourth_of;
+use bases::record_of;
+use entries::Listed;
+use entries::put_entry;
 use lines::Out;
 use lines::ROOM;
 use lines::line;
 use lines::put;
+use lines::put_start;
 use lines::put_with;
 use paper::Place;
 use paper::Sized;
@@ -17,7 +17,6 @@ use rows::DECL_TAG;
 use rows::ENUM64;
 use rows::FUNC;
 use rows::FWD;
-use rows::INT;
 use rows::VAR;
 use rows::entry_words;
 use rows::flag_of;
@@ -26,39 +25,29 @@ use rows::kind_of;
 use rows::third_of;
 use rows::third_role;
 use rows::vlen_of;
+use titles::put_based;
+use titles::put_many;
+use titles::put_numbers;
+use titles::put_type;
 
-// A type's size. An accepted table gives neither 21 nor 22.
+// A type's size. Of an accepted table it is always known.
 pub fn put_size(buf: &mut [u8; ROOM], o: Out, s: Sized) -> Out {
     match s {
         Sized::Exact(n) => { put_with(buf, o, b"size ", n as u64) }
         Sized::NoSize => put(buf, o, b"no size"),
         Sized::Overflow => put(buf, o, b"over 4294967295"),
-        Sized::Lost => put(buf, o, b"report 21"),
-        Sized::TooFar => put(buf, o, b"report 22"),
+        Sized::Lost => put(buf, o, b"size not known"),
+        Sized::TooFar => put(buf, o, b"size not known"),
     }
-}
-
-// An INT: how its bits are read, how many they are, and where they begin, unless at bit 0.
-fn put_int(buf: &mut [u8; ROOM], o: Out, w: u32) -> Out {
-    let encodings = b"unsigned\nsigned\nchar\n\nbool\n";
-    let o = put(buf, o, b", ");
-    let o = put(buf, o, line(encodings, w / 16777216 % 16));
-    let o = put(buf, o, b", ");
-    let o = put_many(buf, o, (w % 256) as u64, b" bit", b" bits");
-    let from = w / 65536 % 256;
-    if from == 0 {
-        return o;
-    }
-    put_with(buf, o, b" from bit ", from as u64)
 }
 
 // An ARRAY: count, element and index.
 fn put_array(buf: &mut [u8; ROOM], o: Out, blob: &[u8], index: &[u32], r: &[u8]) -> Out {
     let o = put_with(buf, o, b", ", words::read(r, Place(20)) as u64);
     let o = put(buf, o, b" of ");
-    let o = put_type(buf, o, blob, index, fourth_of(r));
+    let o = put_based(buf, o, blob, index, fourth_of(r));
     let o = put(buf, o, b", index ");
-    put_type(buf, o, blob, index, words::read(r, Place(16)))
+    put_based(buf, o, blob, index, words::read(r, Place(16)))
 }
 
 fn put_linkage(buf: &mut [u8; ROOM], o: Out, linkage: u32) -> Out {
@@ -76,7 +65,7 @@ fn put_forward(buf: &mut [u8; ROOM], o: Out, flag: u32) -> Out {
 
 // A DECL_TAG: which part of what it is on, if it is on a part.
 fn put_component(buf: &mut [u8; ROOM], o: Out, r: &[u8]) -> Out {
-    if kind_of(info_of(r)) != 17 {
+    if kind_of(info_of(r)) != DECL_TAG {
         return o;
     }
     let component = fourth_of(r);
@@ -91,7 +80,6 @@ fn put_own(buf: &mut [u8; ROOM], o: Out, blob: &[u8], index: &[u32], r: &[u8]) -
     let info = info_of(r);
     let kind = kind_of(info);
     match kind {
-        INT => put_int(buf, o, fourth_of(r)),
         ARRAY => put_array(buf, o, blob, index, r),
         FWD => put_forward(buf, o, flag_of(info)),
         FUNC => put_linkage(buf, o, vlen_of(info)),
@@ -110,7 +98,7 @@ fn put_referent(buf: &mut [u8; ROOM], o: Out, blob: &[u8], index: &[u32], r: &[u
     let o = put(buf, o, b", ");
     let o = put(buf, o, line(how, kind));
     let o = put(buf, o, b" ");
-    put_type(buf, o, blob, index, third_of(r))
+    put_based(buf, o, blob, index, third_of(r))
 }
 
 // How many entries a type has, with a word for what they are.
@@ -151,6 +139,7 @@ fn put_flag(buf: &mut [u8; ROOM], o: Out, r: &[u8]) -> Out {
 
 // What stands behind the size.
 fn put_details(buf: &mut [u8; ROOM], o: Out, blob: &[u8], index: &[u32], r: &[u8]) -> Out {
+    let o = put_numbers(buf, o, b", ", r, b"");
     let o = put_own(buf, o, blob, index, r);
     let o = put_referent(buf, o, blob, index, r);
     let o = put_component(buf, o, r);
@@ -160,6 +149,7 @@ fn put_details(buf: &mut [u8; ROOM], o: Out, blob: &[u8], index: &[u32], r: &[u8
 
 // The line of a type.
 fn put_line(buf: &mut [u8; ROOM], o: Out, blob: &[u8], index: &[u32], t: u32) -> Out {
+    let o = put_start(buf, o);
     let o = put_type(buf, o, blob, index, t);
     let o = put(buf, o, b": ");
     let o = put_size(buf, o, sizes::size(blob, index, TypeNo(t)));
@@ -168,34 +158,35 @@ fn put_line(buf: &mut [u8; ROOM], o: Out, blob: &[u8], index: &[u32], t: u32) ->
 }
 
 // A line for each entry of a record.
-fn put_entries(buf: &mut [u8; ROOM], o: Out, blob: &[u8], index: &[u32], r: &[u8]) -> Out {
+fn put_entries(buf: &mut [u8; ROOM], l: Listed, blob: &[u8], index: &[u32], r: &[u8]) -> Listed {
     let info = info_of(r);
     if entry_words(kind_of(info)) == 0 {
-        return o;
+        return l;
     }
     let n = vlen_of(info);
-    let mut o = o;
+    let mut l = l;
     let mut i: u32 = 0;
     while i < n {
-        o = put_entry(buf, o, blob, index, r, i);
+        l = put_entry(buf, l, blob, index, r, i);
         i += 1;
     }
-    o
+    l
 }
 
 // A type, with its entries.
-pub fn show_one(buf: &mut [u8; ROOM], o: Out, blob: &[u8], index: &[u32], t: u32) -> Out {
+pub(crate) fn put_whole_type(
+    buf: &mut [u8; ROOM],
+    l: Listed,
+    blob: &[u8],
+    index: &[u32],
+    t: u32,
+) -> Listed {
+    let o = l.o;
     let o = put_line(buf, o, blob, index, t);
-    put_entries(buf, o, blob, index, record_of(blob, index, t))
-}
-
-// Every type of a table of so many.
-pub fn show_all(buf: &mut [u8; ROOM], o: Out, blob: &[u8], index: &[u32], n: u32) -> Out {
-    let mut o = o;
-    let mut t: u32 = 0;
-    while t < n {
-        t += 1;
-        o = show_one(buf, o, blob, index, t);
-    }
-    o
+    let listed = Listed {
+        o,
+        left: l.left,
+        is_cut: l.is_cut,
+    };
+    put_entries(buf, listed, blob, index, record_of(blob, index, t))
 }

@@ -1,10 +1,8 @@
-// What a report means, and the bytes that it is about.
-mod bytes; // a line of bytes
-mod fields; // the header, field by field
-mod heads; // a record's head, word by word
+// What a report means, the rule that is broken, and the bytes that it is about.
+mod faults; // which bytes break the rule
+mod firsts; // which entry of a record is the first that breaks it
 mod marked; // the bytes of a record that a report names
 mod records; // where the type section ends
-mod tails; // the words behind a record's head
 mod whole; // a report in words, with its bytes
 
 pub use whole::put_report;

@@ -1,72 +1,27 @@
 // The bytes of the record that a report names: its head, the words behind it that the rule is about, and a word on either side.
-use crate::bytes::put_bare;
-use crate::heads::put_head;
-use crate::heads::put_word;
 use crate::records::types_of;
-use crate::tails::is_about;
-use crate::tails::put_role;
-use crate::tails::spot_of;
+use fields::put_bare;
 use lines::Out;
 use lines::ROOM;
 use lines::put;
 use lines::put_with;
-use listing::put_many;
-use paper::Place;
+use paper::TypeNo;
+use rows::DECL_TAG;
+use rows::FUNC;
+use rows::STRUCT;
+use rows::UNION;
 use rows::info_of;
 use rows::kind_of;
 use rows::tail_words;
+use rows::third_of;
+use rows::vlen_of;
+use views::View;
+use views::place_of;
+use views::record_of;
+use worded::Look;
+use worded::put_head;
+use worded::put_tail;
 use words::rest_from;
-
-// How many words behind a head are shown at most.
-const MOST: u32 = 24;
-
-// A word behind the head is there, and the rule is about it.
-fn is_shown(number: u32, r: &[u8], i: u32) -> bool {
-    if r.len() < 16 + 4 * (i as usize) {
-        return false;
-    }
-    let spot = spot_of(kind_of(info_of(r)), i);
-    is_about(number, spot.role)
-}
-
-// A word behind the head.
-fn put_behind(buf: &mut [u8; ROOM], o: Out, blob: &[u8], r: &[u8], place: u32, i: u32) -> Out {
-    let from = 12 + 4 * (i as usize);
-    let o = put_word(buf, o, blob, (place as usize) + from);
-    let w = words::read(rest_from(r, from), Place(0));
-    let o = put_role(buf, o, blob, info_of(r), i, w);
-    put(buf, o, b"\n")
-}
-
-fn put_more(buf: &mut [u8; ROOM], o: Out, n: u32) -> Out {
-    if n == 0 {
-        return o;
-    }
-    let o = put(buf, o, b"    ... ");
-    put_many(buf, o, n as u64, b" word more\n", b" words more\n")
-}
-
-// The words behind the head that the rule is about.
-fn put_tail(buf: &mut [u8; ROOM], o: Out, blob: &[u8], r: &[u8], place: u32, number: u32) -> Out {
-    let n = tail_words(info_of(r));
-    let mut o = o;
-    let mut i: u32 = 0;
-    let mut left = MOST;
-    let mut more: u32 = 0;
-    while i < n {
-        let k = i;
-        i += 1;
-        if is_shown(number, r, k) {
-            if 0 < left {
-                o = put_behind(buf, o, blob, r, place, k);
-                left -= 1;
-            } else {
-                more += 1;
-            }
-        }
-    }
-    put_more(buf, o, more)
-}
 
 // How a record does not fit.
 fn put_cut(buf: &mut [u8; ROOM], o: Out, end: usize, r: &[u8]) -> Out {
@@ -113,9 +68,11 @@ fn put_before(buf: &mut [u8; ROOM], o: Out, blob: &[u8], at: usize) -> Out {
     put_bare(buf, o, false, blob, at - 4)
 }
 
-// Three words of which the gate reads nothing.
-fn put_unread(buf: &mut [u8; ROOM], o: Out, types: &[u8], place: u32) -> Out {
+// Three words of which the gate reads nothing: they are one record too many.
+pub(crate) fn put_unread(buf: &mut [u8; ROOM], o: Out, blob: &[u8], place: u32) -> Out {
     let at = place as usize;
+    let types = types_of(blob);
+    let o = put_before(buf, o, blob, at);
     let o = put_bare(buf, o, true, types, at);
     let o = put_bare(buf, o, true, types, at + 4);
     put_bare(buf, o, true, types, at + 8)
@@ -126,17 +83,72 @@ pub(crate) fn put_marked(
     buf: &mut [u8; ROOM],
     o: Out,
     blob: &[u8],
+    index: &[u32],
     place: u32,
-    number: u32,
+    look: Look,
 ) -> Out {
     let at = place as usize;
     let types = types_of(blob);
-    let o = put_before(buf, o, blob, at);
-    if number == 8 {
-        return put_unread(buf, o, types, place);
-    }
     let r = rest_from(types, at);
-    let o = put_head(buf, o, blob, r, place);
-    let o = put_tail(buf, o, blob, r, place, number);
-    put_end(buf, o, blob, types.len(), r, place, number)
+    let o = put_before(buf, o, blob, at);
+    let o = put_head(buf, o, blob, index, r, place, look);
+    let o = put_tail(buf, o, blob, index, r, place, look);
+    put_end(buf, o, blob, types.len(), r, place, look.number)
+}
+
+// The prototype of a function, whose parameters the rule is about.
+fn put_prototype(
+    buf: &mut [u8; ROOM],
+    o: Out,
+    blob: &[u8],
+    index: &[u32],
+    t: u32,
+    look: Look,
+) -> Out {
+    let view = View { n: look.n };
+    let place = place_of(index, view, TypeNo(t)).0;
+    let o = put_with(buf, o, b"    its prototype, type ", t as u64);
+    let o = put_with(buf, o, b", at byte ", place as u64);
+    let o = put(buf, o, b":\n");
+    let r = record_of(&blob[..0], blob, index, view, TypeNo(t));
+    let o = put_head(buf, o, blob, index, r, place, look);
+    put_tail(buf, o, blob, index, r, place, look)
+}
+
+// How many parts a tag can point at: members, or a function's parameters.
+fn parts_of(blob: &[u8], index: &[u32], n: u32, t: u32) -> u32 {
+    let none = &blob[..0];
+    let view = View { n };
+    let r = record_of(none, blob, index, view, TypeNo(t));
+    let info = info_of(r);
+    match kind_of(info) {
+        STRUCT | UNION => vlen_of(info),
+        FUNC => vlen_of(info_of(record_of(none, blob, index, view, TypeNo(third_of(r))))),
+        _ => 0,
+    }
+}
+
+// What the rule of the layout rests on besides the record: a function's prototype, the parts of what a tag is on.
+pub(crate) fn put_besides(
+    buf: &mut [u8; ROOM],
+    o: Out,
+    blob: &[u8],
+    index: &[u32],
+    r: &[u8],
+    look: Look,
+) -> Out {
+    if look.number != 15 {
+        return o;
+    }
+    let kind = kind_of(info_of(r));
+    let t = third_of(r);
+    if kind == FUNC {
+        return put_prototype(buf, o, blob, index, t, look);
+    }
+    if kind != DECL_TAG {
+        return o;
+    }
+    let o = put_with(buf, o, b"    members or parameters of type ", t as u64);
+    let o = put_with(buf, o, b": ", parts_of(blob, index, look.n, t) as u64);
+    put(buf, o, b"\n")
 }

@@ -1,14 +1,21 @@
-// What a report means, in words, and the bytes that it is about.
-use crate::fields::put_header;
+// What a report means, in words, the rule that is broken, and the bytes that it is about.
+use crate::faults::fault_of;
+use crate::faults::nowhere;
+use crate::marked::put_besides;
 use crate::marked::put_marked;
+use crate::marked::put_unread;
 use crate::records::types_of;
 use answers::Numbers;
+use fields::put_header;
+use fields::put_hint;
 use lines::Out;
 use lines::ROOM;
 use lines::line;
 use lines::put;
 use lines::put_with;
-use listing::put_record;
+use rulings::put_rule;
+use scan::Scanned;
+use titles::put_record;
 use words::rest_from;
 
 fn put_meaning(buf: &mut [u8; ROOM], o: Out, number: u32) -> Out {
@@ -27,7 +34,7 @@ fn put_meaning(buf: &mut [u8; ROOM], o: Out, number: u32) -> Out {
         a word behind the record's head is not allowed\n\
         it refers to a type that is not there, or of a kind that is not allowed\n\
         what it holds, or what it points to, leads on without end\n\
-        a size, a bit offset or a place breaks the layout\n";
+        a rule of the layout is broken\n";
     put(buf, o, line(meanings, number))
 }
 
@@ -52,18 +59,50 @@ fn put_named(buf: &mut [u8; ROOM], o: Out, blob: &[u8], told: Numbers) -> Out {
     put_with(buf, o, b", at byte ", told.p as u64)
 }
 
-// The bytes that a report is about; none for 9, which is about what was lent.
-fn put_about(buf: &mut [u8; ROOM], o: Out, blob: &[u8], told: Numbers) -> Out {
-    if told.t != 0 {
-        return put_marked(buf, o, blob, told.p, told.number);
-    }
-    if told.number <= 5 {
-        return put_header(buf, o, blob, told.number);
-    }
-    o
+// The rule of a report from 10 to 15, and the record that breaks it, by the index of so many types.
+fn put_broken(
+    buf: &mut [u8; ROOM],
+    o: Out,
+    blob: &[u8],
+    index: &[u32],
+    n: u32,
+    told: Numbers,
+) -> Out {
+    let r = rest_from(types_of(blob), told.p as usize);
+    let look = fault_of(blob, index, n, told.t, r, told.p, told.number);
+    let o = put_rule(buf, o, told.number, rows::info_of(r));
+    let o = put_marked(buf, o, blob, index, told.p, look);
+    put_besides(buf, o, blob, index, r, look)
 }
 
-// "report R: what it means, type T (KIND name), at byte P", and below it the bytes.
+// A report from 10 to 15 leaves no index; phases 1 and 2, which the table has passed, make it again.
+fn put_judged(buf: &mut [u8; ROOM], o: Out, blob: &[u8], told: Numbers) -> Out {
+    let mut index = [0u32; 4097];
+    match scan::scan(blob, &mut index, 4097) {
+        Scanned::Counted(n) => put_broken(buf, o, blob, &index, n, told),
+        Scanned::Refused(_) => o,
+    }
+}
+
+// What a report is about: the header, the record. None for 9, which is about what was lent.
+fn put_about(buf: &mut [u8; ROOM], o: Out, blob: &[u8], told: Numbers) -> Out {
+    let index = [0u32; 1];
+    let number = told.number;
+    if number <= 5 {
+        let o = put_hint(buf, o, blob, number);
+        return put_header(buf, o, blob, number);
+    }
+    if number <= 7 {
+        return put_marked(buf, o, blob, &index, told.p, nowhere(number, 0));
+    }
+    match number {
+        8 => put_unread(buf, o, blob, told.p),
+        9 => o,
+        _ => put_judged(buf, o, blob, told),
+    }
+}
+
+// "report R: what it means, type T (KIND name), at byte P", and below it the rule and the bytes.
 pub fn put_report(buf: &mut [u8; ROOM], o: Out, blob: &[u8], told: Numbers) -> Out {
     let o = put_with(buf, o, b"report ", told.number as u64);
     let o = put(buf, o, b": ");

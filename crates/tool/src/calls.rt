@@ -1,14 +1,22 @@
 // The arguments: which verb, of which files and numbers; and how the status is told.
-use crate::files::fail;
-use crate::files::is_dash;
-use crate::files::start;
-use crate::joins::join_files;
-use crate::tables::Ask;
-use crate::tables::Status;
-use crate::tables::ask_file;
-use libc::STDERR_FILENO;
-use libc::STDOUT_FILENO;
+use crate::wrongs::NO_OFFSET;
+use crate::wrongs::NO_OUT;
+use crate::wrongs::NO_TYPE;
+use crate::wrongs::NO_TYPE_NAME;
+use crate::wrongs::TOO_FEW;
+use crate::wrongs::TOO_MANY;
+use crate::wrongs::TWO_DASHES;
+use crate::wrongs::UNKNOWN;
+use crate::wrongs::help;
+use crate::wrongs::no_words;
+use crate::wrongs::wrong_at;
+use asks::Ask;
+use asks::ask_file;
+use files::Status;
+use files::fail_text;
+use joins::join_files;
 use lines::Number;
+use lines::first_of;
 use lines::parse;
 
 enum Verb {
@@ -30,38 +38,6 @@ struct Arg {
 // The descriptor on which the launcher waits for the status.
 const STATUS: i32 = 3;
 
-fn usage(fd: i32) -> bool {
-    io::write_all(
-        fd,
-        b"usage: scrieve check FILE          is the table accepted; else the report, and what it means\n\
-\x20      scrieve show FILE [TYPE]    a line for each type, or for one: kind, name, size, members\n\
-\x20      scrieve size FILE TYPE      the exact size of a type\n\
-\x20      scrieve name FILE OFFSET    the string at an offset\n\
-\x20      scrieve join A B OUT        both tables in one; OUT changes only when all of it is written\n\
-\x20      scrieve help\n\
-A dash for FILE, A or B is standard input.\n\
-Status: 0 accepted or done, 1 refused, 2 a wrong call, or a file that cannot be read or written.\n",
-    )
-}
-
-fn wrong_call() -> Status {
-    usage(STDERR_FILENO);
-    Status::Failed
-}
-
-fn wrong(why: &[u8]) -> Status {
-    io::write_all(STDERR_FILENO, why);
-    Status::Failed
-}
-
-fn help() -> Status {
-    if usage(STDOUT_FILENO) {
-        return Status::Done;
-    }
-    fail(b"standard output");
-    Status::Failed
-}
-
 // The place of an argument, counted from the verb on.
 fn place(first: u32, k: u32) -> usize {
     (first as usize) + (k as usize)
@@ -78,7 +54,7 @@ fn words_from(first: u32, count: usize) -> usize {
 fn argument(i: usize, s: &mut [u8]) -> Arg {
     let n = os::arg(i, s);
     if os::errno() != 0 {
-        fail(b"argument");
+        fail_text(b"argument");
         return Arg {
             n: 0,
             is_whole: false,
@@ -103,7 +79,7 @@ fn verb_of(s: &[u8]) -> Verb {
     if check::same(s, b"join") {
         return Verb::Join;
     }
-    if check::same(s, b"help") {
+    if check::same(s, b"help") || check::same(s, b"--help") || check::same(s, b"-h") {
         return Verb::Help;
     }
     Verb::Unknown
@@ -121,14 +97,32 @@ fn number_at(i: usize) -> Number {
     parse(&s[..n])
 }
 
-// A question about the table in the file that an argument names.
-fn ask_at(ask: Ask, i: usize) -> Status {
+// A question about the table in the file that an argument names, by a name where it has one.
+fn ask_by(ask: Ask, i: usize, name: &[u8]) -> Status {
     let mut s = [0u8; 4096];
     let arg = argument(i, &mut s);
     if !arg.is_whole {
         return Status::Failed;
     }
-    ask_file(ask, start(&s, arg.n))
+    ask_file(ask, first_of(&s, arg.n), name)
+}
+
+fn ask_at(ask: Ask, i: usize) -> Status {
+    ask_by(ask, i, b"")
+}
+
+// The types that have the name that an argument is; no type is asked for by no name.
+fn ask_named(first: u32) -> Status {
+    let mut s = [0u8; 4096];
+    let i = place(first, 2);
+    let arg = argument(i, &mut s);
+    if !arg.is_whole {
+        return Status::Failed;
+    }
+    if arg.n == 0 {
+        return wrong_at(i, NO_TYPE_NAME);
+    }
+    ask_by(Ask::Named, place(first, 1), first_of(&s, arg.n))
 }
 
 // What a verb asks of a table, with a number.
@@ -140,10 +134,12 @@ fn ask_of(verb: Verb, n: u32) -> Ask {
     }
 }
 
-fn no_number(verb: Verb) -> Status {
+// A word that is no number: `show` takes it for a name.
+fn no_number(verb: Verb, first: u32) -> Status {
     match verb {
-        Verb::Name => wrong(b"scrieve: OFFSET is a decimal number of 32 bits\n"),
-        _ => wrong(b"scrieve: TYPE is a decimal number of 32 bits\n"),
+        Verb::Show => ask_named(first),
+        Verb::Name => wrong_at(place(first, 2), NO_OFFSET),
+        _ => wrong_at(place(first, 2), NO_TYPE),
     }
 }
 
@@ -151,18 +147,18 @@ fn no_number(verb: Verb) -> Status {
 fn ask_numbered(verb: Verb, first: u32) -> Status {
     match number_at(place(first, 2)) {
         Number::Is(n) => ask_at(ask_of(verb, n), place(first, 1)),
-        Number::Not => no_number(verb),
+        Number::Not => no_number(verb, first),
     }
 }
 
 // Standard input can be read once, and OUT is a file that is renamed.
-fn join_named(a: &[u8], b: &[u8], out: &[u8]) -> Status {
-    if is_dash(out) {
-        return wrong(b"scrieve: OUT is the name of a file\n");
+fn join_named(a: &[u8], b: &[u8], out: &[u8], first: u32) -> Status {
+    if check::same(out, b"-") {
+        return wrong_at(place(first, 3), NO_OUT);
     }
-    if is_dash(a) {
-        if is_dash(b) {
-            return wrong(b"scrieve: A and B cannot both be standard input\n");
+    if check::same(a, b"-") {
+        if check::same(b, b"-") {
+            return wrong_at(place(first, 2), TWO_DASHES);
         }
     }
     join_files(a, b, out)
@@ -185,60 +181,73 @@ fn join_call(first: u32) -> Status {
         return Status::Failed;
     }
     join_named(
-        start(&a, a_arg.n),
-        start(&b, b_arg.n),
-        start(&out, out_arg.n),
+        first_of(&a, a_arg.n),
+        first_of(&b, b_arg.n),
+        first_of(&out, out_arg.n),
+        first,
     )
 }
 
-// A verb with so many words behind it.
+// How many words stand behind a verb at least.
+fn least(verb: Verb) -> usize {
+    match verb {
+        Verb::Check => 1,
+        Verb::Show => 1,
+        Verb::Size => 2,
+        Verb::Name => 2,
+        Verb::Join => 3,
+        Verb::Help => 0,
+        Verb::Unknown => 0,
+    }
+}
+
+// How many at most.
+fn most(verb: Verb) -> usize {
+    match verb {
+        Verb::Show => 2,
+        _ => least(verb),
+    }
+}
+
+// A verb with as many words behind it as it may have.
 fn call_by(verb: Verb, first: u32, behind: usize) -> Status {
     match verb {
-        Verb::Check => {
-            if behind == 1 {
-                return ask_at(Ask::Check, place(first, 1));
-            }
-        }
+        Verb::Check => ask_at(Ask::Check, place(first, 1)),
         Verb::Show => {
             if behind == 1 {
                 return ask_at(Ask::All, place(first, 1));
             }
-            if behind == 2 {
-                return ask_numbered(verb, first);
-            }
+            ask_numbered(verb, first)
         }
-        Verb::Size => {
-            if behind == 2 {
-                return ask_numbered(verb, first);
-            }
-        }
-        Verb::Name => {
-            if behind == 2 {
-                return ask_numbered(verb, first);
-            }
-        }
-        Verb::Join => {
-            if behind == 3 {
-                return join_call(first);
-            }
-        }
-        Verb::Help => {
-            if behind == 0 {
-                return help();
-            }
-        }
-        Verb::Unknown => {}
+        Verb::Size => ask_numbered(verb, first),
+        Verb::Name => ask_numbered(verb, first),
+        Verb::Join => join_call(first),
+        Verb::Help => help(),
+        Verb::Unknown => wrong_at(place(first, 0), UNKNOWN),
     }
-    wrong_call()
+}
+
+// A verb with so many words behind it.
+fn call_with(verb: Verb, first: u32, behind: usize) -> Status {
+    if let Verb::Unknown = verb {
+        return wrong_at(place(first, 0), UNKNOWN);
+    }
+    if behind < least(verb) {
+        return wrong_at(place(first, 0), TOO_FEW);
+    }
+    if most(verb) < behind {
+        return wrong_at(place(first, 0), TOO_MANY);
+    }
+    call_by(verb, first, behind)
 }
 
 // The call that stands from the argument `first` on.
 fn call(first: u32) -> Status {
     let given = words_from(first, os::arg_count());
     if given == 0 {
-        return wrong_call();
+        return no_words();
     }
-    call_by(verb_at(place(first, 0)), first, given - 1)
+    call_with(verb_at(place(first, 0)), first, given - 1)
 }
 
 // A program of this language has no exit status: one digit on a descriptor of the launcher's stands for it.

@@ -3,9 +3,12 @@
 use lib.ListN.{length-set}
 use native.Mathlib.Omega.{arith}
 use borrow.Author.Needs.{needs}
-use Rattle.lines.proofs.Printable.{appended-slash, appended-plain, appended-hex}
+use Rattle.lines.proofs.Printable.{appended-special, appended-plain, appended-hex}
 use Rattle.lines.proofs.escapes.escape_byte.Statement.{statement}
 use Rattle.lines.proofs.escapes.escape_byte.Tie as tie
+
+is-special-requires : tie.Need-is-special-requires
+is-special-requires c κs = search needs
 
 slice-write-out : tie.Need-slice-write-out
 slice-write-out c = search needs
@@ -23,7 +26,7 @@ same-length : tie.Need-same-length
 same-length c = search needs
 
 returns : tie.Need-returns
-returns c = appended-slash _ _ _ (omega arith) (c .if1 .taken)
+returns c = appended-special _ _ _ (omega arith) (c .before .is-special .ensures) (c .if1 .taken)
 
 is-printable-requires : tie.Need-is-printable-requires
 is-printable-requires c κs = search needs
@@ -38,7 +41,7 @@ same-length-2 : tie.Need-same-length-2
 same-length-2 c = search needs
 
 returns-2 : tie.Need-returns-2
-returns-2 c = appended-plain _ _ _ (omega arith) (c .before .before .if1 .left) (c .before .is-printable .ensures) (c .if2 .taken)
+returns-2 c = appended-plain _ _ _ (omega arith) (c .before .before .before .is-special .ensures) (c .before .before .if1 .left) (c .before .is-printable .ensures) (c .if2 .taken)
 
 slice-write-out-4 : tie.Need-slice-write-out-4
 slice-write-out-4 c = search needs
@@ -76,6 +79,7 @@ same-length-3 c = search needs
 returns-3 : tie.Need-returns-3
 returns-3 c =
     appended-hex _ _ _ (omega arith)
+    (c .before .before .before .before .before .is-special .ensures)
     (c .before .before .before .before .if1 .left)
     (c .before .before .before .is-printable .ensures)
     (c .before .before .if2 .left)
@@ -86,6 +90,7 @@ pub escape-byte-spec : {M : Type 1} → statement M
 escape-byte-spec =
     tie.close
     (tie.spec
+    is-special-requires
     slice-write-out
     add-out
     slice-write-out-2

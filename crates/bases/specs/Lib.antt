@@ -1,0 +1,2 @@
+pub mod Based
+pub mod Sign

@@ -1,0 +1,120 @@
+// An entry's line, by the kind of its record: a member, a value, a parameter, or a section's entry.
+use crate::below::Listed;
+use crate::below::put_member;
+use crate::below::with;
+use bases::long_entry;
+use bases::short_entry;
+use lines::Out;
+use lines::ROOM;
+use lines::put;
+use lines::put_start;
+use lines::put_wide;
+use lines::put_with;
+use paper::Place;
+use rows::ENUM;
+use rows::ENUM64;
+use rows::FUNC_PROTO;
+use rows::STRUCT;
+use rows::UNION;
+use rows::flag_of;
+use rows::info_of;
+use rows::kind_of;
+use titles::put_based;
+use titles::put_entry_name;
+use titles::put_many;
+use titles::put_type;
+
+// A number of 64 bits, signed where the flag says so.
+fn put_signed(buf: &mut [u8; ROOM], o: Out, flag: u32, n: u64) -> Out {
+    if flag == 0 {
+        return put_wide(buf, o, n);
+    }
+    if n < 9223372036854775808 {
+        return put_wide(buf, o, n);
+    }
+    let o = put(buf, o, b"-");
+    put_wide(buf, o, 18446744073709551615 - n + 1)
+}
+
+// A word of 32 bits, as 64 bits have it: its sign carried on where the flag says so.
+fn widened(flag: u32, w: u32) -> u64 {
+    if flag == 0 {
+        return w as u64;
+    }
+    if w < 2147483648 {
+        return w as u64;
+    }
+    (w as u64) + 18446744069414584320
+}
+
+// A value of an enum: name and number.
+fn put_value(buf: &mut [u8; ROOM], o: Out, blob: &[u8], flag: u32, e: &[u8], n: u64) -> Out {
+    let o = put_start(buf, o);
+    let o = put_entry_name(buf, o, blob, e);
+    let o = put(buf, o, b" = ");
+    let o = put_signed(buf, o, flag, n);
+    put(buf, o, b"\n")
+}
+
+// The number of an ENUM64's value: the low word, then the high one.
+fn wide_value(e: &[u8]) -> u64 {
+    let low = words::read(e, Place(4));
+    let high = words::read(e, Place(8));
+    (low as u64) + (high as u64) * 4294967296
+}
+
+// A parameter: name and type; the last may stand for any number of others.
+fn put_parameter(buf: &mut [u8; ROOM], o: Out, blob: &[u8], index: &[u32], e: &[u8]) -> Out {
+    let t = words::read(e, Place(4));
+    let o = put_start(buf, o);
+    if t == 0 {
+        return put(buf, o, b"    ...\n");
+    }
+    let o = put_entry_name(buf, o, blob, e);
+    let o = put(buf, o, b": ");
+    let o = put_based(buf, o, blob, index, t);
+    put(buf, o, b"\n")
+}
+
+// A section's entry: variable, size and place.
+fn put_placed(buf: &mut [u8; ROOM], o: Out, blob: &[u8], index: &[u32], e: &[u8]) -> Out {
+    let o = put_start(buf, o);
+    let o = put(buf, o, b"    ");
+    let o = put_type(buf, o, blob, index, words::read(e, Place(0)));
+    let o = put(buf, o, b": ");
+    let o = put_many(buf, o, words::read(e, Place(8)) as u64, b" byte", b" bytes");
+    let o = put_with(buf, o, b" from byte ", words::read(e, Place(4)) as u64);
+    put(buf, o, b"\n")
+}
+
+// A value of an enum, of either width.
+fn put_number_of(buf: &mut [u8; ROOM], o: Out, blob: &[u8], r: &[u8], i: u32) -> Out {
+    let info = info_of(r);
+    let flag = flag_of(info);
+    if kind_of(info) == ENUM {
+        let e = short_entry(r, i);
+        let n = widened(flag, words::read(e, Place(4)));
+        return put_value(buf, o, blob, flag, e, n);
+    }
+    let e = long_entry(r, i);
+    let n = wide_value(e);
+    put_value(buf, o, blob, flag, e, n)
+}
+
+// An entry by the kind of its record.
+pub fn put_entry(
+    buf: &mut [u8; ROOM],
+    l: Listed,
+    blob: &[u8],
+    index: &[u32],
+    r: &[u8],
+    i: u32,
+) -> Listed {
+    let o = l.o;
+    match kind_of(info_of(r)) {
+        STRUCT | UNION => put_member(buf, l, blob, index, r, i),
+        ENUM | ENUM64 => with(l, put_number_of(buf, o, blob, r, i)),
+        FUNC_PROTO => with(l, put_parameter(buf, o, blob, index, short_entry(r, i))),
+        _ => with(l, put_placed(buf, o, blob, index, long_entry(r, i))),
+    }
+}

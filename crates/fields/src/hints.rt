@@ -1,0 +1,90 @@
+// What bytes that are no table are instead, as far as their first words tell: a line behind the report.
+use lines::Out;
+use lines::ROOM;
+use lines::line;
+use lines::put;
+use lines::put_with;
+use paper::Place;
+use titles::put_many;
+
+// The parts of a .BTF.ext section begin with the length of their records, 8 bytes for functions and 16 for lines; its header is
+// otherwise one of a table, or has two words more.
+fn is_extension(blob: &[u8]) -> bool {
+    let head = words::read(blob, Place(4));
+    let functions = words::read(blob, Place(12));
+    if 32 < head {
+        return false;
+    }
+    if 65536 < functions {
+        return false;
+    }
+    if words::read(blob, Place(16)) != functions {
+        return false;
+    }
+    let lines = head + functions;
+    words::read(blob, Place(head)) == 8 && words::read(blob, Place(lines)) == 16
+}
+
+// Which line of the hints; 0 for none.
+fn hint_of(blob: &[u8], number: u32) -> u32 {
+    let w = words::read(blob, Place(0));
+    if number <= 2 && w == 1179403647 {
+        return 1; // 7F 45 4C 46
+    }
+    if number == 2 && w % 65536 == 40939 {
+        return 2; // EB 9F
+    }
+    if 3 <= number && is_extension(blob) {
+        return 3;
+    }
+    0
+}
+
+// The bytes that the header asks for, where there are others.
+fn put_sum(buf: &mut [u8; ROOM], o: Out, blob: &[u8]) -> Out {
+    let types = words::read(blob, Place(12)) as u64;
+    let strings = words::read(blob, Place(20)) as u64;
+    let asked = 24 + types + strings;
+    let there = blob.len() as u64;
+    if asked == there {
+        return o;
+    }
+    let o = put_with(buf, o, b"    24 bytes of header, ", types);
+    let o = put_with(buf, o, b" of types and ", strings);
+    let o = put_with(buf, o, b" of strings are ", asked);
+    let o = put(buf, o, b": ");
+    if there < asked {
+        return put_many(
+            buf,
+            o,
+            asked - there,
+            b" byte is missing\n",
+            b" bytes are missing\n",
+        );
+    }
+    put_many(
+        buf,
+        o,
+        there - asked,
+        b" byte too many\n",
+        b" bytes too many\n",
+    )
+}
+
+// The hint behind a report from 1 to 5, where there is one.
+pub fn put_hint(buf: &mut [u8; ROOM], o: Out, blob: &[u8], number: u32) -> Out {
+    let hints = b"\n\
+        this is an ELF file: objcopy --dump-section .BTF=TABLE FILE takes its table out (llvm-objcopy for a BPF object)\n\
+        this table has the other byte order (EB 9F, the high byte of a word first), which is not read\n\
+        this is a .BTF.ext section, and no table of types: that is the section .BTF\n";
+    let k = hint_of(blob, number);
+    if k != 0 {
+        let o = put(buf, o, b"    ");
+        let o = put(buf, o, line(hints, k));
+        return put(buf, o, b"\n");
+    }
+    if number == 4 {
+        return put_sum(buf, o, blob);
+    }
+    o
+}

@@ -1,0 +1,9 @@
+// A line of bytes with their place; the header in such lines, field by field; and what bytes that are no table are instead.
+mod bytes; // a line of bytes
+mod hints; // what else the bytes are
+mod opening; // the header, field by field
+
+pub use bytes::put_bare;
+pub use bytes::put_bytes;
+pub use hints::put_hint;
+pub use opening::put_header;

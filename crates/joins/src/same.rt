@@ -1,0 +1,189 @@
+// Whether two types of two tables say the same: the info word, names by their bytes, what is referred to by its kind, name and
+// size, one step and no further, all other words as they stand.
+use answers::of_sized;
+use lines::first_of;
+use paper::Place;
+use paper::Sized;
+use paper::TypeNo;
+use rows::entry_role;
+use rows::entry_words;
+use rows::info_of;
+use rows::is_name;
+use rows::is_reference;
+use rows::kind_of;
+use rows::name_of;
+use rows::once_role;
+use rows::once_words;
+use rows::tail_words;
+use rows::third_of;
+use rows::third_role;
+use views::View;
+use views::record_of;
+use views::strings_of;
+use words::rest_from;
+
+// A name is compared that ends before so many bytes, as every identifier does.
+const NAME: usize = 128;
+
+pub(crate) fn record_at<'a>(blob: &'a [u8], index: &[u32], n: u32, t: u32) -> &'a [u8] {
+    record_of(&blob[..0], blob, index, View { n }, TypeNo(t))
+}
+
+// The bytes from a name on, as many as are compared.
+fn name_bytes<'a>(blob: &'a [u8], index: &[u32], at: u32) -> &'a [u8] {
+    let strings = strings_of(&blob[..0], blob, index, View { n: 0 });
+    first_of(rest_from(strings, at as usize), NAME)
+}
+
+// Up to a zero byte, which both must have, two parts hold the same.
+fn same_until_zero(s: &[u8], z: &[u8]) -> bool {
+    let mut k = 0;
+    while k < s.len() {
+        if z.len() <= k {
+            return false;
+        }
+        if s[k] != z[k] {
+            return false;
+        }
+        if s[k] == 0 {
+            return true;
+        }
+        k += 1;
+    }
+    false
+}
+
+pub(crate) fn same_name(
+    a: &[u8],
+    a_index: &[u32],
+    i: u32,
+    b: &[u8],
+    b_index: &[u32],
+    j: u32,
+) -> bool {
+    same_until_zero(name_bytes(a, a_index, i), name_bytes(b, b_index, j))
+}
+
+fn same_size(s: Sized, z: Sized) -> bool {
+    let one = of_sized(s);
+    let other = of_sized(z);
+    one.number == other.number && one.p == other.p
+}
+
+// What stands at a number of the one table and what stands at one of the other have one kind, name and size.
+fn same_referent(
+    a: &[u8],
+    a_index: &[u32],
+    a_n: u32,
+    b: &[u8],
+    b_index: &[u32],
+    b_n: u32,
+    t: u32,
+    u: u32,
+) -> bool {
+    let r = record_at(a, a_index, a_n, t);
+    let s = record_at(b, b_index, b_n, u);
+    if kind_of(info_of(r)) != kind_of(info_of(s)) {
+        return false;
+    }
+    let i = name_of(r);
+    let j = name_of(s);
+    if !same_name(a, a_index, i.0, b, b_index, j.0) {
+        return false;
+    }
+    same_size(
+        sizes::size(a, a_index, TypeNo(t)),
+        sizes::size(b, b_index, TypeNo(u)),
+    )
+}
+
+// Two words of one role say the same.
+fn same_word(
+    a: &[u8],
+    a_index: &[u32],
+    a_n: u32,
+    b: &[u8],
+    b_index: &[u32],
+    b_n: u32,
+    role: u32,
+    w: u32,
+    v: u32,
+) -> bool {
+    if is_name(role) {
+        return same_name(a, a_index, w, b, b_index, v);
+    }
+    if is_reference(role) {
+        return same_referent(a, a_index, a_n, b, b_index, b_n, w, v);
+    }
+    w == v
+}
+
+// The role of a word behind a head.
+fn role_of(kind: u32, i: u32) -> u32 {
+    let once = once_words(kind);
+    let each = entry_words(kind);
+    if i < once {
+        return once_role(kind, i);
+    }
+    if each == 0 {
+        return 0;
+    }
+    let j = i - once;
+    entry_role(kind, j % each)
+}
+
+// A word behind the head of a record.
+fn word_behind(r: &[u8], i: u32) -> u32 {
+    words::read(rest_from(r, 12 + 4 * (i as usize)), Place(0))
+}
+
+// Two records of one info word say the same in every word behind the head.
+fn same_tail(
+    a: &[u8],
+    a_index: &[u32],
+    a_n: u32,
+    r: &[u8],
+    b: &[u8],
+    b_index: &[u32],
+    b_n: u32,
+    s: &[u8],
+) -> bool {
+    let info = info_of(r);
+    let kind = kind_of(info);
+    let n = tail_words(info);
+    let mut i: u32 = 0;
+    while i < n {
+        let w = word_behind(r, i);
+        let v = word_behind(s, i);
+        let role = role_of(kind, i);
+        if !same_word(a, a_index, a_n, b, b_index, b_n, role, w, v) {
+            return false;
+        }
+        i += 1;
+    }
+    true
+}
+
+// Two records say the same.
+pub(crate) fn same_record(
+    a: &[u8],
+    a_index: &[u32],
+    a_n: u32,
+    r: &[u8],
+    b: &[u8],
+    b_index: &[u32],
+    b_n: u32,
+    s: &[u8],
+) -> bool {
+    let info = info_of(r);
+    if info != info_of(s) {
+        return false;
+    }
+    let role = third_role(kind_of(info));
+    let w = third_of(r);
+    let v = third_of(s);
+    if !same_word(a, a_index, a_n, b, b_index, b_n, role, w, v) {
+        return false;
+    }
+    same_tail(a, a_index, a_n, r, b, b_index, b_n, s)
+}

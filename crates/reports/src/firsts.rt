@@ -1,0 +1,101 @@
+// Which entry of a record is the first that breaks the rule of a report: the record is cut to its first entries, and what judges it
+// is asked again. A rule that some entries break is broken by more of them too, so halving finds the entry.
+use lines::first_of;
+use lines::lay;
+use links::Linked;
+use links::links;
+use paper::Place;
+use paper::TypeNo;
+use rows::entry_words;
+use rows::kind_of;
+use rows::vlen_of;
+use views::View;
+use views::record_of;
+use views::strings_of;
+
+// The bytes that a table has at most.
+const BYTES: usize = 65536;
+
+// An info word with another number of entries.
+pub(crate) fn cut_info(info: u32, entries: u32) -> u32 {
+    info / 65536 * 65536 + entries % 65536
+}
+
+// What is walked from a type has no end.
+fn is_endless(said: Linked, t: u32) -> bool {
+    match said {
+        Linked::Endless(first) => first.0 == t,
+        _ => false,
+    }
+}
+
+// The type breaks the rule of the report.
+fn is_broken(b: &[u8], index: &[u32], work: &mut [u32; 4097], n: u32, t: u32, number: u32) -> bool {
+    let none = &b[..0];
+    let view = View { n };
+    let r = record_of(none, b, index, view, TypeNo(t));
+    match number {
+        11 => !rules::names_ok(r, strings_of(none, b, index, view)),
+        12 => !rules::tail_ok(r),
+        13 => !refs::refs_ok(none, b, index, view, r),
+        14 => is_endless(links(none, b, index, view, work), t),
+        _ => !layout::layout_ok(none, b, index, view, TypeNo(t)),
+    }
+}
+
+// The same, with so many entries in the record whose info word stands at a place.
+fn is_cut_broken(
+    cut: &mut [u8; BYTES],
+    len: usize,
+    index: &[u32],
+    work: &mut [u32; 4097],
+    n: u32,
+    t: u32,
+    number: u32,
+    at: Place,
+    info: u32,
+) -> bool {
+    words::write(cut, at, info);
+    is_broken(first_of(cut, len), index, work, n, t, number)
+}
+
+// The first entry, from 1, of the record at a place with which a type breaks the rule; 0 where it breaks it without any.
+pub(crate) fn first_entry(
+    blob: &[u8],
+    index: &[u32],
+    n: u32,
+    t: u32,
+    place: u32,
+    number: u32,
+) -> u32 {
+    let at = Place(std::num::wrapping_add_u32(place, 4));
+    let info = words::read(blob, at);
+    if entry_words(kind_of(info)) == 0 {
+        return 0;
+    }
+    let mut cut = [0u8; BYTES];
+    let mut work = [0u32; 4097];
+    lay(&mut cut, 0, blob);
+    let len = blob.len();
+    let mut low: u32 = 0;
+    let mut high = vlen_of(info);
+    while low < high {
+        let k = low + (high - low) / 2;
+        if is_cut_broken(
+            &mut cut,
+            len,
+            index,
+            &mut work,
+            n,
+            t,
+            number,
+            at,
+            cut_info(info, k),
+        ) {
+            high = k;
+        } else {
+            low = k + 1;
+        }
+    }
+    high
+}

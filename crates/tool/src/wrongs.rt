@@ -1,0 +1,85 @@
+// A wrong call: which word is wrong and why, then the usage.
+use files::Status;
+use files::fail_text;
+use libc::STDERR_FILENO;
+use libc::STDOUT_FILENO;
+use lines::first_of;
+use lines::flush;
+use lines::line;
+use lines::put;
+use lines::put_file;
+
+// Which line of the reasons.
+pub(crate) const UNKNOWN: u32 = 0;
+
+pub(crate) const TOO_FEW: u32 = 1;
+
+pub(crate) const TOO_MANY: u32 = 2;
+
+pub(crate) const NO_TYPE: u32 = 3;
+
+pub(crate) const NO_OFFSET: u32 = 4;
+
+pub(crate) const NO_OUT: u32 = 5;
+
+pub(crate) const TWO_DASHES: u32 = 6;
+
+pub(crate) const NO_TYPE_NAME: u32 = 7;
+
+fn usage(fd: i32) -> bool {
+    io::write_all(
+        fd,
+        b"usage: scrieve check FILE          is the table accepted; else the report, and what it means\n\
+\x20      scrieve show FILE [TYPE]    a line for each type, or for one, by number or by name: size, members\n\
+\x20      scrieve size FILE TYPE      the exact size of a type\n\
+\x20      scrieve name FILE OFFSET    the string at an offset\n\
+\x20      scrieve join A B OUT        both tables in one; OUT changes only when all of it is written\n\
+\x20      scrieve help                this text; -h and --help too\n\
+\x20      scrieve version             the commit, the toolchain, the requests that have landed\n\
+A dash for FILE, A or B is standard input.\n\
+Status: 0 accepted or done, 1 refused, 2 a wrong call, or a file that cannot be read or written.\n",
+    )
+}
+
+pub(crate) fn help() -> Status {
+    if usage(STDOUT_FILENO) {
+        return Status::Done;
+    }
+    fail_text(b"standard output");
+    Status::Failed
+}
+
+// "scrieve: WORD: why", and the usage.
+fn put_wrong(word: &[u8], why: u32) {
+    let whys = b"there is no such verb\n\
+        too few words behind it\n\
+        too many words behind it\n\
+        TYPE is a decimal number of 32 bits\n\
+        OFFSET is a decimal number of 32 bits\n\
+        OUT is the name of a file\n\
+        A and B cannot both be standard input\n\
+        TYPE is a decimal number of 32 bits, or a name\n";
+    let mut buf = [0u8; lines::ROOM];
+    let o = put(&mut buf, lines::to(STDERR_FILENO), b"scrieve: ");
+    let o = put_file(&mut buf, o, word);
+    let o = put(&mut buf, o, b": ");
+    let o = put(&mut buf, o, line(whys, why));
+    let o = put(&mut buf, o, b"\n");
+    flush(&mut buf, o);
+}
+
+// The argument of this number is wrong.
+pub(crate) fn wrong_at(i: usize, why: u32) -> Status {
+    let mut s = [0u8; 4096];
+    let n = os::arg(i, &mut s);
+    put_wrong(first_of(&s, n), why);
+    usage(STDERR_FILENO);
+    Status::Failed
+}
+
+// The call has no words.
+pub(crate) fn no_words() -> Status {
+    io::write_all(STDERR_FILENO, b"scrieve: there is no verb\n");
+    usage(STDERR_FILENO);
+    Status::Failed
+}
