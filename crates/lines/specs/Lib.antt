@@ -1,5 +1,2 @@
 pub mod Decimal
-pub mod Escape
-pub mod Lay
 pub mod Line
-pub mod Quote

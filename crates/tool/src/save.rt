@@ -2,8 +2,8 @@
 // stood under its name before stands there still.
 use crate::files::fail;
 use crate::files::start;
-use lines::lay;
 use paper::Place;
+use quotes::lay;
 
 // Four random bytes; zeros where the system has none.
 fn random() -> u32 {

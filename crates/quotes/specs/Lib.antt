@@ -1,0 +1,3 @@
+pub mod Escape
+pub mod Lay
+pub mod Quote
