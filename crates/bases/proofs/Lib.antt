@@ -1,2 +1,2 @@
-pub mod Bases
+pub mod Follows
 pub mod ByKind

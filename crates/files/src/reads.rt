@@ -1,7 +1,7 @@
 // A table is read from a file, or from standard input where the name is a dash.
 use libc::STDERR_FILENO;
 use libc::STDIN_FILENO;
-use lines::file_text;
+use quotes::file_text;
 ghost use Prim.Native.Nat.{_≤_};
 ghost use lib.ListN.{length};
 

@@ -2,8 +2,8 @@
 // stood under its name before stands there still.
 use crate::reads::fail;
 use lines::first_of;
-use lines::lay;
 use paper::Place;
+use words::lay;
 
 // Four random bytes; zeros where the system has none.
 fn random() -> u32 {

@@ -1,18 +1,13 @@
-// The tool's text: pieces that wait in a buffer, bytes that others chose, one line of several, and a decimal argument.
-mod escapes; // bytes that others chose
-mod names; // names, and names of files
+// The tool's text: pieces that wait in a buffer, one line of several, and a decimal argument.
 mod numbers; // a decimal argument
 mod out; // the buffer
 mod texts; // a line of a text, the first bytes of some
 
-pub use names::file_text;
-pub use names::name_text;
 pub use numbers::Number;
 pub use numbers::parse;
 pub use out::Out;
 pub use out::ROOM;
 pub use out::flush;
-pub use out::lay;
 pub use out::marked;
 pub use out::put;
 pub use out::put_file;

@@ -1,14 +1,13 @@
 // What is written waits in a lent buffer, which is written when it is full: a listing is then a few system calls and not
 // one for each piece.
-use crate::names::file_text;
-use crate::names::name_text;
-use crate::names::text;
+use quotes::cut_text;
+use quotes::file_text;
+use quotes::name_text;
+use words::lay;
 ghost use mathlib.Core.Bool.{true, false};
 ghost use mathlib.Core.Path.{_≡_};
-ghost use Prim.Native.Nat.{_+_, _≤_, _<_};
+ghost use Prim.Native.Nat.{_<_};
 ghost use lib.ListN.{length};
-ghost use Rattle.paper.specs.terms.Put.{put};
-ghost use Rattle.lines.specs.Lay.{laid};
 
 // The bytes of the buffer. An array's length is known, so that no function need prove that it keeps it.
 pub const ROOM: usize = 65536;
@@ -74,31 +73,6 @@ fn write_first(buf: &[u8], o: Out) -> Out {
 // What waits is written.
 pub fn flush(buf: &mut [u8; ROOM], o: Out) -> Out {
     write_first(buf, o)
-}
-
-// The piece is laid at a place of the buffer that has room for all of it.
-pub(crate) fn copy(buf: &mut [u8], at: usize, s: &[u8])
-    requires { ⌜ at + length (now s) ≤ length (now buf) ⌝ }
-    ensures { λ r. ⌜ now (buf .exit) ≡ put (now (buf .entry)) at (now (s .entry)) ⌝ }
-{
-    let mut i = 0;
-    while i < s.len() {
-        buf[at + i] = s[i];
-        i += 1;
-    }
-}
-
-// The piece is laid at a place of the buffer. Nothing changes where it does not fit behind the place.
-pub fn lay(buf: &mut [u8], at: usize, s: &[u8])
-    ensures { λ r. ⌜ now (buf .exit) ≡ laid (now (buf .entry)) at (now (s .entry)) ⌝ }
-{
-    if buf.len() < at {
-        return;
-    }
-    if buf.len() - at < s.len() {
-        return;
-    }
-    copy(buf, at, s)
 }
 
 // One piece more. One that is longer than the buffer is written at once.
@@ -183,7 +157,7 @@ fn put_cut(buf: &mut [u8; ROOM], o: Out, s: &[u8]) -> Out
     requires { ⌜ 127 < length (now s) ⌝ }
 {
     let mut space = [0u8; 510];
-    let n = text(false, &s[0..127], &mut space);
+    let n = cut_text(&s[0..127], &mut space);
     let o = put(buf, o, &space[..n]);
     let o = put_with(buf, o, b"... (", s.len() as u64);
     put(buf, o, b" bytes)")

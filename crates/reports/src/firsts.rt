@@ -1,7 +1,6 @@
 // Which entry of a record is the first that breaks the rule of a report: the record is cut to its first entries, and what judges it
 // is asked again. A rule that some entries break is broken by more of them too, so halving finds the entry.
 use lines::first_of;
-use lines::lay;
 use links::Linked;
 use links::links;
 use paper::Place;
@@ -12,6 +11,7 @@ use rows::vlen_of;
 use views::View;
 use views::record_of;
 use views::strings_of;
+use words::lay;
 
 // The bytes that a table has at most.
 const BYTES: usize = 65536;

@@ -2,7 +2,7 @@
 -- Assumes nothing.
 use native.Mathlib.Omega.{arith}
 use borrow.Author.Needs.{needs}
-use Rattle.bases.proofs.Bases.{Following, following-start, following-base, following-next, following-end}
+use Rattle.bases.proofs.Follows.{Following, following-start, following-base, following-next, following-end}
 use Rattle.bases.proofs.places.base_of.Statement.{statement}
 use Rattle.bases.proofs.places.base_of.Tie as tie
 

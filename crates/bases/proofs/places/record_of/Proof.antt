@@ -2,7 +2,7 @@
 -- Assumes nothing.
 use mathlib.Core.Path.{_∙_}
 use native.Mathlib.Omega.{arith}
-use Rattle.bases.proofs.Bases.{rest-at, place-past, place-inside}
+use Rattle.bases.proofs.Follows.{rest-at, place-past, place-inside}
 use borrow.Author.Needs.{needs}
 use Rattle.bases.proofs.places.record_of.Statement.{statement}
 use Rattle.bases.proofs.places.record_of.Tie as tie

@@ -7,20 +7,20 @@ use borrow.Author.Needs.{needs}
 use Rattle.lines.proofs.out.put_cut.Statement.{statement}
 use Rattle.lines.proofs.out.put_cut.Tie as tie
 
-sub-text : tie.Need-sub-text
-sub-text c = search needs
+sub-cut-text : tie.Need-sub-cut-text
+sub-cut-text c = search needs
 
-part-text-start : tie.Need-part-text-start
-part-text-start c = search needs
+part-cut-text-start : tie.Need-part-cut-text-start
+part-cut-text-start c = search needs
 
-part-text-end : tie.Need-part-text-end
-part-text-end c = search needs
+part-cut-text-end : tie.Need-part-cut-text-end
+part-cut-text-end c = search needs
 
-slice-aggregate-text : tie.Need-slice-aggregate-text
-slice-aggregate-text c = search needs
+slice-aggregate-cut-text : tie.Need-slice-aggregate-cut-text
+slice-aggregate-cut-text c = search needs
 
-text-requires : tie.Need-text-requires
-text-requires c κs = search needs
+cut-text-requires : tie.Need-cut-text-requires
+cut-text-requires c κs = search needs
 
 array-share-prefix-space : tie.Need-array-share-prefix-space
 array-share-prefix-space c = search needs
@@ -50,11 +50,11 @@ pub put-cut-spec : {M : Type 1} → statement M
 put-cut-spec =
     tie.close
     (tie.spec
-    sub-text
-    part-text-start
-    part-text-end
-    slice-aggregate-text
-    text-requires
+    sub-cut-text
+    part-cut-text-start
+    part-cut-text-end
+    slice-aggregate-cut-text
+    cut-text-requires
     array-share-prefix-space
     slice-aggregate-put
     put-requires
