@@ -8,9 +8,9 @@ use native.Mathlib.Omega.{arith}
 use borrow.Author.Tests.{not-true, not-false}
 use Rattle.paper.specs.terms.Reading.{recordIn}
 use Rattle.paper.specs.rules.Span.{isAlias, baseFrom, baseOf}
-use Rattle.paper.specs.rules.Table.{Record, Table, count, recordAt, kindIn}
+use Rattle.paper.specs.rules.Table.{Record, Table, count, recordAt, kindAt}
 use Rattle.paper.specs.rules.Word.{lowFirst, wordAt}
-use Rattle.rows.proofs.RecordWords.{kind-read, third-read}
+use Rattle.rows.proofs.RecordWords.{third-read}
 
 -- so many steps are left at a type, and lead where all lead from the first
 pub record Leading (T : Table) (n t left at : ℕ) : Type 0 where
@@ -20,21 +20,20 @@ module _ {T : Table} {n t left at : ℕ} (now : Leading T n t left at) where
   pub leading-done : left ≤ 0 → at ≡ baseFrom T n t
   leading-done h = let none : left ≡ 0 = omega arith in sym (now .rest ∙ ap (λ (k : ℕ). baseFrom T k at) none)
 
-  module _ (some : 0 < left) (s : List ℕ) (is : recordIn lowFirst s ≡ recordAt T at) {w k : ℕ} (info : w ≡ wordAt lowFirst s 4) (kind : k ≡ kindIn w)
-      {a : Bool} (test : a ≡ isAlias k) where
+  module _ (some : 0 < left) {k : ℕ} (kind : k ≡ kindAt T at) {a : Bool} (test : a ≡ isAlias k) where
     -- one step
     step : baseFrom T n t ≡ cond a (baseFrom T (left - 1) (recordAt T at .third)) at
     step =
         let one : left ≡ suc (left - 1) = omega arith in
         now .rest
         ∙ ap (λ (k : ℕ). baseFrom T k at) one
-        ∙ ap (λ (b : Bool). cond b (baseFrom T (left - 1) (recordAt T at .third)) at) (sym (test ∙ ap isAlias (kind-read s is info kind)))
+        ∙ ap (λ (b : Bool). cond b (baseFrom T (left - 1) (recordAt T at .third)) at) (sym (test ∙ ap isAlias kind))
 
     pub leading-stop : not a ≡ true → at ≡ baseFrom T n t
     leading-stop e = sym (step ∙ ap (λ (b : Bool). cond b (baseFrom T (left - 1) (recordAt T at .third)) at) (not-true a e))
 
-    pub leading-next : not a ≡ false → {u : ℕ} → u ≡ wordAt lowFirst s 8 → Leading T n t (left - 1) u
-    leading-next e third =
+    pub leading-next : not a ≡ false → (s : List ℕ) → recordIn lowFirst s ≡ recordAt T at → {u : ℕ} → u ≡ wordAt lowFirst s 8 → Leading T n t (left - 1) u
+    leading-next e s is third =
         record {
           rest =
               step

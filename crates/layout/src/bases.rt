@@ -2,9 +2,10 @@
 use paper::Place;
 use paper::TypeNo;
 use rows::is_alias;
-use rows::kind_of;
 use views::View;
+use views::kind_at;
 use views::record_of;
+use views::word_of;
 ghost use mathlib.Core.Path.{_≡_};
 ghost use Rattle.paper.specs.terms.Reading.{recordIn};
 ghost use Rattle.paper.specs.rules.Span.{baseOf};
@@ -24,11 +25,10 @@ pub(crate) fn base_record<'a>(
     let mut at = t.0;
     let mut left = view.n;
     while 0 < left {
-        let s = record_of(base, b, index, view, TypeNo(at));
-        if !is_alias(kind_of(words::read(s, Place(4)))) {
-            return s;
+        if !is_alias(kind_at(base, b, index, view, TypeNo(at))) {
+            return record_of(base, b, index, view, TypeNo(at));
         }
-        at = words::read(s, Place(8));
+        at = word_of(base, b, index, view, TypeNo(at), Place(8));
         left -= 1;
     }
     record_of(base, b, index, view, TypeNo(at))

@@ -6,6 +6,7 @@ use mathlib.Core.List.{List}
 use native.Mathlib.Omega.{arith}
 use lib.ListN.{length, getD}
 use Rattle.sizes.specs.SizeStep.{cut, stepWords}
+use Rattle.sizes.proofs.SizeSteps.{stepWords-read}
 use Rattle.sizes.proofs.Scales.{Left, left-all, sizeAnswer-cut}
 use Rattle.paper.proofs.gates.SizeAsked.{stepBy-same, rowOf-counts}
 use Rattle.paper.specs.rules.Answer.{Answer}
@@ -13,9 +14,10 @@ use Rattle.paper.specs.rules.Kind.{rowOf}
 use Rattle.paper.specs.terms.Reading.{recordIn}
 use Rattle.paper.specs.rules.Size.{Step, Found, exactly, noneAt, lostAt, tooFar, scale, stepBy, sizeBy, stepIn, sizeFound, exactSize, answerOf}
 use Rattle.paper.specs.rules.Table as table
-use Rattle.paper.specs.rules.Table.{Record, Table, recordAt, kindIn, kindOf, tailLength}
+use Rattle.paper.specs.rules.Table.{Record, Table, recordAt, kindIn, kindOf, kindAt, tailLength}
 use Rattle.paper.specs.rules.Word.{lowFirst, wordAt}
-use Rattle.rows.proofs.RecordWords.{getD-wordsFrom}
+use Rattle.rows.proofs.RecordWords.{getD-wordsFrom, kind-read}
+use Rattle.rows.specs.Codes.{sizeCode, sizeRuleOf}
 
 -- ── what is told of what a walk finds: 21 and 22 are no size ──
 
@@ -45,6 +47,9 @@ stepWords-record s =
     stepBy-same (rowOf k .size) (length (rowOf k .once)) (rowOf-counts k) refl
     (λ h. (sym (getD-wordsFrom s 12 long 0 (omega arith)), sym (getD-wordsFrom s 12 long 2 (omega arith))))
 
-pub stepIn-read : (T : Table) (t : ℕ) (s : List ℕ) → recordIn lowFirst s ≡ recordAt T t → {x : Step} → x ≡ stepWords s → x ≡ stepIn T t
+-- by the code of the rule of its kind, and the words of the bytes that its record begins
+pub stepIn-rule : (T : Table) (t : ℕ) (s : List ℕ) → recordIn lowFirst s ≡ recordAt T t → {k r : ℕ} → k ≡ kindAt T t → r ≡ sizeCode (rowOf k .size)
+    → {x : Step} → x ≡ stepBy (sizeRuleOf r) (wordAt lowFirst s 8) (wordAt lowFirst s 12) (wordAt lowFirst s 20) → x ≡ stepIn T t
 unfolding stepIn
-stepIn-read T t s is says = says ∙ stepWords-record s ∙ ap stepFor is
+stepIn-rule T t s is kind code says =
+    stepWords-read s refl (kind ∙ sym (kind-read s is refl refl)) refl refl refl code says ∙ stepWords-record s ∙ ap stepFor is

@@ -53,7 +53,7 @@ fn unreadable(kind: u32, len: usize) -> bool
 }
 
 // What a record says, by the words that its bytes begin with: any bytes are some record's.
-pub(crate) fn step_words(s: &[u8]) -> Step
+fn step_words(s: &[u8]) -> Step
     ensures { λ r. ⌜ stepAsPaper r ≡ stepWords (now (s .entry)) ⌝ }
 {
     let kind = kind_of(words::read(s, Place(4)));

@@ -1,6 +1,6 @@
 -- Laws of the table that an index shows: its records one by one, for any bytes and any index.
 -- Assumes nothing.
-use Prim.Native.Nat.{ℕ, zero, suc, _+_, _≤_, _<_}
+use Prim.Native.Nat.{ℕ, zero, suc, _+_, _-_, _≤_, _<_}
 use mathlib.Core.Path.{_≡_, refl, sym, ap, _∙_}
 use mathlib.Core.Bool.{Bool, true, false, cond}
 use mathlib.Core.List.{List, [], _∷_}
@@ -8,15 +8,16 @@ use denote.Ref.{RefT, now, ptr}
 use lib.Dec.{ltb}
 use native.Mathlib.Omega.{arith}
 use borrow.Author.Tests.{eq-eqb, ne-eqb, lt-ltb, le-ltb, ltb-true, ltb-false}
-use lib.ListN.{length, getD, drop, List·getD-eq-default, drop-of-length-le}
-use lib.Seq.{drop-length, ext-getD}
+use lib.ListN.{length, getD, take, drop, List·getD-eq-default, drop-of-length-le}
+use lib.Seq.{drop-nil, drop-length, ext-getD}
+use Rattle.paper.proofs.bytes.Bytes.{part-rest}
 use Rattle.paper.proofs.walks.Insides.{recordAt-outside}
 use Rattle.paper.specs.rules.Header.{headerLength, orderOf, typeLen, stringsIn}
 use Rattle.paper.specs.rules.Kind.{rows, rowOf}
 use Rattle.paper.specs.terms.Reading.{recordIn}
 use Rattle.paper.specs.rules.Table.{Table, count, nothing, recordAt, tailLength}
-use Rattle.paper.specs.rules.Word.{lowFirst, wordAt}
-use Rattle.views.specs.Shown.{outside, placeBy, within, recordBy, recordsBy, tableBy, startBy, Starts, stringsStart, ShownAs, StringsAs}
+use Rattle.paper.specs.rules.Word.{lowFirst, firstWord, wordAt}
+use Rattle.views.specs.Shown.{outside, placeBy, within, recordBy, recordsBy, tableBy, startBy, Starts, stringsStart, ShownAs, WordOf, StringsAs}
 use Rattle.views.specs.declared.View.{View}
 
 -- no bytes are the record of no kind
@@ -158,6 +159,32 @@ module _ (base b index : List ℕ) where
             ∙ ap (recordIn lowFirst) (drop-within b (getD index (suc t) (length b)))
             ∙ recordBy-bytes base b index (suc t)
             ∙ sym (tableBy-record (suc t) (omega arith) h)
+
+-- ── a word of it ──
+
+-- no bytes, no word
+word-none : (k : ℕ) → 0 ≡ wordAt lowFirst [] k
+unfolding wordAt
+word-none k = ap (firstWord lowFirst) (sym (drop-nil k))
+
+module _ (base b index : List ℕ) (v : View) {t at : ℕ} where
+  pub word-nowhere : length b ≡ startBy base b index v t → WordOf base b index v t at 0
+  word-nowhere e =
+      record {
+        says = word-none at ∙ ap (λ (s : List ℕ). wordAt lowFirst s at) (sym (drop-length b) ∙ ap (λ (p : ℕ). drop p b) e);
+        shows = startBy-record base b index v t;
+      }
+
+  pub word-there : {p r : ℕ} → p ≡ startBy base b index v t → r ≡ wordAt lowFirst (take (length b - p) (drop p b)) at → WordOf base b index v t at r
+  word-there {p} e d =
+      record {
+        says = d ∙ ap (λ (s : List ℕ). wordAt lowFirst s at) (part-rest b p ∙ ap (λ (q : ℕ). drop q b) e);
+        shows = startBy-record base b index v t;
+      }
+
+-- the same word of two that are allowed
+pub word-one : {base b index : List ℕ} {v : View} {t at r r′ : ℕ} → WordOf base b index v t at r → WordOf base b index v t at r′ → r ≡ r′
+word-one h k = h .says ∙ sym (k .says)
 
 -- ── the place that a report carries ──
 

@@ -11,7 +11,7 @@ use lib.ListN.{length, getD, drop}
 use Rattle.paper.specs.rules.Header.{headerLength, typeLen, stringsIn}
 use Rattle.paper.specs.terms.Reading.{recordIn}
 use Rattle.paper.specs.rules.Table.{Record, Table, recordAt}
-use Rattle.paper.specs.rules.Word.{lowFirst}
+use Rattle.paper.specs.rules.Word.{lowFirst, wordAt}
 use Rattle.views.specs.declared.View.{View}
 
 -- void, and a number above n
@@ -57,6 +57,11 @@ pub record ShownAs (base b : RefT (List ℕ)) (index : List ℕ) (v : View) (t :
   pub bytes : now r ≡ drop (startBy (now base) (now b) index v t) (now b)
   pub place : ptr r ≡ (ptr b .0, startBy (now base) (now b) index v t + ptr b .1)
   pub shows : recordIn lowFirst (now r) ≡ recordAt (tableBy (now base) (now b) index v) t
+
+-- the word at a place of a type's record, by the bytes that the record begins
+pub record WordOf (base b index : List ℕ) (v : View) (t at r : ℕ) : Type 0 where
+  pub says : r ≡ wordAt lowFirst (drop (startBy base b index v t) b) at
+  pub shows : recordIn lowFirst (drop (startBy base b index v t) b) ≡ recordAt (tableBy base b index v) t
 
 -- a reference to the strings
 pub record StringsAs (base b : RefT (List ℕ)) (index : List ℕ) (v : View) (r : RefT (List ℕ)) : Type 0 where

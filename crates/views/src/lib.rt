@@ -5,7 +5,7 @@ use paper::TypeNo;
 use rows::kind_of;
 ghost use mathlib.Core.Path.{_≡_};
 ghost use Rattle.paper.specs.rules.Table.{kindAt};
-ghost use Rattle.views.specs.Shown.{ShownAs, Starts, StringsAs, placeBy, tableBy};
+ghost use Rattle.views.specs.Shown.{ShownAs, Starts, StringsAs, WordOf, placeBy, tableBy};
 
 // How a blob is looked at: how many types its index shows.
 pub struct View {
@@ -63,12 +63,35 @@ pub fn record_of<'a>(base: &'a [u8], b: &'a [u8], index: &[u32], view: View, t: 
     &b[from..]
 }
 
+// The word at a place of a type's record; 0 where there is no such record, or no such word. By branches alone, so that in a chain of types
+// the next load need not wait for the test of a place: the walks to a base and to a size read words, not the bytes of a record.
+pub fn word_of(base: &[u8], b: &[u8], index: &[u32], view: View, t: TypeNo, at: Place) -> u32
+    ensures { λ r. ⌜ WordOf (now (base .entry)) (now (b .entry)) (now (index .entry)) view (t .0) (at .0) r ⌝ }
+{
+    let k = t.0;
+    if k == 0 {
+        return 0;
+    }
+    let n = view.n;
+    if n < k {
+        return 0;
+    }
+    let i = k as usize;
+    if index.len() <= i {
+        return 0;
+    }
+    let p = index[i] as usize;
+    if b.len() < p {
+        return 0;
+    }
+    words::read(&b[p..], at)
+}
+
 // The kind of a type; 0 for void and for a number above n.
-pub fn kind_at<'a>(base: &'a [u8], b: &'a [u8], index: &[u32], view: View, t: TypeNo) -> u32
+pub fn kind_at(base: &[u8], b: &[u8], index: &[u32], view: View, t: TypeNo) -> u32
     ensures { λ r. ⌜ r ≡ kindAt (tableBy (now (base .entry)) (now (b .entry)) (now (index .entry)) view) (t .0) ⌝ }
 {
-    let bytes = record_of(base, b, index, view, t);
-    kind_of(words::read(bytes, Place(4)))
+    kind_of(word_of(base, b, index, view, t, Place(4)))
 }
 
 // The string section, by the header.

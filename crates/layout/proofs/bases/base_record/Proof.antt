@@ -18,30 +18,26 @@ abbrev μ-loop : tie.MeasureT-loop
 loop-holds : tie.Need-loop-holds Inv-loop μ-loop
 loop-holds c = record { rest = refl }
 
-record-of-requires : tie.Need-record-of-requires Inv-loop μ-loop
-record-of-requires c κs = search needs
-
-read-requires : tie.Need-read-requires Inv-loop μ-loop
-read-requires c κs = search needs
-
-kind-of-requires : tie.Need-kind-of-requires Inv-loop μ-loop
-kind-of-requires c κs = search needs
+kind-at-requires : tie.Need-kind-at-requires Inv-loop μ-loop
+kind-at-requires c κs = search needs
 
 is-alias-requires : tie.Need-is-alias-requires Inv-loop μ-loop
 is-alias-requires c κs = search needs
 
+record-of-requires : tie.Need-record-of-requires Inv-loop μ-loop
+record-of-requires c κs = search needs
+
 returns : tie.Need-returns Inv-loop μ-loop
 returns c =
-    let k = c .before .before in
-    let r = k .before .before in
-    let l = r .before .before in
+    let a = c .before .before in
+    let k = a .before in
+    let l = k .before .before in
     base-found _ _ (sym (tableBy-count _ _ _ _))
-    (leading-stop (l .loop .inv) (r .before .loop-test .taken) _ (r .record-of .ensures .shows) (k .before .read .ensures) (k .kind-of .ensures)
-    (c .before .is-alias .ensures) (c .if1 .taken))
-    (r .record-of .ensures .shows)
+    (leading-stop (l .loop .inv) (omega (arith, k .before .loop-test .taken)) (k .kind-at .ensures) (a .is-alias .ensures) (c .before .if1 .taken))
+    (c .record-of .ensures .shows)
 
-read-requires-2 : tie.Need-read-requires-2 Inv-loop μ-loop
-read-requires-2 c κs = search needs
+word-of-requires : tie.Need-word-of-requires Inv-loop μ-loop
+word-of-requires c κs = search needs
 
 sub-left : tie.Need-sub-left Inv-loop μ-loop
 sub-left c = omega arith
@@ -52,10 +48,10 @@ loop-less c = omega arith
 loop-again : tie.Need-loop-again Inv-loop μ-loop
 loop-again c =
     let e = c .before in
-    let k = e .before .before in
-    let r = k .before .before in
-    let l = r .before .before in
-    leading-next (l .loop .inv) (r .before .loop-test .taken) _ (r .record-of .ensures .shows) (k .before .read .ensures) (k .kind-of .ensures) (e .before .is-alias .ensures) (e .if1 .left) (c .read2 .ensures)
+    let a = e .before in
+    let k = a .before in
+    let l = k .before .before in
+    leading-next (l .loop .inv) (omega (arith, k .before .loop-test .taken)) (k .kind-at .ensures) (a .is-alias .ensures) (e .if1 .left) _ (c .word-of .ensures .shows) (c .word-of .ensures .says)
 
 record-of-requires-2 : tie.Need-record-of-requires-2 Inv-loop μ-loop
 record-of-requires-2 c κs = search needs
@@ -72,12 +68,11 @@ base-record-spec =
     Inv-loop
     μ-loop
     loop-holds
-    record-of-requires
-    read-requires
-    kind-of-requires
+    kind-at-requires
     is-alias-requires
+    record-of-requires
     returns
-    read-requires-2
+    word-of-requires
     sub-left
     loop-less
     loop-again

@@ -4,7 +4,7 @@
 use mathlib.Core.Path.{sym, ap}
 use native.Mathlib.Omega.{arith}
 use Rattle.sizes.proofs.Scales.{Left, left-void, left-far, left-is, left-many, left-sizeless, left-lost}
-use Rattle.sizes.proofs.TableSizes.{tellIn, tellIn-cut, left-shown, stepIn-read}
+use Rattle.sizes.proofs.TableSizes.{tellIn, tellIn-cut, left-shown}
 use Rattle.sizes.specs.SizeStep.{stepAsPaper}
 use Rattle.paper.specs.rules.Answer.{sizedAsPaper}
 use Rattle.paper.specs.rules.Size.{stepIn, exactSize, answerOf}
@@ -32,30 +32,27 @@ returns c = left-far (c .before .before .loop .inv) (c .before .loop-test .taken
 sub-reads : tie.Need-sub-reads Inv-loop μ-loop
 sub-reads c = omega arith
 
-record-of-requires : tie.Need-record-of-requires Inv-loop μ-loop
-record-of-requires c κs = search needs
-
-step-words-requires : tie.Need-step-words-requires Inv-loop μ-loop
-step-words-requires c κs = search needs
+step-shown-requires : tie.Need-step-shown-requires Inv-loop μ-loop
+step-shown-requires c κs = search needs
 
 enum-known-s : tie.Need-enum-known-s Inv-loop μ-loop
 enum-known-s c = search needs
 
 many-requires : tie.Need-many-requires Inv-loop μ-loop
-many-requires c κs = omega (arith, c .before .before .before .before .before .before .before .loop .inv)
+many-requires c κs = omega (arith, c .before .before .before .before .before .before .loop .inv)
 
 returns-2 : tie.Need-returns-2 Inv-loop μ-loop
 returns-2 c =
     let d = c .before .before .before .before in
-    left-is (d .before .before .before .before .loop .inv) (d .before .before .before .loop-test .taken) (d .before .before .if1 .left)
-    (stepIn-read _ _ _ (d .before .record-of .ensures .shows) (d .step-words .ensures))
+    left-is (d .before .before .before .loop .inv) (d .before .before .loop-test .taken) (d .before .if1 .left)
+    (d .step-shown .ensures)
     (ap stepAsPaper (c .before .before .s .given .1)) (c .many .ensures)
 
 enum-known-n : tie.Need-enum-known-n Inv-loop μ-loop
 enum-known-n c = search needs
 
 times-requires : tie.Need-times-requires Inv-loop μ-loop
-times-requires c κs = omega (arith, c .before .before .before .before .before .before .before .loop .inv)
+times-requires c κs = omega (arith, c .before .before .before .before .before .before .loop .inv)
 
 loop-less : tie.Need-loop-less Inv-loop μ-loop
 loop-less c = omega arith
@@ -63,8 +60,8 @@ loop-less c = omega arith
 loop-again : tie.Need-loop-again Inv-loop μ-loop
 loop-again c =
     let d = c .before .before .before .before in
-    left-many (d .before .before .before .before .loop .inv) (d .before .before .before .loop-test .taken) (d .before .before .if1 .left)
-    (stepIn-read _ _ _ (d .before .record-of .ensures .shows) (d .step-words .ensures)) tellIn-cut
+    left-many (d .before .before .before .loop .inv) (d .before .before .loop-test .taken) (d .before .if1 .left)
+    (d .step-shown .ensures) tellIn-cut
     (ap stepAsPaper (c .before .before .n .given .1)) (c .times .ensures)
 
 enum-told : tie.Need-enum-told Inv-loop μ-loop
@@ -74,8 +71,8 @@ returns-3 : tie.Need-returns-3 Inv-loop μ-loop
 unfolding sizedAsPaper
 returns-3 c =
     let d = c .before .before in
-    left-sizeless (d .before .before .before .before .loop .inv) (d .before .before .before .loop-test .taken) (d .before .before .if1 .left)
-    (stepIn-read _ _ _ (d .before .record-of .ensures .shows) (d .step-words .ensures))
+    left-sizeless (d .before .before .before .loop .inv) (d .before .before .loop-test .taken) (d .before .if1 .left)
+    (d .step-shown .ensures)
     (ap stepAsPaper (c .enum-told .given .1))
 
 enum-told-2 : tie.Need-enum-told-2 Inv-loop μ-loop
@@ -85,8 +82,8 @@ returns-4 : tie.Need-returns-4 Inv-loop μ-loop
 unfolding sizedAsPaper
 returns-4 c =
     let d = c .before .before in
-    left-lost (d .before .before .before .before .loop .inv) (d .before .before .before .loop-test .taken) (d .before .before .if1 .left)
-    (stepIn-read _ _ _ (d .before .record-of .ensures .shows) (d .step-words .ensures))
+    left-lost (d .before .before .before .loop .inv) (d .before .before .loop-test .taken) (d .before .if1 .left)
+    (d .step-shown .ensures)
     (ap stepAsPaper (c .enum-told2 .given .1))
 
 returns-5 : tie.Need-returns-5 Inv-loop μ-loop
@@ -102,8 +99,7 @@ size-in-spec =
     loop-holds
     returns
     sub-reads
-    record-of-requires
-    step-words-requires
+    step-shown-requires
     enum-known-s
     many-requires
     returns-2
