@@ -35,24 +35,17 @@
  * begin; for 1 to 5 and 9, which name no type, 0. It is a multiple of 4 and below the blob's length. That of a report inside a join's
  * refusal counts in the blob that was refused.
  *
- * The reports
- *    1 under 24 bytes or over 65,536                     12 a word after the head breaks a rule
- *    2 the first four bytes are not 9F EB 01 00          13 a reference above the count or to a forbidden kind
- *    3 the header length is not 24                       14 a type leads on without end, by value or by pointers
- *    4 the sections do not add up to the blob            15 a layout rule is broken
- *    5 strings empty, or not from zero byte to zero byte 16 the first table is refused
- *    6 a record does not fit the type section            17 the second table is refused
- *    7 an unknown kind                                   18 over 4,096 types together
- *    8 over 4,096 types                                  19 the joined length is over 65,536
- *    9 index or work has under count + 1 places          20 the output is shorter than the joined length
- *   10 a record's head breaks a rule                     21 the index leads outside what can be read
- *   11 a name breaks a rule                              22 more records would be read than the index has places
+ * The numbers have names below, and scrieve_words.h has a line of text for each report.
  */
 #ifndef SCRIEVE_H
 #define SCRIEVE_H
 
 #include <stddef.h>
 #include <stdint.h>
+
+/* Which interface this is. It rises where a number, an argument or what is left in a slice changes its meaning. In 1 the change requests
+ * 1, 2, 6, 9, 11 and 12 have landed (docs/orders). */
+#define SCRIEVE_VERSION 1
 
 /* Full size: with so many places in index and work, and so many bytes of output, no table is refused for want of room. */
 #define SCRIEVE_FULL_PLACES 4097
@@ -65,6 +58,38 @@
 #define SCRIEVE_T 2
 #define SCRIEVE_P 3
 
+/* The reports, and 0 where there is none: `number` of every function, and `inner` of a join. A check gives 1 to 15, a join 16 to 20, the size
+ * question 21 and 22. */
+enum scrieve_report {
+	SCRIEVE_REPORT_NONE = 0,           /* accepted, joined, an exact size, a name */
+	SCRIEVE_REPORT_LENGTH = 1,         /* under 24 bytes or over 65,536 */
+	SCRIEVE_REPORT_MAGIC = 2,          /* the first four bytes are not 9F EB 01 00 */
+	SCRIEVE_REPORT_HEADER = 3,         /* the header length is not 24 */
+	SCRIEVE_REPORT_SECTIONS = 4,       /* the sections do not add up to the blob */
+	SCRIEVE_REPORT_STRINGS = 5,        /* strings empty, or not from zero byte to zero byte */
+	SCRIEVE_REPORT_CUT = 6,            /* a record does not fit the type section */
+	SCRIEVE_REPORT_KIND = 7,           /* an unknown kind */
+	SCRIEVE_REPORT_TYPES = 8,          /* over 4,096 types */
+	SCRIEVE_REPORT_PLACES = 9,         /* index or work has under count + 1 places */
+	SCRIEVE_REPORT_HEAD = 10,          /* a record's head breaks a rule */
+	SCRIEVE_REPORT_NAME = 11,          /* a name breaks a rule */
+	SCRIEVE_REPORT_TAIL = 12,          /* a word after the head breaks a rule */
+	SCRIEVE_REPORT_REFERENCE = 13,     /* a reference above the count or to a forbidden kind */
+	SCRIEVE_REPORT_ENDLESS = 14,       /* a type leads on without end, by value or by pointers */
+	SCRIEVE_REPORT_LAYOUT = 15,        /* a layout rule is broken */
+	SCRIEVE_REPORT_FIRST = 16,         /* the first table is refused */
+	SCRIEVE_REPORT_SECOND = 17,        /* the second table is refused */
+	SCRIEVE_REPORT_JOINED_TYPES = 18,  /* over 4,096 types together */
+	SCRIEVE_REPORT_JOINED_LENGTH = 19, /* the joined length is over 65,536 */
+	SCRIEVE_REPORT_OUTPUT = 20,        /* the output is shorter than the joined length */
+	SCRIEVE_REPORT_INDEX = 21,         /* the index leads outside what can be read */
+	SCRIEVE_REPORT_READS = 22          /* more records would be read than the index has places */
+};
+
+/* What else `number` of the size question can be, and of the name question. */
+enum scrieve_size_answer { SCRIEVE_SIZE_EXACT = 0, SCRIEVE_SIZE_NONE = 1, SCRIEVE_SIZE_OVER = 2 };
+enum scrieve_name_answer { SCRIEVE_NAME_FOUND = 0, SCRIEVE_NAME_NONE = 1 };
+
 #ifdef __cplusplus
 extern "C" {
 #endif
@@ -75,22 +100,25 @@ extern "C" {
  *            Refused, for whatever reason: all 0.
  *   work     places, count of types + 1 or more. All 0 afterwards, accepted or refused.
  *   answer   see above */
-void scrieve_check(const uint8_t *blob, size_t, uint32_t *index, size_t, uint32_t *work, size_t, uint32_t *answer, size_t);
+void scrieve_check(const uint8_t *blob, size_t blob_length, uint32_t *index, size_t index_places, uint32_t *work, size_t work_places,
+		   uint32_t *answer, size_t answer_places);
 
 /* The size of a type in bytes.
  *   blob     the table's bytes, read only
  *   index    the index that an accepted check of this blob has left, read only; count of types + 1 places are enough. With any other
  *            blob and index the call is as safe, and 21 or 22 may be its answer.
- *   type     the type number
+ *   type     the type number. Type 0, void, has no size (1), with an index of no places too. A number above the count is 21: the index has
+ *            no place for it, or a 0 there. With an index of no places any number but 0 is 22.
  *   answer   see above */
-void scrieve_size(const uint8_t *blob, size_t, const uint32_t *index, size_t, uint32_t type, uint32_t *answer, size_t);
+void scrieve_size(const uint8_t *blob, size_t blob_length, const uint32_t *index, size_t index_places, uint32_t type,
+		  uint32_t *answer, size_t answer_places);
 
 /* The name at an offset into the strings, up to its first zero byte. It is not copied: the answer says where it lies in the blob.
  *   blob     the table's bytes, read only
  *   offset   the name offset
  *   answer   see above. There is none (1, with t and p 0) where the blob would get one of the reports 1 to 5, or where the offset is
  *            not below the string length. A name of no bytes is a name (0), at the place where its zero byte stands. */
-void scrieve_name(const uint8_t *blob, size_t, uint32_t offset, uint32_t *answer, size_t);
+void scrieve_name(const uint8_t *blob, size_t blob_length, uint32_t offset, uint32_t *answer, size_t answer_places);
 
 /* Joins two blobs: the first's types, then the second's with type numbers and name offsets raised.
  *   a, b     the two tables' bytes, read only
@@ -99,7 +127,8 @@ void scrieve_name(const uint8_t *blob, size_t, uint32_t offset, uint32_t *answer
  *   out      bytes, the joined length or more. Joined: the table, and every byte past the joined length as it was. Refused: every
  *            byte as it was.
  *   answer   see above. Check the joined table to get its index. */
-void scrieve_join(const uint8_t *a, size_t, const uint8_t *b, size_t, uint32_t *index, size_t, uint32_t *work, size_t, uint8_t *out, size_t, uint32_t *answer, size_t);
+void scrieve_join(const uint8_t *a, size_t a_length, const uint8_t *b, size_t b_length, uint32_t *index, size_t index_places,
+		  uint32_t *work, size_t work_places, uint8_t *out, size_t out_length, uint32_t *answer, size_t answer_places);
 
 #ifdef __cplusplus
 }

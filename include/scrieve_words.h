@@ -1,0 +1,40 @@
+/* A line of text for each report of scrieve.h, in the words that the tool writes (tests/words compares them). */
+#ifndef SCRIEVE_WORDS_H
+#define SCRIEVE_WORDS_H
+
+#include "scrieve.h"
+
+/* The text of a report, or of 0: static, and without a full stop or a line's end. Those of 1 to 15 speak of the table or the type that
+ * the report names. Any other number gets a text that says so. */
+static inline const char *scrieve_report_words(uint32_t number)
+{
+	static const char *const words[] = {
+		"no report",
+		"the table has under 24 bytes or over 65536",
+		"the first four bytes are not 9F EB 01 00 (magic, version 1, flags 0)",
+		"the header's length is not 24",
+		"the sections of types and strings do not fill the table one after the other",
+		"the strings are empty, or their first or last byte is not zero",
+		"the record does not fit the type section",
+		"there is no such kind",
+		"there are more than 4096 types",
+		"too few places were lent",
+		"a word of the record's head is not allowed",
+		"a name is not allowed",
+		"a word behind the record's head is not allowed",
+		"it refers to a type that is not there, or of a kind that is not allowed",
+		"what it holds, or what it points to, leads on without end",
+		"a rule of the layout is broken",
+		"the first table is refused",
+		"the second table is refused",
+		"together there are more than 4096 types",
+		"the joined table would have over 65536 bytes",
+		"the output is shorter than the joined table",
+		"the index leads outside what can be read",
+		"more records would be read than the index has places"
+	};
+
+	return number < sizeof words / sizeof *words ? words[number] : "there is no such report";
+}
+
+#endif
