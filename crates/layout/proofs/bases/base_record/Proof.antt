@@ -55,7 +55,8 @@ loop-again c =
     let k = e .before .before in
     let r = k .before .before in
     let l = r .before .before in
-    leading-next (l .loop .inv) (r .before .loop-test .taken) _ (r .record-of .ensures .shows) (k .before .read .ensures) (k .kind-of .ensures) (e .before .is-alias .ensures) (e .if1 .left) (c .read2 .ensures)
+    leading-next (l .loop .inv) (r .before .loop-test .taken) _ (r .record-of .ensures .shows) (k .before .read .ensures) (k .kind-of .ensures)
+    (e .before .is-alias .ensures) (e .if1 .left) (c .read2 .ensures)
 
 record-of-requires-2 : tie.Need-record-of-requires-2 Inv-loop μ-loop
 record-of-requires-2 c κs = search needs
