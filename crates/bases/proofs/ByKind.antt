@@ -32,4 +32,8 @@ module _ (r : Record) {k : ℕ} (kind : k ≡ kindOf r) where
       pub sign-none : (k ≡ ENUM64 → ⊥) → 0 ≡ signOf r
       unfolding signOf
       sign-none e =
-          sym (rw (ne-eqb (kindOf r) INT (λ q. int (kind ∙ q)), ne-eqb (kindOf r) ENUM (λ q. enum (kind ∙ q)), ne-eqb (kindOf r) ENUM64 (λ q. e (kind ∙ q))) refl)
+          sym (rw (
+            ne-eqb (kindOf r) INT (λ q. int (kind ∙ q)),
+            ne-eqb (kindOf r) ENUM (λ q. enum (kind ∙ q)),
+            ne-eqb (kindOf r) ENUM64 (λ q. e (kind ∙ q)),
+          ) refl)

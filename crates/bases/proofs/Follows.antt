@@ -42,7 +42,8 @@ module _ {blob index : List ℕ} {t at left : ℕ} (g : Following blob index t a
   unfolding baseIn
   following-end h = let none : 0 ≡ left = omega arith in ap (λ (n : ℕ). baseIn blob index n at) none ∙ g .base
 
-  module _ (more : 0 < left) {r : List ℕ} (bytes : r ≡ drop (placeIn blob index at) blob) {info k : ℕ} {a : Bool} (word : info ≡ wordAt lowFirst r 4) (kind : k ≡ kindIn info) (alias : a ≡ isAlias k) where
+  module _ (more : 0 < left) {r : List ℕ} (bytes : r ≡ drop (placeIn blob index at) blob) {info k : ℕ} {a : Bool} (word : info ≡ wordAt lowFirst r 4)
+      (kind : k ≡ kindIn info) (alias : a ≡ isAlias k) where
     one : left ≡ suc (left - 1)
     one = omega arith
 
@@ -50,7 +51,8 @@ module _ {blob index : List ℕ} {t at left : ℕ} (g : Following blob index t a
     unfolding baseIn wordIn
     step =
         ap (λ (n : ℕ). baseIn blob index n at) one
-        ∙ ap (λ (x : Bool). cond x (baseIn blob index (left - 1) (wordIn blob index at 8)) at) (sym (alias ∙ ap isAlias (kind ∙ ap kindIn (word ∙ ap (λ (s : List ℕ). wordAt lowFirst s 4) bytes))))
+        ∙ ap (λ (x : Bool). cond x (baseIn blob index (left - 1) (wordIn blob index at 8)) at)
+        (sym (alias ∙ ap isAlias (kind ∙ ap kindIn (word ∙ ap (λ (s : List ℕ). wordAt lowFirst s 4) bytes))))
 
     pub following-base : not a ≡ true → at ≡ baseIn blob index (length index) t
     following-base e = sym (step ∙ ap (λ (x : Bool). cond x (baseIn blob index (left - 1) (wordIn blob index at 8)) at) (not-true a e)) ∙ g .base

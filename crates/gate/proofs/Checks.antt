@@ -23,7 +23,8 @@ use Rattle.paper.proofs.Outcomes.{gate-refused, gate-accepted, length-indexOf, 
 use Rattle.paper.specs.rules.Answer.{Answer, report, reportAt, checkedAsPaper}
 use Rattle.paper.specs.rules.Choice.{orElse}
 use Rattle.paper.specs.terms.Fit.{Bytes}
-use Rattle.paper.specs.rules.Gate.{phase1, phase2, shortSlices, phase3, phase4, phase5, phase6, overTypes, tableReport, refusal, zeros, indexOf, Outcome, outcome, gate}
+use Rattle.paper.specs.rules.Gate.{phase1, phase2, shortSlices, phase3, phase4, phase5, phase6, overTypes}
+use Rattle.paper.specs.rules.Gate.{tableReport, refusal, zeros, indexOf, Outcome, outcome, gate}
 use Rattle.paper.specs.rules.Table.{Table, count}
 use Rattle.paper.specs.rules.Walk.{tableOf}
 use Rattle.paper.specs.declared.Checked.the-variants.{Accepted, Refused}
@@ -48,14 +49,16 @@ module _ (T : Table) where
     from-fourth = ap (λ (o : Option Answer). orElse o (orElse (overTypes phase4 T) (orElse (overTypes phase5 T) (overTypes phase6 T)))) p3
 
     said-links : (o : Option Answer) → orElse (overTypes phase4 T) (overTypes phase5 T) ≡ o → tableReport T ≡ orElse o (overTypes phase6 T)
-    said-links o e = from-fourth ∙ go (overTypes phase4 T) (overTypes phase5 T) (overTypes phase6 T) ∙ ap (λ (x : Option Answer). orElse x (overTypes phase6 T)) e
+    said-links o e =
+        from-fourth ∙ go (overTypes phase4 T) (overTypes phase5 T) (overTypes phase6 T) ∙ ap (λ (x : Option Answer). orElse x (overTypes phase6 T)) e
       where
         go : (x y z : Option Answer) → orElse x (orElse y z) ≡ orElse (orElse x y) z
         go none y z = refl
         go (some a) y z = refl
 
 -- the same of the answers in code, of the table that the index shows
-module _ {b index work : List ℕ} (base : List ℕ) {v : View} (j : Judgeable b index (v .n) work) (s₃ : Said) (e₃ : saidAsPaper s₃ ≡ overShown phase3 base b index v) where
+module _ {b index work : List ℕ} (base : List ℕ) {v : View} (j : Judgeable b index (v .n) work) (s₃ : Said)
+    (e₃ : saidAsPaper s₃ ≡ overShown phase3 base b index v) where
   abbrev T : Table
   T = tableOf b
 
@@ -65,11 +68,13 @@ module _ {b index work : List ℕ} (base : List ℕ) {v : View} (j : Judgeable b
   pub judge-third : {r : Report} → s₃ ≡ Says r → saidAsPaper s₃ ≡ tableReport T
   judge-third p = ap saidAsPaper p ∙ sym (said-third T (sym third-here ∙ ap saidAsPaper p))
 
-  module _ (n₃ : s₃ ≡ Nothing) (few : v .n ≤ typeLimit) (w : Linked) (e₄ : linkedAsPaper (tableBy base b index v) w ≡ linksSay (tableBy base b index v) (v .n) (length work)) where
+  module _ (n₃ : s₃ ≡ Nothing) (few : v .n ≤ typeLimit) (w : Linked)
+      (e₄ : linkedAsPaper (tableBy base b index v) w ≡ linksSay (tableBy base b index v) (v .n) (length work)) where
     linked : {x : Linked} → w ≡ x → tableReport T ≡ orElse (linkedAsPaper T x) (overTypes phase6 T)
     linked {x} q =
         let says : linkedAsPaper T w ≡ orElse (overTypes phase4 T) (overTypes phase5 T) =
-        subst (λ (S : Table). linkedAsPaper S w ≡ orElse (overTypes phase4 S) (overTypes phase5 S)) (stands-shows (j .standing) base v refl) (e₄ ∙ links-say (tableBy base b index v) (v .n) (length work) few (j .room)) in
+        subst (λ (S : Table). linkedAsPaper S w ≡ orElse (overTypes phase4 S) (overTypes phase5 S)) (stands-shows (j .standing) base v refl)
+        (e₄ ∙ links-say (tableBy base b index v) (v .n) (length work) few (j .room)) in
         said-links T (sym third-here ∙ ap saidAsPaper n₃) (linkedAsPaper T x) (sym says ∙ ap (linkedAsPaper T) q)
 
     pub judge-reference : {t : TypeNo} {p : ℕ} → w ≡ Reference t → p ≡ placeBy index v (t .0) → some (reportAt 13 (t .0) p) ≡ tableReport T
@@ -125,7 +130,13 @@ module _ (b : List ℕ) (places work : ℕ) where
         let long : length index ≡ places = ap length placed ∙ length-indexOf T places (r .enough-places) in
         record {
           bytes = bytes;
-          readable = record { header = r .header; section = r .section; enough-places = omega (arith, r .enough-places); enough-work = omega (arith, counted .counts) };
+          readable =
+              record {
+                header = r .header;
+                section = r .section;
+                enough-places = omega (arith, r .enough-places);
+                enough-work = omega (arith, counted .counts);
+              };
           counted = counted .counts;
           placed = λ t h. ap (λ (i : List ℕ). getD i (suc t) 0) placed ∙ getD-indexOf T places (r .enough-places) t (omega (arith, counted .counts));
         }
@@ -142,7 +153,8 @@ module _ (b : List ℕ) (places work : ℕ) where
           indexes = placed ∙ sym (ap (λ (o : Outcome). o .index) g);
         }
 
-    pub scan-judged : (j : Said) {r : Report} → saidAsPaper j ≡ tableReport (tableOf b) → j ≡ Says r → {cleared : List ℕ} → cleared ≡ zeros places → AnswerOf (Refused r) b places work cleared
+    pub scan-judged : (j : Said) {r : Report} → saidAsPaper j ≡ tableReport (tableOf b) → j ≡ Says r → {cleared : List ℕ} → cleared ≡ zeros places
+        → AnswerOf (Refused r) b places work cleared
     unfolding checkedAsPaper
     scan-judged j e q c =
         let g = gate-refused b places work (after-scan ∙ sym e ∙ ap saidAsPaper q) in

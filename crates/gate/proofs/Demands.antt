@@ -64,13 +64,15 @@ module _ {c : Checked} {b : List ℕ} {places work : ℕ} {index left : List ℕ
     refused-smallest late = refusal-spoken b places work (reportAsPaper r) refused-report late
 
     -- its place is where the record that it names stands: below the blob's end, and at a multiple of 4
-    pub refused-place : 6 ≤ reportAsPaper r .number → (reportAsPaper r .number ≡ 9 → ⊥) → StandsAt b (reportAsPaper r .t) (reportAsPaper r .p) × (reportAsPaper r .p < length b) × (reportAsPaper r .p % 4 ≡ 0)
+    pub refused-place : 6 ≤ reportAsPaper r .number → (reportAsPaper r .number ≡ 9 → ⊥)
+        → StandsAt b (reportAsPaper r .t) (reportAsPaper r .p) × (reportAsPaper r .p < length b) × (reportAsPaper r .p % 4 ≡ 0)
     refused-place low not-9 =
         let inside = report-inside b places work (reportAsPaper r) refused-report low not-9 in
         (report-stands b places work (reportAsPaper r) refused-report low not-9, inside .0, inside .1)
 
     -- from 10 on the bytes there are that record's
-    pub refused-bytes : Bytes b → 10 ≤ reportAsPaper r .number → let ws = wordsOf (recordAt (tableOf b) (reportAsPaper r .t)) in take (4 * length ws) (drop (reportAsPaper r .p) b) ≡ bytesOfWords (orderOf b) ws
+    pub refused-bytes : Bytes b → 10 ≤ reportAsPaper r .number → let ws = wordsOf (recordAt (tableOf b) (reportAsPaper r .t)) in
+        take (4 * length ws) (drop (reportAsPaper r .p) b) ≡ bytesOfWords (orderOf b) ws
     refused-bytes bytes late = report-bytes b places work (reportAsPaper r) refused-report bytes late
 
     -- report 14 names a type from which a chain of one of the two sorts can be followed for ever
@@ -116,7 +118,8 @@ module _ {c : Checked} {b : List ℕ} {places work : ℕ} {index left : List ℕ
       (answers ∙ ap (λ (o : Outcome). o .answer) (gate-accepted b places work (meets-accepted b places work m)))
 
 -- any two results that the contract allows are the same, slice by slice
-pub check-one : {c c′ : Checked} {b : List ℕ} {places work : ℕ} {index index′ left left′ : List ℕ} → CheckOf c b places work index left → CheckOf c′ b places work index′ left′
+pub check-one : {c c′ : Checked} {b : List ℕ} {places work : ℕ} {index index′ left left′ : List ℕ} → CheckOf c b places work index left
+    → CheckOf c′ b places work index′ left′
     → (c ≡ c′) × (index ≡ index′) × (left ≡ left′)
 check-one {c} {c′} h k =
     (checked-one c c′ (h .told .answers ∙ sym (k .told .answers)), h .told .indexes ∙ sym (k .told .indexes), h .cleared ∙ sym (k .cleared))

@@ -15,7 +15,8 @@ use Rattle.paper.proofs.basics.Choices.{or-left, or-right, same-true}
 use Rattle.paper.specs.rules.Answer.{report}
 use Rattle.paper.specs.rules.Choice.{differ, same}
 use Rattle.paper.specs.rules.Gate.{phase1}
-use Rattle.paper.specs.rules.Header.{orderOf, opening, typeOff, typeLen, strOff, strLen, stringsIn, lengthBad, openingBad, headerLengthBad, sectionsBad, stringsBad, headerReport}
+use Rattle.paper.specs.rules.Header.{orderOf, opening, typeOff, typeLen, strOff, strLen, stringsIn}
+use Rattle.paper.specs.rules.Header.{lengthBad, openingBad, headerLengthBad, sectionsBad, stringsBad, headerReport}
 use Rattle.paper.specs.rules.Word.{lowFirst, wordAt}
 
 -- numbers that are not equal differ

@@ -158,4 +158,5 @@ module _ (b : List ℕ) (off : ℕ) where
     where
       go : (t : Bool) → nameless b off ≡ t → take (length (nameAt b off)) (drop (nameStart b off) b) ≡ nameAt b off
       go true e = ap (λ (n : List ℕ). take (length n) (drop (nameStart b off) b)) (nameAt-none e) ∙ sym (nameAt-none e)
-      go false e = ap (λ (n : List ℕ). take (length n) (drop (nameStart b off) b)) (sym (named-bytes e)) ∙ untilZero-take (drop (nameStart b off) b) ∙ named-bytes e
+      go false e =
+          ap (λ (n : List ℕ). take (length n) (drop (nameStart b off) b)) (sym (named-bytes e)) ∙ untilZero-take (drop (nameStart b off) b) ∙ named-bytes e

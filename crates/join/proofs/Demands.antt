@@ -101,7 +101,8 @@ module _ {j : Joined} {a b : List ℕ} {places work : ℕ} {out index left outpu
     module _ (x : Bytes a) (y : Bytes b) where
       -- what was joined is accepted by `check`, with as many types as both have
       pub joined-checked : {c : Checked} {places′ work′ : ℕ} {index′ left′ : List ℕ} → CheckOf c (take n output) places′ work′ index′ left′
-          → count (tableOf a) + count (tableOf b) < places′ → count (tableOf a) + count (tableOf b) < work′ → c ≡ Accepted (count (tableOf a) + count (tableOf b))
+          → count (tableOf a) + count (tableOf b) < places′ → count (tableOf a) + count (tableOf b) < work′
+          → c ≡ Accepted (count (tableOf a) + count (tableOf b))
       joined-checked {c} {places′} {work′} {index′} {left′} k enough enough′ =
           paper-accepted (subst (λ (s : List ℕ). CheckOf c s places′ work′ index′ left′) joined-bytes k)
           (accepted-meets (joinedBytes a b) places′ work′ (join-accepted a b x y places work (length out) (told .0) places′ work′ enough enough′))
@@ -112,20 +113,25 @@ module _ {j : Joined} {a b : List ℕ} {places work : ℕ} {out index left outpu
       joined-first t l = ap (λ (s : List ℕ). recordAt (tableOf s) t) joined-bytes ∙ join-first a b x y places work (length out) (told .0) t l
 
       pub joined-second : (t : ℕ) → recordAt (tableOf (take n output)) (raise (count (tableOf a)) t) ≡ raised (tableOf a) (recordAt (tableOf b) t)
-      joined-second t = ap (λ (s : List ℕ). recordAt (tableOf s) (raise (count (tableOf a)) t)) joined-bytes ∙ join-second a b x y places work (length out) (told .0) t
+      joined-second t =
+          ap (λ (s : List ℕ). recordAt (tableOf s) (raise (count (tableOf a)) t)) joined-bytes ∙ join-second a b x y places work (length out) (told .0) t
 
       -- every name is what it was
       pub joined-names-first : (k : ℕ) → k < strLen a → nameAt (take n output) k ≡ nameAt a k
       joined-names-first k l = ap (λ (s : List ℕ). nameAt s k) joined-bytes ∙ join-named-first a b x y places work (length out) (told .0) k l
 
       pub joined-names-second : (k : ℕ) → k < strLen b → nameAt (take n output) (raise (strLen a - 1) k) ≡ nameAt b k
-      joined-names-second k l = ap (λ (s : List ℕ). nameAt s (raise (strLen a - 1) k)) joined-bytes ∙ join-named-second a b x y places work (length out) (told .0) k l
+      joined-names-second k l =
+          ap (λ (s : List ℕ). nameAt s (raise (strLen a - 1) k)) joined-bytes ∙ join-named-second a b x y places work (length out) (told .0) k l
 
       -- and every size: what `size` answers after a check of what was joined is what it answers after a check of the part, each with slices of its own
-      module _ {c : Checked} {places′ work′ : ℕ} {index′ left′ : List ℕ} (k : CheckOf c (take n output) places′ work′ index′ left′) (m : ℕ) (q : c ≡ Accepted m) where
-        sized : (t : ℕ) → t ≤ count (tableOf a) + count (tableOf b) → (s : Sized) → sizedAsPaper s ≡ sizeOf (take n output) index′ t → sizedAsPaper s ≡ answerOf (exactSize (tableOf (joinedBytes a b)) t)
+      module _ {c : Checked} {places′ work′ : ℕ} {index′ left′ : List ℕ} (k : CheckOf c (take n output) places′ work′ index′ left′) (m : ℕ)
+          (q : c ≡ Accepted m) where
+        sized : (t : ℕ) → t ≤ count (tableOf a) + count (tableOf b) → (s : Sized) → sizedAsPaper s ≡ sizeOf (take n output) index′ t
+            → sizedAsPaper s ≡ answerOf (exactSize (tableOf (joinedBytes a b)) t)
         sized t high s e =
-            let whole : CheckOf c (joinedBytes a b) places′ work′ index′ left′ = subst (λ (o : List ℕ). CheckOf c o places′ work′ index′ left′) joined-bytes k in
+            let whole : CheckOf c (joinedBytes a b) places′ work′ index′ left′ =
+            subst (λ (o : List ℕ). CheckOf c o places′ work′ index′ left′) joined-bytes k in
             accepted-sizes whole m q (join-bytes a b x y places work (length out) (told .0)) t
             (omega (arith, accepted-count whole m q, join-count a b x y places work (length out) (told .0))) s
             (e ∙ ap (λ (o : List ℕ). sizeOf o index′ t) joined-bytes)
@@ -139,8 +145,10 @@ module _ {j : Joined} {a b : List ℕ} {places work : ℕ} {out index left outpu
             ∙ ap answerOf (join-size-first a b x y places work (length out) (told .0) t (omega arith))
             ∙ sym (accepted-sizes part n₁ p₁ x t high s₁ e₁))
 
-        pub joined-sizes-second : {d : Checked} {places₂ work₂ : ℕ} {index₂ left₂ : List ℕ} → CheckOf d b places₂ work₂ index₂ left₂ → (n₂ : ℕ) → d ≡ Accepted n₂
-            → (t : ℕ) → t ≤ n₂ → (s s₂ : Sized) → sizedAsPaper s ≡ sizeOf (take n output) index′ (raise (count (tableOf a)) t) → sizedAsPaper s₂ ≡ sizeOf b index₂ t → s ≡ s₂
+        pub joined-sizes-second : {d : Checked} {places₂ work₂ : ℕ} {index₂ left₂ : List ℕ}
+            → CheckOf d b places₂ work₂ index₂ left₂ → (n₂ : ℕ) → d ≡ Accepted n₂
+            → (t : ℕ) → t ≤ n₂ → (s s₂ : Sized) → sizedAsPaper s ≡ sizeOf (take n output) index′ (raise (count (tableOf a)) t)
+            → sizedAsPaper s₂ ≡ sizeOf b index₂ t → s ≡ s₂
         joined-sizes-second part n₂ p₂ t high s s₂ e e₂ =
             let counted = accepted-count part n₂ p₂ in
             sized-one s s₂
@@ -181,7 +189,8 @@ pub record FullJoin (out a b : List ℕ) (j : Joined) (output : List ℕ) : Type
   pub joins : JoinOf j a b fullPlaces fullPlaces out index left output
 
 -- a second join, which runs only on what the first handed back
-then : (x : Option (List ℕ)) {y : Option (List ℕ)} {f : List ℕ → Option (List ℕ)} → ((made : List ℕ) → x ≡ some made → y ≡ f made) → andThen x (λ (made : List ℕ). y) ≡ andThen x f
+then : (x : Option (List ℕ)) {y : Option (List ℕ)} {f : List ℕ → Option (List ℕ)} → ((made : List ℕ) → x ≡ some made → y ≡ f made)
+    → andThen x (λ (made : List ℕ). y) ≡ andThen x f
 then none h = refl
 then (some made) h = h made refl
 
@@ -199,7 +208,8 @@ join-grouping a b c x y z {j₁} {j₂} {j₃} {j₄} {o₁} {o₂} {o₃} {o₄
     ∙ sym (then (handedBack j₃ out₃) (λ bc q. handed-full j₄ (f₄ bc q .joins) ∙ joinFull-any o₄ o₃ a bc (f₄ bc q .full) (f₃ .full)))
 
 -- joined with the empty table, on either side, a table that a check has accepted, with whatever slices, comes back byte for byte
-module _ {b : List ℕ} (bytes : Bytes b) {c : Checked} {places work : ℕ} {index left : List ℕ} (k : CheckOf c b places work index left) (n : ℕ) (p : c ≡ Accepted n) where
+module _ {b : List ℕ} (bytes : Bytes b) {c : Checked} {places work : ℕ} {index left : List ℕ} (k : CheckOf c b places work index left) (n : ℕ)
+    (p : c ≡ Accepted n) where
   -- slices of full size have places for every table
   accepted-full : refusal b fullPlaces fullPlaces ≡ none
   accepted-full =

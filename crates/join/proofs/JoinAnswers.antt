@@ -47,8 +47,10 @@ module _ {a b : List ℕ} {n m : ℕ} (h : BothAccepted a b n m) where
   pub few-accepted : ((n ≤ typeLimit) × (m ≤ typeLimit)) × (25 ≤ length a + length b)
   few-accepted =
       let f = accepted-meets a _ _ (h .first) .readable in
-      let s = accepted-meets b _ _ (h .second) .readable in
-      ((omega (arith, f .section .few-found, h .first-count), omega (arith, s .section .few-found, h .second-count)), omega (arith, f .header .long, s .header .long))
+      let s = accepted-meets b _ _ (h .second) .readable in (
+        (omega (arith, f .section .few-found, h .first-count), omega (arith, s .section .few-found, h .second-count)),
+        omega (arith, f .header .long, s .header .long),
+      )
 
   -- the limits are asked in the paper's order
   module _ (out : List ℕ) where
@@ -94,7 +96,8 @@ module _ {a b : List ℕ} {n m : ℕ} (h : BothAccepted a b n m) where
           unfolding limited joinedAsPaper
           limit-none {part} w =
               let j = long in
-              let joinable : Joinable a b (h .places) (h .work) (length out) = record { first = h .first; second = h .second; few = few-types; short = omega arith; fits = omega arith } in
+              let joinable : Joinable a b (h .places) (h .work) (length out) =
+              record { first = h .first; second = h .second; few = few-types; short = omega arith; fits = omega arith } in
               let said = ap (joinOutcome (joinedBytes a b) 0 0 out) (asked ∙ joinable-joinRefusal a b (h .places) (h .work) (length out) joinable) in
               record {
                 answers = ap value (sym long) ∙ ap (λ (o : JoinOutcome). o .answer) (sym said);
@@ -105,7 +108,8 @@ module _ {a b : List ℕ} {n m : ℕ} (h : BothAccepted a b n m) where
 
 module _ (a b : List ℕ) (places work : ℕ) where
   -- 16: the first is refused
-  pub first-refused : {r : Report} {index works : List ℕ} (out : List ℕ) → CheckOf (Refused r) a places work index works → JoinOf (FirstRefused r) a b places work out index works out
+  pub first-refused : {r : Report} {index works : List ℕ} (out : List ℕ) → CheckOf (Refused r) a places work index works
+      → JoinOf (FirstRefused r) a b places work out index works out
   unfolding joinedAsPaper
   first-refused {r} {index} {works} out c =
       let said = checked-refused a places work r (c .told .answers) in
@@ -123,7 +127,8 @@ module _ (a b : List ℕ) (places work : ℕ) where
     first-none = checked-accepted a places work (c .told .answers) .0
 
     -- 17: the second is refused
-    pub second-refused : {r : Report} {index₂ works₂ : List ℕ} (out : List ℕ) → CheckOf (Refused r) b places work index₂ works₂ → JoinOf (SecondRefused r) a b places work out index₂ works₂ out
+    pub second-refused : {r : Report} {index₂ works₂ : List ℕ} (out : List ℕ) → CheckOf (Refused r) b places work index₂ works₂
+        → JoinOf (SecondRefused r) a b places work out index₂ works₂ out
     unfolding joinedAsPaper
     second-refused {r} out d =
         let said = checked-refused b places work r (d .told .answers) in
@@ -154,16 +159,30 @@ module _ (a b : List ℕ) (places work : ℕ) where
           }
 
       -- then the limits decide, and both slices end all 0
-      pub limits-decide : {j : Joined} {out output index₃ : List ℕ} → index₃ ≡ zeros places → LimitedOf j a b out output → JoinOf j a b places work out index₃ works₂ output
+      pub limits-decide : {j : Joined} {out output index₃ : List ℕ} → index₃ ≡ zeros places → LimitedOf j a b out output
+          → JoinOf j a b places work out index₃ works₂ output
       unfolding limited join
       limits-decide {j} {out} {output} cleared l =
           let said = joinRefusal-limits a b places work (length out) first-none second-none in
           let left = gate-accepted b places work second-none in
           record {
-            answers = l .answers ∙ outcomes (limitReport a b (length out)) .0 ∙ ap (λ (o : Option Answer). joinOutcome (joinedBytes a b) places work out o .answer) (sym said);
-            indexes = cleared ∙ outcomes (limitReport a b (length out)) .1 ∙ ap (λ (o : Option Answer). joinOutcome (joinedBytes a b) places work out o .index) (sym said);
-            works = d .cleared ∙ ap (λ (o : Outcome). o .work) left ∙ outcomes (limitReport a b (length out)) .2 ∙ ap (λ (o : Option Answer). joinOutcome (joinedBytes a b) places work out o .work) (sym said);
-            outputs = l .outputs ∙ outcomes (limitReport a b (length out)) .3 ∙ ap (λ (o : Option Answer). joinOutcome (joinedBytes a b) places work out o .output) (sym said);
+            answers =
+                l .answers
+                ∙ outcomes (limitReport a b (length out)) .0
+                ∙ ap (λ (o : Option Answer). joinOutcome (joinedBytes a b) places work out o .answer) (sym said);
+            indexes =
+                cleared
+                ∙ outcomes (limitReport a b (length out)) .1
+                ∙ ap (λ (o : Option Answer). joinOutcome (joinedBytes a b) places work out o .index) (sym said);
+            works =
+                d .cleared
+                ∙ ap (λ (o : Outcome). o .work) left
+                ∙ outcomes (limitReport a b (length out)) .2
+                ∙ ap (λ (o : Option Answer). joinOutcome (joinedBytes a b) places work out o .work) (sym said);
+            outputs =
+                l .outputs
+                ∙ outcomes (limitReport a b (length out)) .3
+                ∙ ap (λ (o : Option Answer). joinOutcome (joinedBytes a b) places work out o .output) (sym said);
           }
         where
           -- the places lent count for nothing but the two slices

@@ -104,7 +104,8 @@ module _ {a b : List ℕ} {n m room : ℕ} (w : WriteAsk a b n m room) where
       w .fits ∙ length-bytesOf (orderOf a) (joinTables (tableOf a) (tableOf b)) ∙ omega arith
 
   -- the four lengths as they are read, in an output of room bytes
-  pub write-lengths : {first strings second seconds : ℕ} → first ≡ wordAt lowFirst a 12 → strings ≡ wordAt lowFirst a 20 → second ≡ wordAt lowFirst b 12 → seconds ≡ wordAt lowFirst b 20
+  pub write-lengths : {first strings second seconds : ℕ} → first ≡ wordAt lowFirst a 12 → strings ≡ wordAt lowFirst a 20 → second ≡ wordAt lowFirst b 12
+      → seconds ≡ wordAt lowFirst b 20
       → Lengths first strings second seconds (length a) (length b) room
   write-lengths e f g h =
       let wa = widths-first in
@@ -115,7 +116,8 @@ module _ {a b : List ℕ} {n m room : ℕ} (w : WriteAsk a b n m room) where
       record { first-sum = omega arith; second-sum = omega arith; first-some = omega arith; second-some = omega arith; sum = omega arith; short = omega arith }
 
   -- the second's records, raised into the output from a place on
-  records-run : (by : Shift) (out : List ℕ) (q : ℕ) → q + wordAt lowFirst b 12 ≤ length out → take q out ++ raisedRun by m (drop 24 b) (drop q out) ≡ put out q (recordsBytes by (tableOf b .records))
+  records-run : (by : Shift) (out : List ℕ) (q : ℕ) → q + wordAt lowFirst b 12 ≤ length out
+      → take q out ++ raisedRun by m (drop 24 b) (drop q out) ≡ put out q (recordsBytes by (tableOf b .records))
   unfolding orderOf typeLen
   records-run by out q room =
       let T : Table = tableOf b in
@@ -146,7 +148,8 @@ module _ {a b : List ℕ} {n m room : ℕ} (w : WriteAsk a b n m room) where
   header-part : (types strings : ℕ) → headerOf lowFirst types strings ≡ take 12 a ++ bytesOfWords lowFirst (types ∷ types ∷ strings ∷ [])
   unfolding orderOf
   header-part types strings =
-      ap (λ (s : List ℕ). s ++ bytesOfWords lowFirst (types ∷ types ∷ strings ∷ [])) (sym (ap (take 12) (header-first a (w .both .first-bytes) (readable-first .header))))
+      ap (λ (s : List ℕ). s ++ bytesOfWords lowFirst (types ∷ types ∷ strings ∷ []))
+      (sym (ap (take 12) (header-first a (w .both .first-bytes) (readable-first .header))))
 
   records-part : bytesOfWords lowFirst (flat (tableOf a .records)) ≡ take (wordAt lowFirst a 12) (drop 24 a)
   unfolding orderOf typeLen
@@ -172,7 +175,8 @@ module _ {a b : List ℕ} {n m room : ℕ} (w : WriteAsk a b n m room) where
       ap (drop 1) (strings-tableOf b) ∙ drop-drop 1 (24 + wordAt lowFirst b 12) b ∙ ap (λ (p : ℕ). drop p b) far
 
   module _ (by : Shift) (shift-types : by .types .0 ≡ n) (shift-names : by .names .0 ≡ wordAt lowFirst a 20 - 1)
-      {types strings : ℕ} (both-types : types ≡ wordAt lowFirst a 12 + wordAt lowFirst b 12) (both-strings : strings ≡ wordAt lowFirst a 20 + (wordAt lowFirst b 20 - 1)) where
+      {types strings : ℕ} (both-types : types ≡ wordAt lowFirst a 12 + wordAt lowFirst b 12)
+      (both-strings : strings ≡ wordAt lowFirst a 20 + (wordAt lowFirst b 20 - 1)) where
     -- the header, the first's records, the second's raised, the first's strings, the second's without their first byte
     abbrev header : List ℕ
     header = take 12 a ++ bytesOfWords lowFirst (types ∷ types ∷ strings ∷ [])
@@ -189,7 +193,8 @@ module _ {a b : List ℕ} {n m room : ℕ} (w : WriteAsk a b n m room) where
         let A = tableOf a in
         let B = tableOf b in
         bytesOf-parts lowFirst (joinTables A B)
-        ∙ ap₂ (λ (t s : ℕ). headerOf lowFirst t s ++ (bytesOfWords lowFirst (flat (joinTables A B .records)) ++ joinTables A B .strings)) (joined-types ∙ sym both-types) (joined-strings ∙ sym both-strings)
+        ∙ ap₂ (λ (t s : ℕ). headerOf lowFirst t s ++ (bytesOfWords lowFirst (flat (joinTables A B .records)) ++ joinTables A B .strings))
+        (joined-types ∙ sym both-types) (joined-strings ∙ sym both-strings)
         ∙ ap₂ (λ (h r : List ℕ). h ++ (r ++ joinTables A B .strings)) (header-part types strings)
         (ap (bytesOfWords lowFirst) (flat-append (A .records) (map (raised A) (B .records)))
         ∙ bytesOfWords-append lowFirst (flat (A .records)) (flat (map (raised A) (B .records)))
@@ -270,5 +275,9 @@ module _ {a b : List ℕ} {n m room : ℕ} (w : WriteAsk a b n m room) where
         write-joined out same p₁
         (p₂ ∙ sym (laid-fits out₁ 24 _ (omega arith)) ∙ ap (λ (k : ℕ). put out₁ 24 (take k (drop 24 a))) cut) refl
         q₃ there
-        (p₄ ∙ sym (laid-fits out₃ (24 + types) _ (omega arith)) ∙ ap (put out₃ (24 + types)) (part-rest a (24 + first) ∙ ap (λ (k : ℕ). drop (24 + k) a) e)) refl
-        (p₅ ∙ sym (laid-fits out₄ (24 + types + strings₁) _ (omega arith)) ∙ ap (put out₄ (24 + types + strings₁)) (part-rest b (25 + second) ∙ ap (λ (k : ℕ). drop (25 + k) b) f)) (omega arith)
+        (p₄ ∙ sym (laid-fits out₃ (24 + types) _ (omega arith)) ∙ ap (put out₃ (24 + types)) (part-rest a (24 + first) ∙ ap (λ (k : ℕ). drop (24 + k) a) e))
+        refl
+        (p₅
+        ∙ sym (laid-fits out₄ (24 + types + strings₁) _ (omega arith))
+        ∙ ap (put out₄ (24 + types + strings₁)) (part-rest b (25 + second) ∙ ap (λ (k : ℕ). drop (25 + k) b) f))
+        (omega arith)

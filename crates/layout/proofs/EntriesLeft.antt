@@ -50,7 +50,8 @@ module _ (s : List ℕ) where
   entries-few p (suc (suc (suc n))) h = absurd (omega arith)
 
   entries-first : (p n : ℕ)
-      → entriesFrom p (suc (suc (suc n))) ≡ record { variable = wordAt lowFirst s p; offset = wordAt lowFirst s (p + 4); size = wordAt lowFirst s (p + 8) } ∷ entriesFrom (p + 12) n
+      → entriesFrom p (suc (suc (suc n)))
+      ≡ record { variable = wordAt lowFirst s p; offset = wordAt lowFirst s (p + 4); size = wordAt lowFirst s (p + 8) } ∷ entriesFrom (p + 12) n
   entries-first p n =
       let third : p + 4 + 4 ≡ p + 8 = omega arith in
       let behind : p + 4 + 4 + 4 ≡ p + 12 = omega arith in
@@ -138,5 +139,6 @@ module _ {T : Table} {r : Record} {s : List ℕ} {p left free : ℕ} (now : Sett
             near = omega (arith, now .near);
             rest =
                 second
-                ∙ ap (λ (t : Bool). others && t) (place-taken (eqb (r .third) 0) (leb free from && leb (from + size) (r .third)) _ (placed-here ∙ not-false y e));
+                ∙ ap (λ (t : Bool). others && t)
+                (place-taken (eqb (r .third) 0) (leb free from && leb (from + size) (r .third)) _ (placed-here ∙ not-false y e));
           }

@@ -90,7 +90,8 @@ module _ (T : Table) (r : Record) where
   laid-none before = offsets-none (eqb (kindOf r) UNION) before
 
   laid-first : (before : ℕ) (m : Member) (ms : List Member) → let o = bitOffset (flagOf r) m in
-      laid before (m ∷ ms) ≡ (memberOk T r m && every (memberOk T r) ms) && (follows before o && offsetsFrom (eqb (kindOf r) UNION) o (map (bitOffset (flagOf r)) ms))
+      laid before (m ∷ ms)
+      ≡ (memberOk T r m && every (memberOk T r) ms) && (follows before o && offsetsFrom (eqb (kindOf r) UNION) o (map (bitOffset (flagOf r)) ms))
   laid-first before m ms =
       ap (λ (t : Bool). (memberOk T r m && every (memberOk T r) ms) && t)
       (offsets-first (eqb (kindOf r) UNION) before (bitOffset (flagOf r) m) (map (bitOffset (flagOf r)) ms))

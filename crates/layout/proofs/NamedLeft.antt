@@ -26,7 +26,8 @@ module _ (s : List ℕ) where
   parameters-few p (suc zero) h = refl
   parameters-few p (suc (suc n)) h = absurd (omega arith)
 
-  parameters-first : (p n : ℕ) → parametersFrom p (suc (suc n)) ≡ record { name = wordAt lowFirst s p; type = wordAt lowFirst s (p + 4) } ∷ parametersFrom (p + 8) n
+  parameters-first : (p n : ℕ)
+      → parametersFrom p (suc (suc n)) ≡ record { name = wordAt lowFirst s p; type = wordAt lowFirst s (p + 4) } ∷ parametersFrom (p + 8) n
   parameters-first p n =
       let behind : p + 4 + 4 ≡ p + 8 = omega arith in
       λ i. record { name = wordAt lowFirst s p; type = wordAt lowFirst s (p + 4) } ∷ parametersFrom (behind i) n

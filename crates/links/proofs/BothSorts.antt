@@ -89,7 +89,9 @@ module _ (T : Table) where
   either-next left k x y e f =
       ap₂ (λ (a b : Bool). orElse (namingAt k (placeAt T k) (firstDue (14 when (a || b) ∷ []))) (firstEither left (suc k))) e f ∙ go (x || y)
     where
-      go : (b : Bool) → orElse (namingAt k (placeAt T k) (firstDue (14 when b ∷ []))) (firstEither left (suc k)) ≡ cond b (some (reportAt 14 k (placeAt T k))) (firstEither left (suc k))
+      go : (b : Bool)
+          → orElse (namingAt k (placeAt T k) (firstDue (14 when b ∷ []))) (firstEither left (suc k))
+          ≡ cond b (some (reportAt 14 k (placeAt T k))) (firstEither left (suc k))
       go true = refl
       go false = refl
 
@@ -109,7 +111,8 @@ module _ (T : Table) where
           ∙ sym (ap₂ smallest (firstRing-next heldBy T left k e) (firstRing-next pointedBy T left k f))
         where
           by : (x y : Bool) → firstEither left (suc k) ≡ smallest (firstRing heldBy T left (suc k)) (firstRing pointedBy T left (suc k))
-              → cond (x || y) (some a) (firstEither left (suc k)) ≡ smallest (cond x (some a) (firstRing heldBy T left (suc k))) (cond y (some a) (firstRing pointedBy T left (suc k)))
+              → cond (x || y) (some a) (firstEither left (suc k))
+              ≡ smallest (cond x (some a) (firstRing heldBy T left (suc k))) (cond y (some a) (firstRing pointedBy T left (suc k)))
           by true true later = rw (le-ltb k k (omega arith)) refl
           by true false later = sym (smallest-first a (firstRing pointedBy T left (suc k)) (firstRing-from pointedBy left (suc k)))
           by false true later = sym (smallest-second a (firstRing heldBy T left (suc k)) (firstRing-from heldBy left (suc k)))
@@ -125,6 +128,7 @@ module _ (T : Table) where
       go false = refl
 
   -- the first of each sort give the first of both
-  pub rings-either : (a b c : Ring) → ringAsPaper T a ≡ overTypes (ringsBy heldBy) T → ringAsPaper T b ≡ overTypes (ringsBy pointedBy) T → c ≡ smallerOf a b → ringAsPaper T c ≡ overTypes phase5 T
+  pub rings-either : (a b c : Ring) → ringAsPaper T a ≡ overTypes (ringsBy heldBy) T → ringAsPaper T b ≡ overTypes (ringsBy pointedBy) T → c ≡ smallerOf a b
+      → ringAsPaper T c ≡ overTypes phase5 T
   unfolding overTypes
   rings-either a b c p q e = ap (ringAsPaper T) e ∙ smallerOf-smallest a b ∙ ap₂ smallest p q ∙ sym (firstEither-smallest (count T) 1)

@@ -32,7 +32,8 @@ pub record Following (T : Table) (n size root : ℕ) (work : List ℕ) (t j : �
 abbrev pub toDo : ℕ → List ℕ → ℕ → ℕ
 toDo n work j = weights work n * 262145 + (262144 - j)
 
-pub following-start : {T : Table} {work : List ℕ} {n root : ℕ} → AtRoot T n root work → getD work root 0 ≡ 0 → Following T n (length (set work root asRoot)) root (set work root asRoot) root 0
+pub following-start : {T : Table} {work : List ℕ} {n root : ℕ} → AtRoot T n root work → getD work root 0 ≡ 0
+    → Following T n (length (set work root asRoot)) root (set work root asRoot) root 0
 following-start {T} {work = work} {n} {root} r new =
     record {
       ready = followable-marks (r .ready) (length-set work root asRoot);

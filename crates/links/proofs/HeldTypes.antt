@@ -63,7 +63,8 @@ pub silent-refs : (T : Table) → overTypes phase4 T ≡ none → (t : ℕ) → 
 unfolding phase4 refBad
 silent-refs T e t low high = not-false (refsOk T (recordAt T t)) (overTypes-silent T phase4 e t low high .0)
 
-pub followable : (T : Table) {work : List ℕ} {n : ℕ} → n ≡ count T → n ≤ 4096 → ((t : ℕ) → length (wordsOf (recordAt T t)) ≤ 196611) → n < length work → overTypes phase4 T ≡ none
+pub followable : (T : Table) {work : List ℕ} {n : ℕ} → n ≡ count T → n ≤ 4096 → ((t : ℕ) → length (wordsOf (recordAt T t)) ≤ 196611) → n < length work
+    → overTypes phase4 T ≡ none
     → Followable T n work
 followable T counted few tails room e =
     record { counted = counted; few = few; tails = tails; refs = λ t low high. silent-refs T e t low (omega arith); room = room }

@@ -170,7 +170,9 @@ module _ (s : List ℕ) where
       let next = sym (add-one i) in
       let role : getD (rolesOf rec) i number ≡ getD (rolesBy infoOf) i number = ap (λ (ρs : List Role). getD ρs i number) roles-by in
       let word : getD (wordsOf rec) i 0 ≡ wordAt lowFirst s (4 * i) =
-      ap (λ (ws : List ℕ). getD ws i 0) words-from ∙ getD-wordsFrom s 0 (suc (suc (suc (tailLength infoOf)))) i (omega arith) ∙ ap (wordAt lowFirst s) zero-more in
+      ap (λ (ws : List ℕ). getD ws i 0) words-from
+      ∙ getD-wordsFrom s 0 (suc (suc (suc (tailLength infoOf)))) i (omega arith)
+      ∙ ap (wordAt lowFirst s) zero-more in
       ap₂ heldIn (drop-cons (rolesOf rec) i number (omega (arith, length-roles))) (drop-cons (wordsOf rec) i 0 (omega (arith, length-recordIn lowFirst s)))
       ∙ (λ x. heldWord (role x) (word x) (heldIn (drop (next x) (rolesOf rec)) (drop (next x) (wordsOf rec))))
 
@@ -187,7 +189,8 @@ module _ (s : List ℕ) where
         heldFrom-step i within-here
         ∙ ap (λ (w : ℕ). heldWord (getD (rolesBy w) i number) (wordAt lowFirst s (4 * i)) (heldFrom rec (i + 1))) (sym (at .read))
 
-    pub held-not : {code : ℕ} {z : Bool} → code ≡ roleAt (rolesBy info) i → z ≡ isHeldCode code → not z ≡ true → heldFrom rec i ≡ stepTo 0 (heldFrom rec (i + 1))
+    pub held-not : {code : ℕ} {z : Bool} → code ≡ roleAt (rolesBy info) i → z ≡ isHeldCode code → not z ≡ true
+        → heldFrom rec i ≡ stepTo 0 (heldFrom rec (i + 1))
     held-not {code} {z} e asked n =
         let ρ = getD (rolesBy info) i number in
         let high = roleCode-high ρ in

@@ -116,7 +116,8 @@ module _ {T : Table} {work : List ℕ} {n size root t : ℕ} (g : OnTrail T n si
 -- ── the roots passed ──
 
 -- a slice that is cleared can be searched again
-pub unsearched-cleared : {T : Table} {work cleared : List ℕ} {n : ℕ} → Unsearched T n work → (size : ℕ) → size ≡ length work → cleared ≡ zeros size → Unsearched T n cleared
+pub unsearched-cleared : {T : Table} {work cleared : List ℕ} {n : ℕ} → Unsearched T n work → (size : ℕ) → size ≡ length work
+    → cleared ≡ zeros size → Unsearched T n cleared
 unsearched-cleared s size same e =
     let long = ap length e ∙ length-replicate {A = ℕ} size 0 in
     record { ready = followable-sized (s .ready) (long ∙ same); unmarked = e ∙ ap zeros (sym long) }

@@ -47,11 +47,14 @@ module _ (step : Table → ℕ → List ℕ) (T : Table) where
   abbrev pub firstRing : ℕ → ℕ → Option Answer
   firstRing left t = firstOf (placeAt T) (ringsBy step T) left t
 
-  pub firstRing-next : (left t : ℕ) {z : Bool} → walks (step T) (count T) t ≡ z → firstRing (suc left) t ≡ cond z (some (reportAt 14 t (placeAt T t))) (firstRing left (suc t))
+  pub firstRing-next : (left t : ℕ) {z : Bool} → walks (step T) (count T) t ≡ z
+      → firstRing (suc left) t ≡ cond z (some (reportAt 14 t (placeAt T t))) (firstRing left (suc t))
   firstRing-next left t {z} e =
       ap (λ (b : Bool). orElse (namingAt t (placeAt T t) (firstDue (14 when b ∷ []))) (firstRing left (suc t))) e ∙ go z
     where
-      go : (b : Bool) → orElse (namingAt t (placeAt T t) (firstDue (14 when b ∷ []))) (firstRing left (suc t)) ≡ cond b (some (reportAt 14 t (placeAt T t))) (firstRing left (suc t))
+      go : (b : Bool)
+          → orElse (namingAt t (placeAt T t) (firstDue (14 when b ∷ []))) (firstRing left (suc t))
+          ≡ cond b (some (reportAt 14 t (placeAt T t))) (firstRing left (suc t))
       go true = refl
       go false = refl
 
@@ -76,7 +79,9 @@ module _ (step : Table → ℕ → List ℕ) (T : Table) where
       here : overTypes (ringsBy step) T ≡ cond z (some (reportAt 14 (t + 1) (placeAt T (t + 1)))) (firstRing (n - (t + 1)) (suc (t + 1)))
       here =
           let one : n - t ≡ suc (n - (t + 1)) = omega arith in
-          l .rest ∙ ap (λ (k : ℕ). firstRing k (t + 1)) one ∙ firstRing-next (n - (t + 1)) (t + 1) (ap (λ (k : ℕ). walks (step T) k (t + 1)) (sym (l .counted)) ∙ e)
+          l .rest
+          ∙ ap (λ (k : ℕ). firstRing k (t + 1)) one
+          ∙ firstRing-next (n - (t + 1)) (t + 1) (ap (λ (k : ℕ). walks (step T) k (t + 1)) (sym (l .counted)) ∙ e)
 
       pub left-ring : z ≡ true → some (reportAt 14 (t + 1) (placeAt T (t + 1))) ≡ overTypes (ringsBy step) T
       left-ring is = sym (here ∙ ap (λ (b : Bool). cond b (some (reportAt 14 (t + 1) (placeAt T (t + 1)))) (firstRing (n - (t + 1)) (suc (t + 1)))) is)

@@ -71,7 +71,8 @@ module _ (held : ℕ → List ℕ) (rest : ℕ → ℕ → List ℕ) (n : ℕ) w
         pub going-ring : (getD work u 0 ≡ 0 → ⊥) → (getD work u 0 ≡ done → ⊥) → (m : ℕ) → walks held m root ≡ true
         going-ring seen unfinished m =
             let i = inside t u leads in
-            let back : List·Memᴰ u (t ∷ g .parents) = ⊎-elim (λ z. absurd (seen z)) (λ s. ⊎-elim (λ d. absurd (unfinished d)) (λ m. m) s) (g .caught u (i .0) (i .1)) in
+            let back : List·Memᴰ u (t ∷ g .parents) =
+            ⊎-elim (λ z. absurd (seen z)) (λ s. ⊎-elim (λ d. absurd (unfinished d)) (λ m. m) s) (g .caught u (i .0) (i .1)) in
             ring-walks held (t ∷ g .parents)
             (λ x h. ⊎-elim (λ (e : x ≡ t). (u, back, subst (λ (s : ℕ). List·Memᴰ u (held s)) (sym e) leads)) (λ y. y)
             (way-onward held rest n work root t (g .parents) (g .way) x h))

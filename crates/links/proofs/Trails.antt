@@ -47,7 +47,8 @@ module _ (step : ℕ → List ℕ) (n : ℕ) where
       pub trailing-ring : getD work t 0 ≡ root → walks step n root ≡ true
       trailing-ring own =
           let back : List·Memᴰ t (g .line) = ⊎-elim (λ (less : getD work t 0 < root). absurd (omega arith)) (λ m. m) (g .caught t (g .type .0) (g .type .1)) in
-          let on : (x : ℕ) → List·Memᴰ x (t ∷ g .line) → List·Memᴰ x (g .line) = λ x m. ⊎-elim (λ (here : x ≡ t). subst (λ (y : ℕ). List·Memᴰ y (g .line)) (sym here) back) (λ m. m) (List·Memᴰ·cases-cons m) in
+          let on : (x : ℕ) → List·Memᴰ x (t ∷ g .line) → List·Memᴰ x (g .line) =
+          λ x m. ⊎-elim (λ (here : x ≡ t). subst (λ (y : ℕ). List·Memᴰ y (g .line)) (sym here) back) (λ m. m) (List·Memᴰ·cases-cons m) in
           ring-walks step (g .line) (λ x m. let y = g .onward x m in (y .0, on (y .0) (y .1), y .2)) n root (on root (g .rooted))
 
       -- it comes to one that an earlier root has seen: all on it end

@@ -17,7 +17,8 @@ use Rattle.links.specs.Search.{done, asRoot, manyWords, markOf}
 -- ── a place set, and the others ──
 
 -- a place is the one that was set, or is as it was
-pub getD-set : (work : List ℕ) (u v x : ℕ) → u < length work → ((x ≡ u) × (getD (set work u v) x 0 ≡ v)) ⊎ ((x ≡ u → ⊥) × (getD (set work u v) x 0 ≡ getD work x 0))
+pub getD-set : (work : List ℕ) (u v x : ℕ) → u < length work
+    → ((x ≡ u) × (getD (set work u v) x 0 ≡ v)) ⊎ ((x ≡ u → ⊥) × (getD (set work u v) x 0 ≡ getD work x 0))
 getD-set work u v x h = go (eqb x u) refl
   where
     go : (b : Bool) → eqb x u ≡ b → ((x ≡ u) × (getD (set work u v) x 0 ≡ v)) ⊎ ((x ≡ u → ⊥) × (getD (set work u v) x 0 ≡ getD work x 0))

@@ -40,10 +40,12 @@ module _ (work : List ℕ) (u v : ℕ) where
   weights-set (suc n) low high room = go (eqb (suc n) u) refl (λ (h : u ≤ n). weights-set n low h room)
     where
       go : (b : Bool) → eqb (suc n) u ≡ b → (u ≤ n → weights (set work u v) n + weight (getD work u 0) ≡ weights work n + weight v)
-          → weight (getD (set work u v) (suc n) 0) + weights (set work u v) n + weight (getD work u 0) ≡ weight (getD work (suc n) 0) + weights work n + weight v
+          → weight (getD (set work u v) (suc n) 0) + weights (set work u v) n + weight (getD work u 0)
+          ≡ weight (getD work (suc n) 0) + weights work n + weight v
       go true e deeper =
           let same = eqb-true (suc n) u e in
-          let here : weight (getD (set work u v) (suc n) 0) ≡ weight v = ap (λ (x : ℕ). weight (getD (set work u v) x 0)) same ∙ ap weight (getD-set-same work u v 0 room) in
+          let here : weight (getD (set work u v) (suc n) 0) ≡ weight v =
+          ap (λ (x : ℕ). weight (getD (set work u v) x 0)) same ∙ ap weight (getD-set-same work u v 0 room) in
           let old : weight (getD work (suc n) 0) ≡ weight (getD work u 0) = ap (λ (x : ℕ). weight (getD work x 0)) same in
           let below = weights-outside n (omega arith) in
           omega arith
@@ -62,7 +64,8 @@ module _ (work : List ℕ) (u v : ℕ) where
       omega arith
 
 -- a type is left
-pub weights-left : (work : List ℕ) (u n : ℕ) → 1 ≤ u → u ≤ n → u < length work → 1 ≤ getD work u 0 → getD work u 0 < done → weights (set work u done) n < weights work n
+pub weights-left : (work : List ℕ) (u n : ℕ) → 1 ≤ u → u ≤ n → u < length work → 1 ≤ getD work u 0 → getD work u 0 < done
+    → weights (set work u done) n < weights work n
 weights-left work u n low high room l h =
     let e = weights-set work u done n low high room in
     let a = weight-open (getD work u 0) l h in

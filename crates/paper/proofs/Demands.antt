@@ -80,7 +80,8 @@ module _ (a b : List ℕ) (bytes-a : Bytes a) (bytes-b : Bytes b) (places work r
   unfolding joinedBytes A B
   fits-J =
       let n = count-join A B in
-      fits-join A B good-A good-B (accepted-fits a places work first-accepted bytes-a) (accepted-fits b places work second-accepted bytes-b) (omega (arith, joinable .few)) short
+      fits-join A B good-A good-B (accepted-fits a places work first-accepted bytes-a) (accepted-fits b places work second-accepted bytes-b)
+      (omega (arith, joinable .few)) short
 
   -- the joined blob is bytes
   pub join-bytes : Bytes (joinedBytes a b)
@@ -120,7 +121,9 @@ module _ (a b : List ℕ) (bytes-a : Bytes a) (bytes-b : Bytes b) (places work r
   pub join-name-second : (n : ℕ) → n < length (tableOf b .strings)
       → nameIn (tableOf (joinedBytes a b) .strings) (raise (length (tableOf a .strings) - 1) n) ≡ nameIn (tableOf b .strings) n
   unfolding A B
-  join-name-second n h = ap (λ (T : Table). nameIn (T .strings) (raise (length (A .strings) - 1) n)) join-table ∙ second-renaming A B (good-A .closed) (good-B .closed) .same-name n h
+  join-name-second n h =
+      ap (λ (T : Table). nameIn (T .strings) (raise (length (A .strings) - 1) n)) join-table
+      ∙ second-renaming A B (good-A .closed) (good-B .closed) .same-name n h
 
   -- every exact size, and its lack, is what it was
   pub join-size-first : (t : ℕ) → t ≤ count (tableOf a) → exactSize (tableOf (joinedBytes a b)) t ≡ exactSize (tableOf a) t
@@ -130,4 +133,5 @@ module _ (a b : List ℕ) (bytes-a : Bytes a) (bytes-b : Bytes b) (places work r
   pub join-size-second : (t : ℕ) → t ≤ count (tableOf b)
       → exactSize (tableOf (joinedBytes a b)) (raise (count (tableOf a)) t) ≡ exactSize (tableOf b) t
   unfolding A B
-  join-size-second t h = ap (λ (T : Table). exactSize T (raise (count A) t)) join-table ∙ size-rename (second-renaming A B (good-A .closed) (good-B .closed)) good-B t h
+  join-size-second t h =
+      ap (λ (T : Table). exactSize T (raise (count A) t)) join-table ∙ size-rename (second-renaming A B (good-A .closed) (good-B .closed)) good-B t h

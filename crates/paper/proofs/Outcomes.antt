@@ -30,7 +30,8 @@ module _ (b : List ℕ) (places work : ℕ) where
   gate-refused e = ap (outcome (tableOf b) places work) e
 
   -- an accepted one gets its count, the index its places, and the work slice ends all 0
-  pub gate-accepted : refusal b places work ≡ none → gate b places work ≡ record { answer = accepted (count (tableOf b)); index = indexOf (tableOf b) places; work = zeros work }
+  pub gate-accepted : refusal b places work ≡ none
+      → gate b places work ≡ record { answer = accepted (count (tableOf b)); index = indexOf (tableOf b) places; work = zeros work }
   unfolding gate
   gate-accepted e = ap (outcome (tableOf b) places work) e
 
@@ -38,13 +39,20 @@ module _ (b : List ℕ) (places work : ℕ) where
 
 module _ (a b : List ℕ) (places work : ℕ) (out : List ℕ) where
   -- a refusal changes no output byte
-  pub join-refused : {x : Answer} → joinRefusal a b places work (length out) ≡ some x → join a b places work out ≡ record { answer = x; output = out; index = zeros places; work = zeros work }
+  pub join-refused : {x : Answer} → joinRefusal a b places work (length out) ≡ some x
+      → join a b places work out ≡ record { answer = x; output = out; index = zeros places; work = zeros work }
   unfolding join
   join-refused e = ap (joinOutcome (joinedBytes a b) places work out) e
 
   -- success answers the joined length, and changes no output byte past it
   pub join-made : joinRefusal a b places work (length out) ≡ none
-      → join a b places work out ≡ record { answer = value (length (joinedBytes a b)); output = joinedBytes a b ++ drop (length (joinedBytes a b)) out; index = zeros places; work = zeros work }
+      → join a b places work out
+      ≡ record {
+        answer = value (length (joinedBytes a b));
+        output = joinedBytes a b ++ drop (length (joinedBytes a b)) out;
+        index = zeros places;
+        work = zeros work;
+      }
   unfolding join
   join-made e = ap (joinOutcome (joinedBytes a b) places work out) e
 

@@ -10,7 +10,8 @@ use borrow.Author.Tests.{lt-ltb}
 use lib.ListN.{length}
 use Rattle.paper.proofs.gates.Acceptance.{accepted-header, accepted-closed}
 use Rattle.paper.proofs.bytes.Blobs.{strings-tableOf, strings-length}
-use Rattle.paper.proofs.Demands.{first-accepted, second-accepted, join-bytes, join-table, join-count, join-accepted, join-name-first, join-name-second, join-size-first, join-size-second}
+use Rattle.paper.proofs.Demands.{first-accepted, second-accepted, join-bytes, join-table, join-count, join-accepted}
+use Rattle.paper.proofs.Demands.{join-name-first, join-name-second, join-size-first, join-size-second}
 use Rattle.paper.proofs.bytes.Headers.{headerReport-facts}
 use Rattle.paper.proofs.joins.Joining.{first-renaming, second-renaming}
 use Rattle.paper.proofs.Outcomes.{whole-size}
@@ -104,7 +105,8 @@ module _ (a b : List ℕ) (bytes-a : Bytes a) (bytes-b : Bytes b) (places work r
     asked-J : (t : ℕ) → t ≤ count (tableOf a) + count (tableOf b) → sizeOf J (gate J places′ work′ .index) t ≡ answerOf (exactSize (tableOf J) t)
     unfolding J
     asked-J t h =
-        whole-size J (join-bytes a b bytes-a bytes-b places work room made) places′ work′ (join-accepted a b bytes-a bytes-b places work room made places′ work′ p w) t
+        whole-size J (join-bytes a b bytes-a bytes-b places work room made) places′ work′
+        (join-accepted a b bytes-a bytes-b places work room made places′ work′ p w) t
         (let n = join-count a b bytes-a bytes-b places work room made in omega arith)
 
     pub join-sized-first : (t : ℕ) → t ≤ count (tableOf a)

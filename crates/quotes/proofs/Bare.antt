@@ -78,7 +78,8 @@ untilZero-whole : (s : List ℕ) → length (untilZero s) ≡ length s → until
 untilZero-whole [] e = refl
 untilZero-whole (c ∷ s) e = go (eqb c 0) e (untilZero-whole s)
   where
-    go : (t : Bool) → length (cond t [] (c ∷ untilZero s)) ≡ suc (length s) → (length (untilZero s) ≡ length s → untilZero s ≡ s) → cond t [] (c ∷ untilZero s) ≡ c ∷ s
+    go : (t : Bool) → length (cond t [] (c ∷ untilZero s)) ≡ suc (length s) → (length (untilZero s) ≡ length s → untilZero s ≡ s)
+        → cond t [] (c ∷ untilZero s) ≡ c ∷ s
     go true h k = absurd (omega arith)
     go false h k = ap (λ (r : List ℕ). c ∷ r) (k (omega arith))
 

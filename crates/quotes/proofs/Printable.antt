@@ -62,7 +62,8 @@ isPrintable-within b h = let w = within _ _ b h in (omega arith, omega arith)
 
 isSpecial-within : (b : ℕ) → isSpecial b ≡ true → (32 ≤ b) × (b ≤ 126)
 unfolding isSpecial
-isSpecial-within b h = or-cases (eqb b 34) (eqb b 92) h (λ e. let w = eqb-true b 34 e in (omega arith, omega arith)) (λ e. let w = eqb-true b 92 e in (omega arith, omega arith))
+isSpecial-within b h =
+    or-cases (eqb b 34) (eqb b 92) h (λ e. let w = eqb-true b 34 e in (omega arith, omega arith)) (λ e. let w = eqb-true b 92 e in (omega arith, omega arith))
 
 hexDigit-within : (d : ℕ) → d < 16 → (32 ≤ hexDigit d) × (hexDigit d ≤ 126)
 unfolding hexDigit
@@ -82,7 +83,8 @@ escapedByte-printable b h = go (isSpecial b) (isPrintable b) refl refl
     hex : {d : ℕ} {s : List ℕ} → d < 16 → AllPrintable s → AllPrintable (hexDigit d ∷ s)
     hex {d} k p = more (hexDigit-within d k .0) (hexDigit-within d k .1) p
 
-    go : (t u : Bool) → isSpecial b ≡ t → isPrintable b ≡ u → AllPrintable (cond t (92 ∷ b ∷ []) (cond u (b ∷ []) (92 ∷ 120 ∷ hexDigit (b / 16) ∷ hexDigit (b % 16) ∷ [])))
+    go : (t u : Bool) → isSpecial b ≡ t → isPrintable b ≡ u
+        → AllPrintable (cond t (92 ∷ b ∷ []) (cond u (b ∷ []) (92 ∷ 120 ∷ hexDigit (b / 16) ∷ hexDigit (b % 16) ∷ [])))
     go true u d e = slash (more (isSpecial-within b d .0) (isSpecial-within b d .1) none)
     go false true d e = more (isPrintable-within b e .0) (isPrintable-within b e .1) none
     go false false d e =

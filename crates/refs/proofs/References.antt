@@ -53,7 +53,8 @@ taggable-other k s =
 pub taggable-none : (k : ℕ) → (k ≡ 4 → ⊥) → (OneOf (5 ∷ 8 ∷ 12 ∷ 14 ∷ []) k → ⊥) → false ≡ mayBeKind taggable k
 taggable-none k p s =
     member-no-key k 4 (5 ∷ 12 ∷ 14 ∷ 8 ∷ [])
-    (λ o. ⊎-elim p (λ t. ⊎-elim (λ q. s (inl q)) (λ u. ⊎-elim (λ q. s (inr (inr (inl q)))) (λ v. ⊎-elim (λ q. s (inr (inr (inr q)))) (λ q. s (inr (inl q))) v) u) t) o)
+    (λ o. ⊎-elim p (λ t. ⊎-elim (λ q. s (inl q)) (λ u. ⊎-elim (λ q. s (inr (inr (inl q))))
+    (λ v. ⊎-elim (λ q. s (inr (inr (inr q)))) (λ q. s (inr (inl q))) v) u) t) o)
 
 -- ── rules ──
 
@@ -83,7 +84,8 @@ module _ (T : Table) (w : ℕ) where
   -- nor are those above 18
   word-behind : (role : ℕ) → 18 < role → true ≡ refWordOk T (roleOf role) w
   word-behind role h =
-      let at : role ≡ suc (suc (suc (suc (suc (suc (suc (suc (suc (suc (suc (suc (suc (suc (suc (suc (suc (suc (suc (role - 19))))))))))))))))))) = omega arith in
+      let at : role ≡ suc (suc (suc (suc (suc (suc (suc (suc (suc (suc (suc (suc (suc (suc (suc (suc (suc (suc (suc (role - 19))))))))))))))))))) =
+      omega arith in
       sym (ap (λ (n : ℕ). refWordOk T (roleOf n) w) at)
 
   -- one of the others has the rule of its number from 7 on: twelve codes, one computed list

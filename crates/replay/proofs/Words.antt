@@ -40,7 +40,8 @@ pub filling-inside : {b s : List ℕ} {n i p : ℕ} → Filling b s n i p → i 
 filling-inside {b} g h = let room = g .room in let long = g .long in let after = g .after in omega arith
 
 -- the word that the bytes from p on begin with is stored
-pub filling-next : {b s : List ℕ} {n i p v : ℕ} → Filling b s n i p → i < length s → v ≡ wordAt lowFirst (take (length b - p) (drop p b)) 0 → Filling b (set s i v) n (i + 1) (p + 4)
+pub filling-next : {b s : List ℕ} {n i p v : ℕ} → Filling b s n i p → i < length s → v ≡ wordAt lowFirst (take (length b - p) (drop p b)) 0
+    → Filling b (set s i v) n (i + 1) (p + 4)
 unfolding wordAt
 filling-next {b} {s} {n} {i} {p} {v} g h e =
     let there : i < length (words lowFirst b) = omega (arith, length-words lowFirst b, g .room, g .long) in

@@ -98,4 +98,5 @@ nameSeen x a index work = seenWith (named a x) (lentPlaces index) (lentPlaces wo
 -- op 4: what is seen of a join into an output of these bytes, its answer and all three slices as the join leaves them
 abbrev pub joinSeen : List ℕ → List ℕ → ℕ → ℕ → List ℕ → Seen
 joinSeen a b places workPlaces output =
-    seenWith (join a b places workPlaces output .answer) (join a b places workPlaces output .index) (join a b places workPlaces output .work) (join a b places workPlaces output .output)
+    seenWith (join a b places workPlaces output .answer) (join a b places workPlaces output .index) (join a b places workPlaces output .work)
+    (join a b places workPlaces output .output)

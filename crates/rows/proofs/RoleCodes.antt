@@ -10,7 +10,9 @@ use borrow.Author.Tests.{leb-true, leb-false}
 use lib.Dec.{leb}
 use lib.ListN.{length, List·getD-eq-default}
 use mathlib.Core.List.{List}
-use Rattle.paper.specs.rules.Kind.{NameRule, offset0, anyName, offset0OrIdentifier, identifier, nonEmpty, sectionName, RefRule, voidOrPlain, plain, anInt, aProto, aVar, taggable, Role, names, refers, holds, number, SizeRule, eight, sizeWord, countTimes, referent, noSize, Row, rows, rowOf}
+use Rattle.paper.specs.rules.Kind.{NameRule, offset0, anyName, offset0OrIdentifier, identifier, nonEmpty, sectionName}
+use Rattle.paper.specs.rules.Kind.{RefRule, voidOrPlain, plain, anInt, aProto, aVar, taggable, Role, names, refers, holds, number}
+use Rattle.paper.specs.rules.Kind.{SizeRule, eight, sizeWord, countTimes, referent, noSize, Row, rows, rowOf}
 use Rattle.paper.specs.rules.Table.{kindIn, vlenIn, tailLength}
 use Rattle.paper.proofs.basics.Rows.{rowOf-every}
 use Rattle.rows.specs.Codes.{nameCode, refCode, roleCode, roleOf, roleAt, between, sizeCode, sizeRuleOf}

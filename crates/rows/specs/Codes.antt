@@ -5,7 +5,9 @@ use mathlib.Core.List.{List, [], _∷_}
 use lib.Dec.{leb}
 use lib.ListN.{length, getD}
 use Rattle.paper.specs.rules.Choice.{same}
-use Rattle.paper.specs.rules.Kind.{NameRule, offset0, anyName, offset0OrIdentifier, identifier, nonEmpty, sectionName, RefRule, voidOrPlain, plain, anInt, aProto, aVar, taggable, Role, names, refers, holds, number, Values, free, oneOf, SizeRule, eight, sizeWord, countTimes, referent, noSize, Row}
+use Rattle.paper.specs.rules.Kind.{NameRule, offset0, anyName, offset0OrIdentifier, identifier, nonEmpty, sectionName}
+use Rattle.paper.specs.rules.Kind.{RefRule, voidOrPlain, plain, anInt, aProto, aVar, taggable, Role, names, refers, holds, number}
+use Rattle.paper.specs.rules.Kind.{Values, free, oneOf, SizeRule, eight, sizeWord, countTimes, referent, noSize, Row}
 
 -- ── roles: 0 a plain number, 1 to 6 a name, 7 to 12 a reference, 13 to 18 a by-value reference ──
 

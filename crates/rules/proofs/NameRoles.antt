@@ -72,8 +72,13 @@ module _ (strings : List ℕ) where
     -- "Each offset is below the string length"
     pub word-outside : length strings ≤ w → false ≡ nameWordOk strings (roleOf role) w
     unfolding nameOk
-    word-outside h = sym (ap (λ (ρ : Role). nameWordOk strings ρ w) named ∙ ap (λ (t : Bool). t && nameFits (nameRuleOf role) w (nameIn strings w)) (le-ltb w (length strings) h))
+    word-outside h =
+        sym (ap (λ (t : Bool). t && nameFits (nameRuleOf role) w (nameIn strings w)) (le-ltb w (length strings) h))
+        ∙ sym (ap (λ (ρ : Role). nameWordOk strings ρ w) named)
 
     pub word-inside : w < length strings → {r : Bool} → r ≡ nameFits (nameRuleOf role) w (nameIn strings w) → r ≡ nameWordOk strings (roleOf role) w
     unfolding nameOk
-    word-inside h e = e ∙ sym (ap (λ (ρ : Role). nameWordOk strings ρ w) named ∙ ap (λ (t : Bool). t && nameFits (nameRuleOf role) w (nameIn strings w)) (lt-ltb w (length strings) h))
+    word-inside h e =
+        e
+        ∙ sym (ap (λ (t : Bool). t && nameFits (nameRuleOf role) w (nameIn strings w)) (lt-ltb w (length strings) h))
+        ∙ sym (ap (λ (ρ : Role). nameWordOk strings ρ w) named)

@@ -30,7 +30,9 @@ module _ (s : List ℕ) where
   parameters-some p n = ap (λ (m : ℕ). isEmpty (parametersIn (wordsFrom lowFirst s p m))) (two n)
 
   -- the first, and those behind it
-  voids-first : (p n : ℕ) → voidsLastFrom s p (suc n) ≡ (not (eqb (at (p + 4)) 0) || (isEmpty (parameters (p + 4 + 4) n) && eqb (at (p + 4)) 0 && eqb (at p) 0)) && voidsLastFrom s (p + 4 + 4) n
+  voids-first : (p n : ℕ)
+      → voidsLastFrom s p (suc n)
+      ≡ (not (eqb (at (p + 4)) 0) || (isEmpty (parameters (p + 4 + 4) n) && eqb (at (p + 4)) 0 && eqb (at p) 0)) && voidsLastFrom s (p + 4 + 4) n
   unfolding voidsLastFrom isLast00
   voids-first p n = ap (λ (m : ℕ). voidsLast (parametersIn (wordsFrom lowFirst s p m))) (two n)
 
@@ -39,7 +41,8 @@ module _ (s : List ℕ) where
       voids-first p n
       ∙ ap (λ (t : Bool). (not t || (isEmpty (parameters (p + 4 + 4) n) && t && eqb (at p) 0)) && voidsLastFrom s (p + 4 + 4) n) (ne-eqb (at (p + 4)) 0 h)
 
-  voids-void : (p n : ℕ) → at (p + 4) ≡ 0 → voidsLastFrom s p (suc n) ≡ isEmpty (parameters (p + 4 + 4) n) && true && eqb (at p) 0 && voidsLastFrom s (p + 4 + 4) n
+  voids-void : (p n : ℕ) → at (p + 4) ≡ 0
+      → voidsLastFrom s p (suc n) ≡ isEmpty (parameters (p + 4 + 4) n) && true && eqb (at p) 0 && voidsLastFrom s (p + 4 + 4) n
   voids-void p n h =
       voids-first p n
       ∙ ap (λ (t : Bool). (not t || (isEmpty (parameters (p + 4 + 4) n) && t && eqb (at p) 0)) && voidsLastFrom s (p + 4 + 4) n) (eq-eqb (at (p + 4)) 0 h)

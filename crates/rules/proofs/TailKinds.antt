@@ -96,7 +96,8 @@ module _ (s : List ℕ) {info k : ℕ} (read : info ≡ wordAt lowFirst s 4) (ki
       let one : tailLength (wordAt lowFirst s 4) ≡ 1 = tail-long ∙ (λ i. once i + vlenIn (wordAt lowFirst s 4) * each i) ∙ omega arith in
       ap (λ (n : ℕ). getD (wordsFrom lowFirst s 12 n) 0 0) one
 
-  pub tail-int : k ≡ INT → {w size : ℕ} → w ≡ wordAt lowFirst s 12 → size ≡ wordAt lowFirst s 8 → {r : Bool} → r ≡ intWordOk w size → r ≡ tailOk (recordIn lowFirst s)
+  pub tail-int : k ≡ INT → {w size : ℕ} → w ≡ wordAt lowFirst s 12 → size ≡ wordAt lowFirst s 8 → {r : Bool} → r ≡ intWordOk w size
+      → r ≡ tailOk (recordIn lowFirst s)
   unfolding rowOf rows
   tail-int e word third d =
       let here : getD tail 0 0 ≡ wordAt lowFirst s 12 = one-word (ap (λ (j : ℕ). length (rowOf j .once)) e) (ap (λ (j : ℕ). length (rowOf j .each)) e) in
@@ -121,8 +122,8 @@ module _ (s : List ℕ) {info k : ℕ} (read : info ≡ wordAt lowFirst s 4) (ki
       let once : length (rowOf k .once) ≡ 0 = ap (λ (j : ℕ). length (rowOf j .once)) e in
       let each : length (rowOf k .each) ≡ 2 = ap (λ (j : ℕ). length (rowOf j .each)) e in
       let count : v ≡ vlenIn (wordAt lowFirst s 4) = vlen ∙ ap vlenIn read in
-      let long : 2 * v ≡ tailLength (wordAt lowFirst s 4) =
-      sym (tail-long ∙ (λ i. once i + vlenIn (wordAt lowFirst s 4) * each i) ∙ (let same : 0 + vlenIn (wordAt lowFirst s 4) * 2 ≡ 2 * v = omega arith in same)) in
+      let same : 0 + vlenIn (wordAt lowFirst s 4) * 2 ≡ 2 * v = omega arith in
+      let long : 2 * v ≡ tailLength (wordAt lowFirst s 4) = sym (tail-long ∙ (λ i. once i + vlenIn (wordAt lowFirst s 4) * each i) ∙ same) in
       d
       ∙ ap (λ (n : ℕ). voidsLast (parametersIn (wordsFrom lowFirst s 12 n))) long
       ∙ sym (ap (λ (j : ℕ). byKind j int var proto) e)

@@ -43,7 +43,8 @@ module _ (b : List ℕ) (places work : ℕ) where
 
   pub found-header : {h : Header} {r : Report} → HeaderOf h b → h ≡ Bad r → scanReport b places work ≡ some (reportAsPaper r)
   unfolding scanReport
-  found-header e p = ap (λ (o : Option Answer). orElse o (orElse (phase2 b) (shortSlices (count (tableOf b)) places work))) (subst (λ (x : Header). HeaderOf x b) p e)
+  found-header e p =
+      ap (λ (o : Option Answer). orElse o (orElse (phase2 b) (shortSlices (count (tableOf b)) places work))) (subst (λ (x : Header). HeaderOf x b) p e)
 
   module _ {h : Header} {s : Sections} (e : HeaderOf h b) (p : h ≡ Good s) where
     sections : SectionsOf s b

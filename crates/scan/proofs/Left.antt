@@ -44,7 +44,8 @@ module _ (b : List ℕ) (end : ℕ) (inside : end ≤ length b) where
       ∙ ap (λ (w : ℕ). w ∷ left b (at + 4) end) (sym (wordAt-inside lowFirst b at (omega arith)))
 
   -- the first three are a record's head
-  pub left-head : (at : ℕ) → at + 12 ≤ end → left b at end ≡ wordAt lowFirst b at ∷ wordAt lowFirst b (at + 4) ∷ wordAt lowFirst b (at + 8) ∷ left b (at + 12) end
+  pub left-head : (at : ℕ) → at + 12 ≤ end
+      → left b at end ≡ wordAt lowFirst b at ∷ wordAt lowFirst b (at + 4) ∷ wordAt lowFirst b (at + 8) ∷ left b (at + 12) end
   left-head at h =
       let eight : at + 4 + 4 ≡ at + 8 = omega arith in
       let twelve : at + 8 + 4 ≡ at + 12 = omega arith in

@@ -17,7 +17,8 @@ use Rattle.scan.specs.declared.walk.Behind.{Behind}
 use Rattle.scan.specs.declared.walk.Behind.the-variants.{Next, Cut, Unknown}
 use Rattle.scan.specs.Phase2.{TypeSection, Finding, counted, refused, findingOf, behindOf}
 use Rattle.scan.proofs.Left.{left, typeWords-left, left-length, left-head, left-drop, left-end}
-use Rattle.scan.proofs.WalkSteps.{Way, head-cut, unknown, tail-cut, onward, behindOf-way, walkFrom-done, walkFrom-full, walkFrom-short, walkRecord-unknown, walkRecord-cut, walkRecord-onward}
+use Rattle.scan.proofs.WalkSteps.{Way, head-cut, unknown, tail-cut, onward, behindOf-way}
+use Rattle.scan.proofs.WalkSteps.{walkFrom-done, walkFrom-full, walkFrom-short, walkRecord-unknown, walkRecord-cut, walkRecord-onward}
 
 -- ── a finding behind some records ──
 

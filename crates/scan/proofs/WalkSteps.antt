@@ -36,7 +36,8 @@ pub behindOf-way : (b : List ℕ) (at end : ℕ) → Way b at end (behindOf b at
 unfolding behindOf
 behindOf-way b at end = go (leb (at + 12) end) refl (knownAt b at) refl (leb (nextPlace b at) end) refl
   where
-    go : (t : Bool) → leb (at + 12) end ≡ t → (k : Bool) → knownAt b at ≡ k → (n : Bool) → leb (nextPlace b at) end ≡ n → Way b at end (cond t (cond k (cond n (Next (record { 0 = nextPlace b at })) Cut) Unknown) Cut)
+    go : (t : Bool) → leb (at + 12) end ≡ t → (k : Bool) → knownAt b at ≡ k → (n : Bool) → leb (nextPlace b at) end ≡ n
+        → Way b at end (cond t (cond k (cond n (Next (record { 0 = nextPlace b at })) Cut) Unknown) Cut)
     go false e k ek n en = head-cut (leb-false _ _ e)
     go true e false ek n en = unknown (leb-true _ _ e) ek
     go true e true ek false en = tail-cut (leb-true _ _ e) ek (leb-false _ _ en)

@@ -63,7 +63,8 @@ module _ {by : Shift} {g : Group} {s : List ℕ} {v at : ℕ} {before : List ℕ
             rest = λ ρs o. more ρs o ∙ e .rest ρs o;
           }
         where
-          more : (ρs : List Role) → GroupOf g ρs → put after₂ (p + 4 * g .words) (raisedFrom by s (p + 4 * g .words) (times (left - 1) ρs)) ≡ put after p (raisedFrom by s p (times left ρs))
+          more : (ρs : List Role) → GroupOf g ρs
+              → put after₂ (p + 4 * g .words) (raisedFrom by s (p + 4 * g .words) (times (left - 1) ρs)) ≡ put after p (raisedFrom by s p (times left ρs))
           more ρs o =
               let run : List ℕ = raisedFrom by s p ρs in
               let c = o .counted in

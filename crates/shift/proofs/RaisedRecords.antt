@@ -10,7 +10,8 @@ use borrow.Author.Tests.{le-leb, lt-leb, leb-true, leb-false}
 use lib.Dec.{leb}
 use lib.ListN.{length, take, drop, length-append, length-drop, take-append-drop}
 use lib.Seq.{take-at, drop-at, drop-drop, length-take-le}
-use Rattle.shift.specs.Raising.{raisedFrom, headRoles, raisedRecord, recordLength, recordBytes, recordsBytes, raisedRun, GroupOf, GroupAsk, GroupPut, EntriesAsk, EntriesPut, RecordPut, RecordAsk}
+use Rattle.shift.specs.Raising.{raisedFrom, headRoles, raisedRecord, recordLength, recordBytes, recordsBytes, raisedRun}
+use Rattle.shift.specs.Raising.{GroupOf, GroupAsk, GroupPut, EntriesAsk, EntriesPut, RecordPut, RecordAsk}
 use Rattle.shift.specs.declared.groups.Group.{Group}
 use Rattle.shift.specs.declared.groups.Shift.{Shift}
 use Rattle.shift.proofs.RaisedWords.{length-raisedFrom, recordBytes-parts}
@@ -81,7 +82,8 @@ module _ {by : Shift} {s : List ℕ} {out out₁ out₂ out₃ : List ℕ} (a : 
   parts : head ++ (once ++ entries) ≡ recordBytes by (recordIn lowFirst s)
   parts =
       ap₂
-      (λ (k n : ℕ). raisedFrom by s 0 (headRoles k) ++ (raisedFrom by s 12 (rowOf k .once) ++ raisedFrom by s (12 + 4 * length (rowOf k .once)) (times n (rowOf k .each))))
+      (λ (k n : ℕ). raisedFrom by s 0 (headRoles k)
+      ++ (raisedFrom by s 12 (rowOf k .once) ++ raisedFrom by s (12 + 4 * length (rowOf k .once)) (times n (rowOf k .each))))
       (kinded ∙ ap kindIn read)
       (counted ∙ ap vlenIn read)
       ∙ sym (recordBytes-parts by s)
@@ -125,7 +127,8 @@ module _ {by : Shift} (s : List ℕ) {out : List ℕ} {size : ℕ} (is : size �
         long = sym (ap (λ (t : Bool). cond t (recordLength s) 0) (lt-leb (recordLength s) (length out) (omega arith)));
       }
 
-  pub front-fits : size ≤ length out → {after : List ℕ} → after ≡ put (take size out) 0 (recordBytes by (recordIn lowFirst s)) → RecordPut by s out (after ++ drop size out) size
+  pub front-fits : size ≤ length out → {after : List ℕ} → after ≡ put (take size out) 0 (recordBytes by (recordIn lowFirst s))
+      → RecordPut by s out (after ++ drop size out) size
   front-fits room {after} e =
       let bs : List ℕ = recordBytes by (recordIn lowFirst s) in
       let l = length-recordBytes by (recordIn lowFirst s) in
@@ -146,11 +149,13 @@ module _ (by : Shift) (k : ℕ) (s out : List ℕ) where
   raisedRun-fits : recordLength s ≤ length out
       → raisedRun by (suc k) s out ≡ recordBytes by (recordIn lowFirst s) ++ raisedRun by k (drop (recordLength s) s) (drop (recordLength s) out)
   raisedRun-fits room =
-      ap (λ (t : Bool). cond t (recordBytes by (recordIn lowFirst s) ++ raisedRun by k (drop (recordLength s) s) (drop (recordLength s) out)) out) (le-leb (recordLength s) (length out) room)
+      ap (λ (t : Bool). cond t (recordBytes by (recordIn lowFirst s) ++ raisedRun by k (drop (recordLength s) s) (drop (recordLength s) out)) out)
+      (le-leb (recordLength s) (length out) room)
 
   raisedRun-short : length out < recordLength s → raisedRun by (suc k) s out ≡ out
   raisedRun-short short =
-      ap (λ (t : Bool). cond t (recordBytes by (recordIn lowFirst s) ++ raisedRun by k (drop (recordLength s) s) (drop (recordLength s) out)) out) (lt-leb (recordLength s) (length out) short)
+      ap (λ (t : Bool). cond t (recordBytes by (recordIn lowFirst s) ++ raisedRun by k (drop (recordLength s) s) (drop (recordLength s) out)) out)
+      (lt-leb (recordLength s) (length out) short)
 
 -- which of the two it is, by what is answered
 module _ {by : Shift} {s before after : List ℕ} {size : ℕ} (one : RecordPut by s before after size) where
@@ -240,10 +245,13 @@ module _ {by : Shift} {s before after : List ℕ} {n p left : ℕ} (r : Running 
       far-inside : p + size ≤ length ((take p after ++ bs) ++ behind)
       far-inside = omega (arith, length-append (take p after ++ bs) behind, front)
 
-      goes-on : take (p + size) ((take p after ++ bs) ++ behind) ++ raisedRun by (left - 1) (drop (p + size) s) (drop (p + size) ((take p after ++ bs) ++ behind)) ≡ raisedRun by n s before
+      goes-on : take (p + size) ((take p after ++ bs) ++ behind)
+          ++ raisedRun by (left - 1) (drop (p + size) s) (drop (p + size) ((take p after ++ bs) ++ behind))
+          ≡ raisedRun by n s before
       goes-on =
           let f = fits in
-          (λ i. take-at (take p after ++ bs) behind (p + size) front i ++ raisedRun by (left - 1) (sym (drop-drop size p s) i) (drop-at (take p after ++ bs) behind (p + size) front i))
+          (λ i. take-at (take p after ++ bs) behind (p + size) front i
+          ++ raisedRun by (left - 1) (sym (drop-drop size p s) i) (drop-at (take p after ++ bs) behind (p + size) front i))
           ∙ append-assoc (take p after) bs (raisedRun by (left - 1) (drop size (drop p s)) behind)
           ∙ ap (λ (k : ℕ). take p after ++ (bs ++ raisedRun by (left - 1) (drop k (drop p s)) (drop k (drop p after)))) (f .1)
           ∙ ap (λ (t : List ℕ). take p after ++ t) (sym (raisedRun-fits by (left - 1) (drop p s) (drop p after) (f .0)))
@@ -289,11 +297,14 @@ unfolding recordsBytes
 length-recordsBytes by rs = length-bytesOfWords lowFirst (flat (map (raisedRecord by) rs)) ∙ ap (λ (n : ℕ). 4 * n) (flat-rename _ _ rs)
 
 -- one record in front of bytes for the others
-run-one : (by : Shift) (r : Record) (k : ℕ) (s t out : List ℕ) → s ≡ bytesOfWords lowFirst (wordsOf r) ++ t → recordIn lowFirst s ≡ r → 4 * length (wordsOf r) ≤ length out
+run-one : (by : Shift) (r : Record) (k : ℕ) (s t out : List ℕ) → s ≡ bytesOfWords lowFirst (wordsOf r) ++ t → recordIn lowFirst s ≡ r
+    → 4 * length (wordsOf r) ≤ length out
     → raisedRun by (suc k) s out ≡ recordBytes by r ++ raisedRun by k t (drop (4 * length (wordsOf r)) out)
 run-one by r k s t out split is room =
     let long : recordLength s ≡ 4 * length (wordsOf r) = ap (λ (q : Record). 4 * length (wordsOf q)) is in
-    let behind : drop (recordLength s) s ≡ t = ap₂ (λ (n : ℕ) (q : List ℕ). drop n q) long split ∙ drop-at (bytesOfWords lowFirst (wordsOf r)) t (4 * length (wordsOf r)) (length-bytesOfWords lowFirst (wordsOf r)) in
+    let behind : drop (recordLength s) s ≡ t =
+    ap₂ (λ (n : ℕ) (q : List ℕ). drop n q) long split
+    ∙ drop-at (bytesOfWords lowFirst (wordsOf r)) t (4 * length (wordsOf r)) (length-bytesOfWords lowFirst (wordsOf r)) in
     raisedRun-fits by k s out (omega arith)
     ∙ (λ i. recordBytes by (is i) ++ raisedRun by k (behind i) (drop (long i) out))
 
@@ -305,12 +316,14 @@ raisedRun-records by (r ∷ rs) t out whole fit room =
     let words : List ℕ = bytesOfWords lowFirst (wordsOf r) in
     let later : List ℕ = bytesOfWords lowFirst (flat rs) ++ t in
     let size : ℕ = 4 * length (wordsOf r) in
-    let split : bytesOfWords lowFirst (wordsOf r ++ flat rs) ++ t ≡ words ++ later = ap (λ (s : List ℕ). s ++ t) (bytesOfWords-append lowFirst (wordsOf r) (flat rs)) ∙ append-assoc words (bytesOfWords lowFirst (flat rs)) t in
+    let split : bytesOfWords lowFirst (wordsOf r ++ flat rs) ++ t ≡ words ++ later =
+    ap (λ (s : List ℕ). s ++ t) (bytesOfWords-append lowFirst (wordsOf r) (flat rs)) ∙ append-assoc words (bytesOfWords lowFirst (flat rs)) t in
     let is = ap (recordIn lowFirst) split ∙ recordIn-whole lowFirst r later (whole .0) (below-left wordBound (wordsOf r) (flat rs) fit) in
     let l = length-append (wordsOf r) (flat rs) in
     let d = length-drop size out in
     let far : size + typeLenOf rs ≡ typeLenOf (r ∷ rs) = omega arith in
     run-one by r (length rs) _ later out split is (omega arith)
-    ∙ ap (λ (s : List ℕ). recordBytes by r ++ s) (raisedRun-records by rs t (drop size out) (whole .1) (below-right wordBound (wordsOf r) (flat rs) fit) (omega arith))
+    ∙ ap (λ (s : List ℕ). recordBytes by r ++ s)
+    (raisedRun-records by rs t (drop size out) (whole .1) (below-right wordBound (wordsOf r) (flat rs) fit) (omega arith))
     ∙ sym (append-assoc (recordBytes by r) (recordsBytes by rs) (drop (typeLenOf rs) (drop size out)))
     ∙ ap₂ (λ (x y : List ℕ). x ++ y) (sym (recordsBytes-cons by r rs)) (drop-drop (typeLenOf rs) size out ∙ ap (λ (n : ℕ). drop n out) far)

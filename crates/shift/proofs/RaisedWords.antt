@@ -26,7 +26,8 @@ use Rattle.rows.specs.Codes.{roleCode, roleAt, isNameCode, isRefCode}
 use Rattle.paper.specs.rules.Word.{lowFirst, wordBytes, bytesOfWords, wordAt, putWord}
 
 module _ (by : Shift) (s : List ℕ) where
-  pub raisedFrom-one : (p : ℕ) (ρ : Role) (ρs : List Role) → raisedFrom by s p (ρ ∷ ρs) ≡ wordBytes lowFirst (raisedWord by ρ (wordAt lowFirst s p)) ++ raisedFrom by s (p + 4) ρs
+  pub raisedFrom-one : (p : ℕ) (ρ : Role) (ρs : List Role)
+      → raisedFrom by s p (ρ ∷ ρs) ≡ wordBytes lowFirst (raisedWord by ρ (wordAt lowFirst s p)) ++ raisedFrom by s (p + 4) ρs
   unfolding raisedFrom
   raisedFrom-one p ρ ρs = refl
 
@@ -107,7 +108,8 @@ module _ (by : Shift) {role w : ℕ} where
       go (refers rule) f = absurd (omega (arith, plain (refers rule) f, refCode-range rule))
       go (holds rule) f = absurd (omega (arith, plain (holds rule) f, refCode-range rule))
 
-  pub raised-put : {r w′ at : ℕ} {before after : List ℕ} → w ≡ w′ → WordRaised by role w r → after ≡ putWord lowFirst before at r → WordPut by role w′ at before after
+  pub raised-put : {r w′ at : ℕ} {before after : List ℕ} → w ≡ w′ → WordRaised by role w r → after ≡ putWord lowFirst before at r
+      → WordPut by role w′ at before after
   raised-put {r} {w′} {at} {before} {after} same raised e = record { puts = go }
     where
       go : (ρ : Role) → role ≡ roleCode ρ → after ≡ putWord lowFirst before at (raisedWord by ρ w′)
@@ -122,7 +124,8 @@ module _ (by : Shift) {role w : ℕ} where
 -- the words of some roles, put one behind the other
 pub put-more : (by : Shift) (s : List ℕ) (p : ℕ) (out : List ℕ) (ρs : List Role) (σ : Role) → p + 4 * suc (length ρs) ≤ length out
     → {out₁ out₂ : List ℕ} {p₁ : ℕ} → p₁ ≡ p + 4 * length ρs
-    → out₁ ≡ put out p (raisedFrom by s p ρs) → out₂ ≡ putWord lowFirst out₁ p₁ (raisedWord by σ (wordAt lowFirst s p₁)) → out₂ ≡ put out p (raisedFrom by s p (ρs ++ (σ ∷ [])))
+    → out₁ ≡ put out p (raisedFrom by s p ρs) → out₂ ≡ putWord lowFirst out₁ p₁ (raisedWord by σ (wordAt lowFirst s p₁))
+    → out₂ ≡ put out p (raisedFrom by s p (ρs ++ (σ ∷ [])))
 unfolding raisedFrom
 put-more by s p out ρs σ room {out₁} {out₂} {p₁} there e f =
     let run : List ℕ = raisedFrom by s p ρs in
@@ -153,7 +156,8 @@ module _ {by : Shift} {g : Group} {s : List ℕ} {p : ℕ} {out : List ℕ} wher
         go ρs h few =
             let c = h .counted in
             let long = length-take-le n ρs (omega arith) in
-            put-more by s p out (take n ρs) (getD ρs n number) (omega arith) (there ∙ omega arith) (sofar .puts ρs h (omega arith)) (word .puts (getD ρs n number) (codes ρs h))
+            put-more by s p out (take n ρs) (getD ρs n number) (omega arith) (there ∙ omega arith) (sofar .puts ρs h (omega arith))
+            (word .puts (getD ρs n number) (codes ρs h))
             ∙ ap (λ (σs : List Role). put out p (raisedFrom by s p σs)) (sym (take-suc ρs n number few))
 
     -- and no more

@@ -102,7 +102,17 @@ module _ (b index : List ℕ) (t : ℕ) where
     stepAt-inside h c =
         let p = getD index t 0 in
         let same : leb 24 (length (drop p b)) ≡ leb (p + 24) (length b) = rw length-drop (leb-shift 24 p (length b) (omega arith)) in
-        rw (lt-ltb _ _ inside, le-leb _ _ h, le-leb _ _ c, wordAt-drop lowFirst b p 4, wordAt-drop lowFirst b p 8, wordAt-drop lowFirst b p 12, wordAt-drop lowFirst b p 20, same) refl
+        rw (
+          lt-ltb _ _ inside,
+          le-leb _ _ h,
+          le-leb _ _ c,
+          wordAt-drop lowFirst b p 4,
+          wordAt-drop lowFirst b p 8,
+          wordAt-drop lowFirst b p 12,
+          wordAt-drop lowFirst b p 20,
+          same,
+        )
+        refl
 
     pub stepAt-part : 24 ≤ getD index t 0 → getD index t 0 + 12 ≤ length b → {x : Step}
         → x ≡ stepOf (take (length b - getD index t 0) (drop (getD index t 0) b)) → x ≡ stepAt b index t

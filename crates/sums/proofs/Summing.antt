@@ -24,12 +24,14 @@ pub summing-end : {all sum : ℕ} → Summing all sum [] → sum ≡ all
 summing-end g = g .comes
 
 -- one byte more of a slice
-pub summing-byte : {all sum next : ℕ} (s : List ℕ) (i : ℕ) → i < length s → Summing all sum (drop i s) → next < 4294967291 → next ≡ afterByte sum (getD s i 0) → Summing all next (drop (i + 1) s)
+pub summing-byte : {all sum next : ℕ} (s : List ℕ) (i : ℕ) → i < length s → Summing all sum (drop i s) → next < 4294967291
+    → next ≡ afterByte sum (getD s i 0) → Summing all next (drop (i + 1) s)
 summing-byte s i h g small e =
     record { small = small; comes = rw (e, add-one) (rw (drop-cons s i 0) at (g .comes)) }
 
 -- one place more of a slice
-pub summing-place : {all sum next : ℕ} (s : List ℕ) (i : ℕ) → i < length s → Summing all sum (bytesOfWords lowFirst (drop i s)) → next < 4294967291 → next ≡ sumFrom sum (wordBytes lowFirst (getD s i 0)) → Summing all next (bytesOfWords lowFirst (drop (i + 1) s))
+pub summing-place : {all sum next : ℕ} (s : List ℕ) (i : ℕ) → i < length s → Summing all sum (bytesOfWords lowFirst (drop i s)) → next < 4294967291
+    → next ≡ sumFrom sum (wordBytes lowFirst (getD s i 0)) → Summing all next (bytesOfWords lowFirst (drop (i + 1) s))
 summing-place s i h g small e =
     record { small = small; comes = rw (e, add-one) (rw (drop-cons s i 0) at (g .comes)) }
 
@@ -40,7 +42,8 @@ left-none s i h k = let e : i ≡ length s = omega arith in rw e (drop-length s)
 -- ── what is lent and not touched ──
 
 -- so many bytes more of the same, and one of them
-pub summing-lent : {all sum next n : ℕ} → 0 < n → Summing all sum (lentBytes n) → next < 4294967291 → next ≡ afterByte sum 165 → Summing all next (lentBytes (n - 1))
+pub summing-lent : {all sum next n : ℕ} → 0 < n → Summing all sum (lentBytes n) → next < 4294967291 → next ≡ afterByte sum 165
+    → Summing all next (lentBytes (n - 1))
 summing-lent {sum = sum} {n = n} some g small e = record { small = small; comes = rw e (go sum n some (g .comes)) }
   where
     go : {all : ℕ} (sum n : ℕ) → 0 < n → sumFrom sum (lentBytes n) ≡ all → sumFrom (afterByte sum 165) (lentBytes (n - 1)) ≡ all
@@ -48,7 +51,8 @@ summing-lent {sum = sum} {n = n} some g small e = record { small = small; comes 
     go sum (suc n) l c = let back : suc n - 1 ≡ n = omega arith in rw back c
 
 -- and so many places
-pub summing-lent-place : {all sum next n : ℕ} → 0 < n → Summing all sum (bytesOfWords lowFirst (lentPlaces n)) → next < 4294967291 → next ≡ sumFrom sum (wordBytes lowFirst 4294967295)
+pub summing-lent-place : {all sum next n : ℕ} → 0 < n → Summing all sum (bytesOfWords lowFirst (lentPlaces n)) → next < 4294967291
+    → next ≡ sumFrom sum (wordBytes lowFirst 4294967295)
     → Summing all next (bytesOfWords lowFirst (lentPlaces (n - 1)))
 summing-lent-place {sum = sum} {n = n} some g small e = record { small = small; comes = rw e (go sum n some (g .comes)) }
   where

@@ -142,7 +142,8 @@ module _ (base b index : List ℕ) where
 
     shown-none : (t : ℕ) → outside v t ≡ true → recordAt (tableBy base b index v) t ≡ nothing
         → recordIn lowFirst (drop (startBy base b index v t) b) ≡ recordAt (tableBy base b index v) t
-    shown-none t o e = ap (λ (p : ℕ). recordIn lowFirst (drop p b)) (sym (startBy-outside t o)) ∙ ap (recordIn lowFirst) (drop-length b) ∙ recordIn-empty ∙ sym e
+    shown-none t o e =
+        ap (λ (p : ℕ). recordIn lowFirst (drop p b)) (sym (startBy-outside t o)) ∙ ap (recordIn lowFirst) (drop-length b) ∙ recordIn-empty ∙ sym e
 
     pub startBy-record : (t : ℕ) → recordIn lowFirst (drop (startBy base b index v t) b) ≡ recordAt (tableBy base b index v) t
     startBy-record zero = shown-none 0 (outside-void v refl) refl

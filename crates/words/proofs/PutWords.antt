@@ -66,9 +66,12 @@ put-three out s p x y z room {out₁} {out₂} {out₃} e p₁ e₁ p₂ e₂ p�
     let b = next out (s ++ wordBytes lowFirst x) p y (omega arith) a p₂ (omega arith) in
     let lb = length-append (s ++ wordBytes lowFirst x) (wordBytes lowFirst y) in
     let c = next out (s ++ wordBytes lowFirst x ++ wordBytes lowFirst y) p z (omega arith) b p₃ (omega arith) in
-    c ∙ ap (put out p) (append-assoc (s ++ wordBytes lowFirst x) (wordBytes lowFirst y) (wordBytes lowFirst z) ∙ append-assoc s (wordBytes lowFirst x) (wordBytes lowFirst y ++ wordBytes lowFirst z))
+    c
+    ∙ ap (put out p) (append-assoc (s ++ wordBytes lowFirst x) (wordBytes lowFirst y) (wordBytes lowFirst z))
+    ∙ ap (put out p) (append-assoc s (wordBytes lowFirst x) (wordBytes lowFirst y ++ wordBytes lowFirst z))
   where
-    next : (out s : List ℕ) (p w : ℕ) → p + (length s + 4) ≤ length out → {out₁ out₂ : List ℕ} {q : ℕ} → out₁ ≡ put out p s → out₂ ≡ putWord lowFirst out₁ q w → q ≡ p + length s
+    next : (out s : List ℕ) (p w : ℕ) → p + (length s + 4) ≤ length out → {out₁ out₂ : List ℕ} {q : ℕ} → out₁ ≡ put out p s
+        → out₂ ≡ putWord lowFirst out₁ q w → q ≡ p + length s
         → out₂ ≡ put out p (s ++ wordBytes lowFirst w)
     next out s p w room {out₁} {out₂} {q} e f far =
         let same = ap length e ∙ length-put out p s (omega arith) in

@@ -24,7 +24,8 @@ returns : tie.Need-returns
 returns c =
     let t = c .before .before in
     let o = t .before .before in
-    t .tell .ensures ∙ ap (λ (r : Answer). toldIn r (now (o .before .before .before .before .before .args .answer))) (o .of-sized .ensures ∙ o .before .size .ensures)
+    t .tell .ensures
+    ∙ ap (λ (r : Answer). toldIn r (now (o .before .before .before .before .before .args .answer))) (o .of-sized .ensures ∙ o .before .size .ensures)
 
 pub scrieve-size-spec : {M : Type 1} → statement M
 scrieve-size-spec =

@@ -46,7 +46,10 @@ same-length-4 : tie.Need-same-length-4
 same-length-4 c = search needs
 
 returns-5 : tie.Need-returns-5
-returns-5 c = let a = c .before .before .before .before .args in told-four (asPaper (a .n)) (now (a .answer)) (omega (arith, c .before .before .before .if1 .left, c .before .before .if2 .left, c .before .if3 .left, c .if4 .left))
+returns-5 c =
+    let a = c .before .before .before .before .args in
+    told-four (asPaper (a .n)) (now (a .answer))
+    (omega (arith, c .before .before .before .if1 .left, c .before .before .if2 .left, c .before .if3 .left, c .if4 .left))
 
 pub tell-spec : {M : Type 1} → statement M
 tell-spec =

@@ -29,7 +29,8 @@ run-requires : tie.Need-run-requires
 unfolding among
 run-requires c κs = refl
 
-told : (c : tie.After-run) (x : Spelt) → let a = c .before .before .before .before .before .before .before .args in c .run .result ≡ x → isSome (speltAsPaper x) ≡ isSectionName (nameIn (now (a .strings)) (a .at .0))
+told : (c : tie.After-run) (x : Spelt) → let a = c .before .before .before .before .before .before .before .args in
+    c .run .result ≡ x → isSome (speltAsPaper x) ≡ isSectionName (nameIn (now (a .strings)) (a .at .0))
 told c x is =
     let e = c .before .before in
     let d = e .before .before in

@@ -9,7 +9,8 @@ use Rattle.paper.proofs.basics.Choices.{every-getD, and-left, member-ev
 use Rattle.paper.specs.rules.Chain.{links, isLink}
 use Rattle.paper.specs.rules.Choice.{every, times}
 use Rattle.paper.specs.rules.Heads.{allowed}
-use Rattle.paper.specs.rules.Kind.{Row, RefRule, Role, names, refers, holds, number, Values, free, oneOf, SizeRule, eight, sizeWord, countTimes, referent, noSize, rows, rowOf}
+use Rattle.paper.specs.rules.Kind.{Row, RefRule, Role, names, refers, holds, number, Values, free, oneOf}
+use Rattle.paper.specs.rules.Kind.{SizeRule, eight, sizeWord, countTimes, referent, noSize, rows, rowOf}
 use Rattle.paper.specs.rules.Rename.{renameWord}
 
 -- the first row is that of a kind that is not known, so the test need not be asked of it again

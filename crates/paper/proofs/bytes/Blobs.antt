@@ -33,7 +33,8 @@ firstWord-bytes order (a ∷ b ∷ c ∷ d ∷ s) h l =
     ap (λ (t : List ℕ). t ++ s) (sym word)
 
 -- at a place stand the bytes of the word that is read there
-pub drop-wordAt : (order : Order) (b : List ℕ) (p : ℕ) → Bytes b → p + 4 ≤ length b → {w : ℕ} → wordAt order b p ≡ w → drop p b ≡ wordBytes order w ++ drop (p + 4) b
+pub drop-wordAt : (order : Order) (b : List ℕ) (p : ℕ) → Bytes b → p + 4 ≤ length b → {w : ℕ} → wordAt order b p ≡ w
+    → drop p b ≡ wordBytes order w ++ drop (p + 4) b
 unfolding wordAt
 drop-wordAt order b p h l {w} e =
     firstWord-bytes order (drop p b) (below-drop 256 p b h) (simp length-drop (omega arith))
@@ -72,7 +73,8 @@ module _ (b : List ℕ) (bytes : Bytes b) (f : HeaderFacts b) where
   pub typeWords-bytes : bytesOfWords (orderOf b) (typeWords b) ≡ take (typeLen b) (drop headerLength b)
   unfolding typeWords
   typeWords-bytes =
-      bytesOfWords-words (orderOf b) (take (typeLen b) (drop headerLength b)) (below-take 256 (typeLen b) (drop headerLength b) (below-drop 256 headerLength b bytes))
+      bytesOfWords-words (orderOf b) (take (typeLen b) (drop headerLength b))
+      (below-take 256 (typeLen b) (drop headerLength b) (below-drop 256 headerLength b bytes))
       (omega (arith, typeSection-length b f, f .type-len))
 
   -- behind the header stand the type section and the strings

@@ -46,6 +46,9 @@ facts-headerReport b f =
     let length-good : lengthBad b ≡ false = false-or (le-ltb _ _ (f .long)) (le-ltb _ _ (f .short)) in
     let opening-good : openingBad b ≡ false = ap (λ (s : List ℕ). not (same s (opening (orderOf b)))) (f .opens) ∙ ap not (same-refl (opening (orderOf b))) in
     let header-good : headerLengthBad b ≡ false = differ-equal _ _ (f .header-length) in
-    let sections-good : sectionsBad b ≡ false = false-or (false-or (false-or (differ-equal _ _ (f .type-off)) (differ-equal _ _ (f .type-len))) (differ-equal _ _ (f .str-off))) (differ-equal _ _ (f .sum)) in
-    let strings-good : stringsBad b ≡ false = false-or (false-or (ne-eqb (strLen b) 0 (λ e. omega arith)) (differ-equal _ _ (f .first-zero))) (differ-equal _ _ (f .last-zero)) in
+    let sections-good : sectionsBad b ≡ false =
+    false-or (false-or (false-or (differ-equal _ _ (f .type-off)) (differ-equal _ _ (f .type-len))) (differ-equal _ _ (f .str-off)))
+    (differ-equal _ _ (f .sum)) in
+    let strings-good : stringsBad b ≡ false =
+    false-or (false-or (ne-eqb (strLen b) 0 (λ e. omega arith)) (differ-equal _ _ (f .first-zero))) (differ-equal _ _ (f .last-zero)) in
     none-firstDue (headerRules b) (length-good, (opening-good, (header-good, (sections-good, (strings-good, tt)))))

@@ -74,14 +74,17 @@ module _ (order : Order) (T : Table) (t : ℕ) (h : t < count T) where
   place-high = omega (arith, place-inside T t h, length-bytesOf order T)
 
   -- behind the header stand the bytes of the records before, of the record, of the records after it, and the strings
-  behind-header : drop headerLength (bytesOf order T) ≡ bytesOfWords order (flat (take t (T .records))) ++ (bytesOfWords order (wordsOf (getD (T .records) t nothing)) ++ (bytesOfWords order (flat (drop (suc t) (T .records))) ++ T .strings))
+  behind-header : drop headerLength (bytesOf order T)
+      ≡ bytesOfWords order (flat (take t (T .records)))
+      ++ (bytesOfWords order (wordsOf (getD (T .records) t nothing)) ++ (bytesOfWords order (flat (drop (suc t) (T .records))) ++ T .strings))
   behind-header =
       ap (drop headerLength) (bytesOf-parts order T)
       ∙ ap (λ (ws : List ℕ). bytesOfWords order ws ++ T .strings) (flat-at (T .records) t h)
       ∙ simp (bytesOfWords-append, append-assoc)
 
   -- at a record's place stand its own bytes, then those of the records after it, then the strings
-  pub place-record : drop (getD (placesOf T) t 0) (bytesOf order T) ≡ bytesOfWords order (wordsOf (getD (T .records) t nothing)) ++ (bytesOfWords order (flat (drop (suc t) (T .records))) ++ T .strings)
+  pub place-record : drop (getD (placesOf T) t 0) (bytesOf order T)
+      ≡ bytesOfWords order (wordsOf (getD (T .records) t nothing)) ++ (bytesOfWords order (flat (drop (suc t) (T .records))) ++ T .strings)
   place-record =
       let before : List ℕ = flat (take t (T .records)) in
       ap (λ (p : ℕ). drop p (bytesOf order T)) (placesOf-at T t h)
@@ -92,7 +95,8 @@ module _ (order : Order) (T : Table) (t : ℕ) (h : t < count T) where
 -- ── the words read there ──
 
 -- the words of bytes made from words, one by one
-pub firstWord-at : (order : Order) (ws s : List ℕ) (j : ℕ) → Below wordBound ws → j < length ws → firstWord order (drop (4 * j) (bytesOfWords order ws ++ s)) ≡ getD ws j 0
+pub firstWord-at : (order : Order) (ws s : List ℕ) (j : ℕ) → Below wordBound ws → j < length ws
+    → firstWord order (drop (4 * j) (bytesOfWords order ws ++ s)) ≡ getD ws j 0
 firstWord-at order [] s j fit h = absurd (omega arith)
 firstWord-at order (w ∷ ws) s zero fit h = firstWord-wordBytes order w (bytesOfWords order ws ++ s) (fit .0)
 firstWord-at order (w ∷ ws) s (suc j) fit h =

@@ -82,7 +82,8 @@ module _ (order : Order) where
       let v = vlenIn (wordAt order s 4) in
       let few : length (row .once ++ times v (row .each)) ≡ length (row .once) + v * length (row .each) =
       length-append (row .once) (times v (row .each)) ∙ ap (λ (n : ℕ). length (row .once) + n) (length-times v (row .each)) in
-      regroup (f (names (row .name)) (wordAt order s 0)) (f number (wordAt order s 4)) (f (row .thirdRole) (wordAt order s 8)) (tailRoled order f s (wordAt order s 4))
+      regroup (f (names (row .name)) (wordAt order s 0)) (f number (wordAt order s 4)) (f (row .thirdRole) (wordAt order s 8))
+      (tailRoled order f s (wordAt order s 4))
       ∙ ap
       (λ (t : Bool). f (names (row .name)) (wordAt order s 0) && (f number (wordAt order s 4) && (f (row .thirdRole) (wordAt order s 8) && t)))
       (sym (roled-append f s 12 (row .once) (times v (row .each)))
@@ -97,7 +98,8 @@ module _ (order : Order) where
 -- ── the record at a place ──
 
 -- bytes that begin with those of a whole record begin with that record
-pub recordIn-whole : (order : Order) (r : Record) (s : List ℕ) → Whole r → Below wordBound (wordsOf r) → recordIn order (bytesOfWords order (wordsOf r) ++ s) ≡ r
+pub recordIn-whole : (order : Order) (r : Record) (s : List ℕ) → Whole r → Below wordBound (wordsOf r)
+    → recordIn order (bytesOfWords order (wordsOf r) ++ s) ≡ r
 unfolding recordIn
 recordIn-whole order r s whole fit =
     let b : List ℕ = bytesOfWords order (wordsOf r) ++ s in

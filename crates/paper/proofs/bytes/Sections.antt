@@ -28,7 +28,13 @@ pub walkRecord-whole : (rest : List ℕ → Walked) (k p : ℕ) (r : Record) (ws
 unfolding walkRecord
 walkRecord-whole rest k p r ws h =
     let fits : tailLength (r .info) ≤ length (r .tail ++ ws) = omega (arith, length-append (r .tail) ws, h .whole-tail) in
-    rw (h .known-kind, le-leb _ _ fits, take-at (r .tail) ws (tailLength (r .info)) (h .whole-tail), drop-at (r .tail) ws (tailLength (r .info)) (h .whole-tail)) refl
+    rw (
+      h .known-kind,
+      le-leb _ _ fits,
+      take-at (r .tail) ws (tailLength (r .info)) (h .whole-tail),
+      drop-at (r .tail) ws (tailLength (r .info)) (h .whole-tail),
+    )
+    refl
 
 -- the record of a head and the words behind it
 abbrev pub recordFrom : ℕ → ℕ → ℕ → List ℕ → Record

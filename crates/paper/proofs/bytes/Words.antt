@@ -83,7 +83,8 @@ module _ (order : Order) where
   pub wordAt-putWord : (b : List ℕ) (p w : ℕ) → p + 4 ≤ length b → w < 4294967296 → wordAt order (putWord order b p w) p ≡ w
   unfolding wordAt
   wordAt-putWord b p w h fits =
-      ap (firstWord order) (ap (drop p) (putWord-inside b p w h) ∙ drop-at (take p b) (wordBytes order w ++ drop (p + 4) b) p (length-take-le p b (omega arith)))
+      ap (firstWord order)
+      (ap (drop p) (putWord-inside b p w h) ∙ drop-at (take p b) (wordBytes order w ++ drop (p + 4) b) p (length-take-le p b (omega arith)))
       ∙ firstWord-wordBytes order w (drop (p + 4) b) fits
 
 -- the four stores of code that writes low byte first

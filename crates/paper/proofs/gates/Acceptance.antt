@@ -56,7 +56,8 @@ module _ (b : List ℕ) (places work : ℕ) where
     unfolding walk
     readable-walk =
         let s = r .section in
-        ap (walkFrom typeLimit 1 headerLength) (sym (s .flat-found)) ∙ walkFrom-flat typeLimit 1 headerLength (tableOf b .records) (s .whole-found) (s .few-found)
+        ap (walkFrom typeLimit 1 headerLength) (sym (s .flat-found))
+        ∙ walkFrom-flat typeLimit 1 headerLength (tableOf b .records) (s .whole-found) (s .few-found)
 
     pub readable-phase2 : phase2 b ≡ none
     unfolding phase2

@@ -56,7 +56,8 @@ module _ (b : List ℕ) (places work : ℕ) where
   -- accepted, and then with the count
   pub answer-accepted : {x : Answer} → x ≡ gate b places work .answer → x .number ≡ 0 → (refusal b places work ≡ none) × (x ≡ accepted (count (tableOf b)))
   answer-accepted e z =
-      let s = said-none (refusal b places work) (accepted (count (tableOf b))) (says-some 1 15 (omega arith) (refusal b places work) (refusal-number b places work))
+      let s = said-none (refusal b places work) (accepted (count (tableOf b)))
+      (says-some 1 15 (omega arith) (refusal b places work) (refusal-number b places work))
       (ap (λ (a : Answer). a .number) (sym (e ∙ gate-said)) ∙ z) in
       (s .0, e ∙ gate-said ∙ s .1)
 

@@ -163,7 +163,8 @@ module _ (T : Table) where
   unfolding tableReport phase3 phase4 phase5 phase6 headBad nameBad tailBad refBad layoutBad
   sound-tableReport s =
       none-orElse
-      (none-overTypes phase3 (λ t low high. none-firstDue (phase3 T t) (ap not (s t low high .heads), (ap not (s t low high .names), (ap not (s t low high .tails), tt)))))
+      (none-overTypes phase3
+      (λ t low high. none-firstDue (phase3 T t) (ap not (s t low high .heads), (ap not (s t low high .names), (ap not (s t low high .tails), tt)))))
       (none-orElse (none-overTypes phase4 (λ t low high. none-firstDue (phase4 T t) (ap not (s t low high .refs), tt)))
       (none-orElse (none-overTypes phase5 (λ t low high. none-firstDue (phase5 T t) (s t low high .ends, tt)))
       (none-overTypes phase6 (λ t low high. none-firstDue (phase6 T t) (ap not (s t low high .layouts), tt)))))

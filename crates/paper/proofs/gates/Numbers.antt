@@ -9,7 +9,8 @@ use lib.Dec.{leb}
 use lib.ListN.{length, take, drop}
 use Rattle.paper.specs.rules.Answer.{Answer}
 use Rattle.paper.specs.rules.Choice.{Rule, _when_, firstDue, orElse}
-use Rattle.paper.specs.rules.Gate.{namingAt, naming, phase1, walkReport, phase2, sliceRules, shortSlices, firstOf, phase3, phase4, phase5, phase6, overTypes, tableReport, refusal}
+use Rattle.paper.specs.rules.Gate.{namingAt, naming, phase1, walkReport, phase2, sliceRules, shortSlices}
+use Rattle.paper.specs.rules.Gate.{firstOf, phase3, phase4, phase5, phase6, overTypes, tableReport, refusal}
 use Rattle.paper.specs.rules.Header.{headerLength, headerRules, headerReport}
 use Rattle.paper.specs.rules.Join.{refusedInside, limitRules, limitReport, joinRefusal}
 use Rattle.paper.specs.rules.Limits.{typeLimit}
@@ -42,7 +43,8 @@ module _ (P : ℕ → Type 0) where
   says-firstOf : (place : ℕ → ℕ) (rules : ℕ → List Rule) → ((t : ℕ) → Numbers (rules t)) → (left k : ℕ) → Says (firstOf place rules left k)
   says-firstOf place rules h zero k = tt
   says-firstOf place rules h (suc left) k =
-      says-orElse (namingAt k (place k) (firstDue (rules k))) (firstOf place rules left (suc k)) (says-namingAt k (place k) (rules k) (h k)) (says-firstOf place rules h left (suc k))
+      says-orElse (namingAt k (place k) (firstDue (rules k))) (firstOf place rules left (suc k)) (says-namingAt k (place k) (rules k) (h k))
+      (says-firstOf place rules h left (suc k))
 
   pub says-overTypes : (phase : Table → ℕ → List Rule) (T : Table) → ((t : ℕ) → Numbers (phase T t)) → Says (overTypes phase T)
   unfolding overTypes

@@ -20,7 +20,8 @@ use Rattle.paper.specs.rules.Header.{headerLength, orderOf}
 use Rattle.paper.specs.rules.Kind.{Row, SizeRule, eight, sizeWord, countTimes, referent, noSize, rows, rowOf}
 use Rattle.paper.specs.rules.KindNo.{ARRAY}
 use Rattle.paper.specs.rules.References.{refsOk}
-use Rattle.paper.specs.rules.Size.{Step, is, manyOf, sizeless, lost, Found, exactly, noneAt, lostAt, tooFar, stepBy, scale, goOn, sizeBy, stepIn, sizeFound, exactSize, answerOf, stepAtPlace, stepAt, sizeAsked, sizeAnswer, sizeOf}
+use Rattle.paper.specs.rules.Size.{Step, is, manyOf, sizeless, lost, Found, exactly, noneAt, lostAt, tooFar, stepBy, scale, goOn, sizeBy}
+use Rattle.paper.specs.rules.Size.{stepIn, sizeFound, exactSize, answerOf, stepAtPlace, stepAt, sizeAsked, sizeAnswer, sizeOf}
 use Rattle.paper.specs.rules.Table.{Record, Table, count, recordAt, kindIn, kindOf, tailLength, wordsOf}
 use Rattle.paper.specs.rules.Walk.{known, bytesOf, placesOf}
 use Rattle.paper.specs.rules.Word.{Order, wordAt}
@@ -134,7 +135,9 @@ module _ (order : Order) (T : Table) (fits : Fits T) (refs : (t : ℕ) → 1 ≤
         (stepBy (rowOf (kindIn w) .size) (wordAt (orderOf b) b (p + 8)) (wordAt (orderOf b) b (p + 12)) (wordAt (orderOf b) b (p + 20)))
         lost)
         (word 1 (omega arith))
-        ∙ ap (λ (c : Bool). cond c (stepBy (rowOf (kindOf r) .size) (wordAt (orderOf b) b (p + 8)) (wordAt (orderOf b) b (p + 12)) (wordAt (orderOf b) b (p + 20))) lost)
+        ∙ ap (λ (c : Bool). cond c
+        (stepBy (rowOf (kindOf r) .size) (wordAt (orderOf b) b (p + 8)) (wordAt (orderOf b) b (p + 12)) (wordAt (orderOf b) b (p + 20)))
+        lost)
         (and-true (and-true (and-true (le-leb headerLength p (place-low T t h)) (le-leb (p + 12) (length b) (inside-blob 3 (omega arith))))
         (whole-at (T .records) (fits .whole) t h .known-kind))
         (only-if (eqb (kindOf r) ARRAY) (λ e. le-leb (p + 24) (length b) (array-inside (eqb-true (kindOf r) ARRAY e)))))

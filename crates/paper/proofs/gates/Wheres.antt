@@ -142,7 +142,8 @@ place-bytes b bytes r zero low high = absurd (omega arith)
 place-bytes b bytes r (suc t) low high =
     let T = tableOf b in
     let ws = wordsOf (recordAt T (suc t)) in
-    ap (λ (s : List ℕ). take (4 * length ws) (drop (getD (placesOf T) t 0) s)) (sym (bytesOf-words b bytes (r .header) T (r .section .flat-found) (strings-tableOf b)))
+    ap (λ (s : List ℕ). take (4 * length ws) (drop (getD (placesOf T) t 0) s))
+    (sym (bytesOf-words b bytes (r .header) T (r .section .flat-found) (strings-tableOf b)))
     ∙ ap (take (4 * length ws)) (place-record (orderOf b) T t high)
     ∙ take-at (bytesOfWords (orderOf b) ws) _ (4 * length ws) (length-bytesOfWords (orderOf b) ws)
 
@@ -176,7 +177,8 @@ spoken-place (sixth q r v s) = (s .low, s .high, s .placed)
 
 module _ (b : List ℕ) (places work : ℕ) (a : Answer) (e : refusal b places work ≡ some a) where
   -- which of the phases has said it
-  from-phases : (phase1 b ≡ some a) ⊎ ((phase1 b ≡ none) × ((phase2 b ≡ some a) ⊎ ((shortSlices (count (tableOf b)) places work ≡ some a) ⊎ (tableReport (tableOf b) ≡ some a))))
+  from-phases : (phase1 b ≡ some a)
+      ⊎ ((phase1 b ≡ none) × ((phase2 b ≡ some a) ⊎ ((shortSlices (count (tableOf b)) places work ≡ some a) ⊎ (tableReport (tableOf b) ≡ some a))))
   unfolding refusal
   from-phases =
       ⊎-elim inl
@@ -194,7 +196,8 @@ module _ (b : List ℕ) (places work : ℕ) (a : Answer) (e : refusal b places w
   report-bare bare =
       ⊎-elim (λ one. bare-rest (naming-bare (headerReport b) a one))
       (λ later. ⊎-elim (λ two. absurd (not-bare bare (said-number WalkNo (says-phase2 WalkNo (omega arith) (omega arith) (omega arith) b) two)))
-      (⊎-elim (λ nine. bare-rest (naming-bare (firstDue (sliceRules (count (tableOf b)) places work)) a nine)) (λ late. absurd (late-bare bare (said-number (λ (n : ℕ). 10 ≤ n) (says-tableReport (tableOf b)) late))))
+      (⊎-elim (λ nine. bare-rest (naming-bare (firstDue (sliceRules (count (tableOf b)) places work)) a nine))
+      (λ late. absurd (late-bare bare (said-number (λ (n : ℕ). 10 ≤ n) (says-tableReport (tableOf b)) late))))
       (later .1))
       from-phases
     where
@@ -247,7 +250,8 @@ module _ (b : List ℕ) (places work : ℕ) (a : Answer) (e : refusal b places w
         (omega (arith, s .placed, s .some-left, sizes, typeWords-length b f, f .sum), omega (arith, s .placed))
 
   -- for 10 to 15 the bytes of the named type's record stand there
-  pub report-bytes : Bytes b → 10 ≤ a .number → take (4 * length (wordsOf (recordAt (tableOf b) (a .t)))) (drop (a .p) b) ≡ bytesOfWords (orderOf b) (wordsOf (recordAt (tableOf b) (a .t)))
+  pub report-bytes : Bytes b → 10 ≤ a .number
+      → take (4 * length (wordsOf (recordAt (tableOf b) (a .t)))) (drop (a .p) b) ≡ bytesOfWords (orderOf b) (wordsOf (recordAt (tableOf b) (a .t)))
   report-bytes bytes late =
       let r = refusal-spoken b places work a e late in
       let s = spoken-place (r .1) in

@@ -41,7 +41,8 @@ joinFull-bytes : (out a b : List ℕ) → length out ≡ byteLimit
     → joinFull out a b ≡ unless (joinRefusal a b fullPlaces fullPlaces byteLimit) (joinedBytes a b)
 unfolding joinFull join
 joinFull-bytes out a b e =
-    outcome-handed (joinedBytes a b) fullPlaces fullPlaces out (joinRefusal a b fullPlaces fullPlaces (length out)) (joinRefusal-number a b fullPlaces fullPlaces (length out))
+    outcome-handed (joinedBytes a b) fullPlaces fullPlaces out (joinRefusal a b fullPlaces fullPlaces (length out))
+    (joinRefusal-number a b fullPlaces fullPlaces (length out))
     ∙ ap (λ (room : ℕ). unless (joinRefusal a b fullPlaces fullPlaces room) (joinedBytes a b)) e
 
 -- so what an output of full size held before does not matter
@@ -65,7 +66,8 @@ limits-unless false false bytes = refl
 
 -- two accepted tables are joined unless the limits forbid it
 joined-unless : (a b : List ℕ) → Accepted a → Accepted b
-    → unless (joinRefusal a b fullPlaces fullPlaces byteLimit) (joinedBytes a b) ≡ cond (withinLimits (joinTables (tableOf a) (tableOf b))) (some (joinedBytes a b)) none
+    → unless (joinRefusal a b fullPlaces fullPlaces byteLimit) (joinedBytes a b)
+    ≡ cond (withinLimits (joinTables (tableOf a) (tableOf b))) (some (joinedBytes a b)) none
 unfolding joinRefusal limitReport joinedBytes
 joined-unless a b p q =
     let A = tableOf a in

@@ -121,7 +121,8 @@ module _ (order : Order) (T : Table) (g : Good T) (f : (withinLimits T ≡ true)
   withinLimits-accepted : Accepted (bytesOf order T)
   withinLimits-accepted =
       let n = leb-true (count T) typeLimit (and-left (leb (count T) typeLimit) _ e) in
-      good-accepted order T g (f e) (leb-true (blobLength T) byteLimit (and-right (leb (count T) typeLimit) _ e)) fullPlaces fullPlaces (omega arith) (omega arith)
+      good-accepted order T g (f e) (leb-true (blobLength T) byteLimit (and-right (leb (count T) typeLimit) _ e))
+      fullPlaces fullPlaces (omega arith) (omega arith)
 
   withinLimits-table : tableOf (bytesOf order T) ≡ T
   withinLimits-table = tableOf-bytesOf order T (f e)
@@ -129,7 +130,8 @@ module _ (order : Order) (T : Table) (g : Good T) (f : (withinLimits T ≡ true)
 fits-withinLimits : (A B : Table) → Good A → Good B → Fits A → Fits B → withinLimits (joinTables A B) ≡ true → Fits (joinTables A B)
 fits-withinLimits A B a b fa fb e =
     let J = joinTables A B in
-    fits-join A B a b fa fb (leb-true (count J) typeLimit (and-left (leb (count J) typeLimit) _ e)) (leb-true (blobLength J) byteLimit (and-right (leb (count J) typeLimit) _ e))
+    fits-join A B a b fa fb (leb-true (count J) typeLimit (and-left (leb (count J) typeLimit) _ e))
+    (leb-true (blobLength J) byteLimit (and-right (leb (count J) typeLimit) _ e))
 
 -- a join whose bytes go into the next: within the limits both are made, else nothing is
 grouped : (o p : Order) (XY J : Table) (next : List ℕ → Option (List ℕ)) → (withinLimits XY ≡ true → next (bytesOf o XY) ≡ result p J)
@@ -149,7 +151,8 @@ fits b bytes p = accepted-fits b fullPlaces fullPlaces p bytes
 
 module _ (a b c : List ℕ) (ba : Bytes a) (bb : Bytes b) (bc : Bytes c) (p : Accepted a) (q : Accepted b) (r : Accepted c) where
   module _ (o o′ : List ℕ) (full : length o ≡ byteLimit) (full′ : length o′ ≡ byteLimit) where
-    left-grouped : andThen (joinFull o a b) (λ (ab : List ℕ). joinFull o′ ab c) ≡ result (orderOf a) (joinTables (joinTables (tableOf a) (tableOf b)) (tableOf c))
+    left-grouped : andThen (joinFull o a b) (λ (ab : List ℕ). joinFull o′ ab c)
+        ≡ result (orderOf a) (joinTables (joinTables (tableOf a) (tableOf b)) (tableOf c))
     unfolding joinedBytes
     left-grouped =
         let J = joinTables (tableOf a) (tableOf b) in
@@ -161,7 +164,8 @@ module _ (a b c : List ℕ) (ba : Bytes a) (bb : Bytes b) (bc : Bytes c) (p : Ac
         ∙ ap₂ (λ (o : Order) (T : Table). result o (joinTables T (tableOf c))) (order-bytesOf (orderOf a) J) (withinLimits-table (orderOf a) J g f e))
         (λ e. withinLimits-parts J (tableOf c) (g .closed) (good c r .closed) e .0)
 
-    right-grouped : andThen (joinFull o b c) (λ (bc : List ℕ). joinFull o′ a bc) ≡ result (orderOf a) (joinTables (tableOf a) (joinTables (tableOf b) (tableOf c)))
+    right-grouped : andThen (joinFull o b c) (λ (bc : List ℕ). joinFull o′ a bc)
+        ≡ result (orderOf a) (joinTables (tableOf a) (joinTables (tableOf b) (tableOf c)))
     unfolding joinedBytes
     right-grouped =
         let J = joinTables (tableOf b) (tableOf c) in
@@ -169,7 +173,8 @@ module _ (a b c : List ℕ) (ba : Bytes a) (bb : Bytes b) (bc : Bytes c) (p : Ac
         let f = fits-withinLimits (tableOf b) (tableOf c) (good b q) (good c r) (fits b bb q) (fits c bc r) in
         ap (λ (x : Option (List ℕ)). andThen x (λ (bc : List ℕ). joinFull o′ a bc)) (joined-accepted o b c full q r)
         ∙ grouped (orderOf b) (orderOf a) J (joinTables (tableOf a) J) (λ (bc : List ℕ). joinFull o′ a bc)
-        (λ e. joined-accepted o′ a (bytesOf (orderOf b) J) full′ p (withinLimits-accepted (orderOf b) J g f e) ∙ ap (λ (T : Table). result (orderOf a) (joinTables (tableOf a) T)) (withinLimits-table (orderOf b) J g f e))
+        (λ e. joined-accepted o′ a (bytesOf (orderOf b) J) full′ p (withinLimits-accepted (orderOf b) J g f e)
+        ∙ ap (λ (T : Table). result (orderOf a) (joinTables (tableOf a) T)) (withinLimits-table (orderOf b) J g f e))
         (λ e. withinLimits-parts (tableOf a) J (good a p .closed) (g .closed) e .1)
 
 -- nothing is handed on where the next join refuses whatever it is given

@@ -64,7 +64,9 @@ closed-join A B a b =
     record {
       filled = omega arith;
       first = List·getD-append (A .strings) (drop 1 (B .strings)) 0 0 fa ∙ a .first;
-      last = ap (λ (i : ℕ). getD (A .strings ++ drop 1 (B .strings)) i 0) (sym end) ∙ last-append (A .strings) (B .strings) a b (length (B .strings) - 1) (omega arith);
+      last =
+          ap (λ (i : ℕ). getD (A .strings ++ drop 1 (B .strings)) i 0) (sym end)
+          ∙ last-append (A .strings) (B .strings) a b (length (B .strings) - 1) (omega arith);
     }
 
 -- ── its records are whole ──
@@ -116,7 +118,8 @@ module _ (A B : Table) (types : count A + count B < wordBound) (strings : length
   up-flat [] h b = tt
   up-flat (r ∷ rs) h b =
       let up = raised A in
-      below-append wordBound (wordsOf (up r)) (flat (map up rs)) (up-words (rolesOf r) (wordsOf r) (h 0 (omega arith)) (below-left wordBound (wordsOf r) (flat rs) b))
+      below-append wordBound (wordsOf (up r)) (flat (map up rs))
+      (up-words (rolesOf r) (wordsOf r) (h 0 (omega arith)) (below-left wordBound (wordsOf r) (flat rs) b))
       (up-flat rs (λ i l. h (suc i) (omega arith)) (below-right wordBound (wordsOf r) (flat rs) b))
 
 pub fits-join : (A B : Table) → Good A → Good B → Fits A → Fits B → count (joinTables A B) ≤ typeLimit

@@ -48,7 +48,10 @@ module _ {A B : Table} {type name : ℕ → ℕ} (R : Renaming A B type name) (g
         tails = ap tailOk e ∙ tailOk-rename R r (good-whole A g t low high) ∙ s t low high .tails;
         refs = ap (refsOk B) e ∙ refsOk-rename R r (in-A t high) ∙ s t low high .refs;
         ends = endless-rename R in-A t high (s t low high .ends);
-        layouts = ap (layoutOk B) e ∙ layoutOk-rename R (sound-refs s) (sound-ends s) in-A (good-whole A g) r (s t low high .refs) (in-A t high) (good-whole A g t low high) ∙ s t low high .layouts;
+        layouts =
+            ap (layoutOk B) e
+            ∙ layoutOk-rename R (sound-refs s) (sound-ends s) in-A (good-whole A g) r (s t low high .refs) (in-A t high) (good-whole A g t low high)
+            ∙ s t low high .layouts;
       }
 
   pub size-rename : (t : ℕ) → t ≤ count A → exactSize B (type t) ≡ exactSize A t

@@ -43,7 +43,10 @@ opened (x ∷ s) c = ap {B = List ℕ} (λ y. y ∷ s) (sym (c .first))
 pub joinTables-empty-left : (B : Table) → Closed (B .strings) → joinTables emptyTable B ≡ B
 unfolding joinTables
 joinTables-empty-left B c =
-    λ i. record { records = map-same (rename (raise 0) (raise 0)) (λ r. (λ j. rename (λ n. raise-none n j) (λ n. raise-none n j) r) ∙ rename-id r) (B .records) i; strings = opened (B .strings) c i }
+    λ i. record {
+      records = map-same (rename (raise 0) (raise 0)) (λ r. (λ j. rename (λ n. raise-none n j) (λ n. raise-none n j) r) ∙ rename-id r) (B .records) i;
+      strings = opened (B .strings) c i;
+    }
 
 pub joinTables-empty-right : (A : Table) → joinTables A emptyTable ≡ A
 unfolding joinTables
@@ -74,7 +77,8 @@ module _ (out : List ℕ) (full : length out ≡ byteLimit) (b : List ℕ) (byte
   handed-back order T o e =
       ap₂ (λ (o : Order) (U : Table). cond (withinLimits U) (some (bytesOf o U)) none) o e
       ∙ ap (λ (t : Bool). cond t (some (bytesOf (orderOf b) (tableOf b))) none)
-      (and-true (le-leb (count (tableOf b)) typeLimit (accepted-fits b fullPlaces fullPlaces p bytes .types-fit)) (le-leb (blobLength (tableOf b)) byteLimit (accepted-short b fullPlaces fullPlaces p bytes)))
+      (and-true (le-leb (count (tableOf b)) typeLimit (accepted-fits b fullPlaces fullPlaces p bytes .types-fit))
+      (le-leb (blobLength (tableOf b)) byteLimit (accepted-short b fullPlaces fullPlaces p bytes)))
       ∙ ap {B = Option (List ℕ)} some (accepted-bytes b fullPlaces fullPlaces p bytes)
 
   pub join-empty-left : joinFull out empty b ≡ some b
@@ -88,4 +92,5 @@ module _ (out : List ℕ) (full : length out ≡ byteLimit) (b : List ℕ) (byte
   unfolding joinedBytes
   join-empty-right =
       joined-accepted out b empty full p (empty-accepted (orderOf b))
-      ∙ handed-back (orderOf b) (joinTables (tableOf b) (tableOf empty)) refl (ap (joinTables (tableOf b)) (empty-table (orderOf b)) ∙ joinTables-empty-right (tableOf b))
+      ∙ handed-back (orderOf b) (joinTables (tableOf b) (tableOf empty)) refl
+      (ap (joinTables (tableOf b)) (empty-table (orderOf b)) ∙ joinTables-empty-right (tableOf b))

@@ -47,7 +47,13 @@ renameWords-id (ρ ∷ ρs) (w ∷ ws) = ap₂ {C = List ℕ} _∷_ (renameWord-
 
 pub rename-id : (r : Record) → rename (λ n. n) (λ n. n) r ≡ r
 unfolding rename
-rename-id r = λ i. record { nameOff = r .nameOff; info = r .info; third = renameWord-id (rowIn r .thirdRole) (r .third) i; tail = renameWords-id (tailRoles r) (r .tail) i }
+rename-id r =
+    λ i. record {
+      nameOff = r .nameOff;
+      info = r .info;
+      third = renameWord-id (rowIn r .thirdRole) (r .third) i;
+      tail = renameWords-id (tailRoles r) (r .tail) i;
+    }
 
 module _ (type name : ℕ → ℕ) where
   pub length-renameWords : (ρs : List Role) (ws : List ℕ) → length (renameWords type name ρs ws) ≡ length ws
@@ -80,7 +86,13 @@ module _ (type name : ℕ → ℕ) where
 
     pub rename-compose : (r : Record) → rename type′ name′ (rename type name r) ≡ rename (λ n. type′ (type n)) (λ n. name′ (name n)) r
     unfolding rename tailRoles
-    rename-compose r = λ i. record { nameOff = name′ (name (r .nameOff)); info = r .info; third = renameWord-compose (rowIn r .thirdRole) (r .third) i; tail = renameWords-compose (tailRoles r) (r .tail) i }
+    rename-compose r =
+        λ i. record {
+          nameOff = name′ (name (r .nameOff));
+          info = r .info;
+          third = renameWord-compose (rowIn r .thirdRole) (r .third) i;
+          tail = renameWords-compose (tailRoles r) (r .tail) i;
+        }
 
 -- the shift of a record by two joins, one after the other, is one shift: once for all kinds
 pub raise-compose : (a b c d : ℕ) (r : Record) → rename (raise a) (raise c) (rename (raise b) (raise d) r) ≡ rename (raise (a + b)) (raise (c + d)) r

@@ -10,12 +10,14 @@ use lib.ListN.{length}
 use Rattle.paper.proofs.basics.Choices.{and-left, and-right}
 use Rattle.paper.proofs.basics.Rows.{isReference, each-reference, allowed-third}
 use Rattle.paper.specs.rules.Heads.{allowed, spareZero, headOk}
-use Rattle.paper.specs.rules.Kind.{NameRule, offset0, anyName, offset0OrIdentifier, identifier, nonEmpty, sectionName, RefRule, Role, names, refers, holds, number}
+use Rattle.paper.specs.rules.Kind.{NameRule, offset0, anyName, offset0OrIdentifier, identifier, nonEmpty, sectionName}
+use Rattle.paper.specs.rules.Kind.{RefRule, Role, names, refers, holds, number}
 use Rattle.paper.specs.rules.Name.{nameIn, isIdentifier}
 use Rattle.paper.specs.rules.Names.{nameFits, nameOk, nameWordOk, namesOk}
 use Rattle.paper.specs.rules.References.{mayBeVoid, mayBeKind, refOk, refWordOk, refsOk}
 use Rattle.paper.specs.rules.Rename.{renameWord, renameWords, rename}
-use Rattle.paper.specs.rules.Table.{Record, Table, count, recordAt, kindOf, kindAt, flagOf, vlenOf, rowIn, tailRoles, rolesOf, wordsOf, everyRoled, everyWord}
+use Rattle.paper.specs.rules.Table.{Record, Table, count, recordAt, kindOf, kindAt, flagOf, vlenOf}
+use Rattle.paper.specs.rules.Table.{rowIn, tailRoles, rolesOf, wordsOf, everyRoled, everyWord}
 
 -- new numbers for the types and names of A, under which B has the renamed records and the same names
 pub record Renaming (A B : Table) (type name : ℕ → ℕ) : Type 0 where

@@ -12,8 +12,10 @@ use lib.ListN.{length, getD}
 use Rattle.paper.proofs.basics.Choices.{and-left, and-right, when-same, if-same, cond-cong, every-map, member-each}
 use Rattle.paper.proofs.renaming.Renaming.{Renaming, inside, Inside}
 use Rattle.paper.proofs.renaming.RenamingSizes.{type-0, name-0, getD-rename, exactSize-rename}
-use Rattle.paper.proofs.renaming.RenamingSpans.{renameMember, renameEntry, memberRoles, entryRoles, membersIn-rename, entriesIn-rename, members-every, entries-every, placedFrom-rename, offsets-rename, isRegular-rename, spanOf-rename, entryCovers-rename}
-use Rattle.paper.proofs.renaming.RenamingTails.{renameParameter, tailRoles-kind, tail-length, tail-number, third-role, parametersOf-rename, isLast00-rename}
+use Rattle.paper.proofs.renaming.RenamingSpans.{renameMember, renameEntry, memberRoles, entryRoles, membersIn-rename, entriesIn-rename, members-every}
+use Rattle.paper.proofs.renaming.RenamingSpans.{entries-every, placedFrom-rename, offsets-rename, isRegular-rename, spanOf-rename, entryCovers-rename}
+use Rattle.paper.proofs.renaming.RenamingTails.{renameParameter, tailRoles-kind, tail-length, tail-number}
+use Rattle.paper.proofs.renaming.RenamingTails.{third-role, parametersOf-rename, isLast00-rename}
 use Rattle.paper.specs.rules.Chain.{endless}
 use Rattle.paper.specs.rules.Choice.{times, every, member, isSome}
 use Rattle.paper.specs.terms.Fit.{Whole}
@@ -63,7 +65,10 @@ module _ {A B : Table} {type name : ℕ → ℕ} (R : Renaming A B type name)
   tail-ref : (r : Record) (c i : ℕ) → kindOf r ≡ c → ((v : ℕ) → isRef (getD (rowOf c .once ++ times v (rowOf c .each)) i number) ≡ true)
       → Inside A r → (getD (rename type name r .tail) i 0 ≡ type (getD (r .tail) i 0)) × (getD (r .tail) i 0 ≤ count A)
   unfolding rename
-  tail-ref r c i e h in-A = (getD-rename type name (type-0 R) (name-0 R) i (tailRoles r) (r .tail) ∙ go (getD (tailRoles r) i number) role, inside-at A i (tailRoles r) (r .tail) (inside-tail A r in-A) role)
+  tail-ref r c i e h in-A = (
+    getD-rename type name (type-0 R) (name-0 R) i (tailRoles r) (r .tail) ∙ go (getD (tailRoles r) i number) role,
+    inside-at A i (tailRoles r) (r .tail) (inside-tail A r in-A) role,
+  )
     where
       role : isRef (getD (tailRoles r) i number) ≡ true
       role = ap (λ (ρs : List Role). isRef (getD ρs i number)) (tailRoles-kind r c e) ∙ h (vlenOf r)
@@ -113,7 +118,8 @@ module _ {A B : Table} {type name : ℕ → ℕ} (R : Renaming A B type name)
       → (rename type name r .third ≡ r .third) × (tailRoles r ≡ times (vlenOf r) memberRoles) × (Whole r → length (r .tail) ≡ 0 + vlenOf r * 3)
   unfolding memberRoles rowOf rows
   members-kind r e =
-      member-each (λ (c : ℕ). kindOf r ≡ c → (rename type name r .third ≡ r .third) × (tailRoles r ≡ times (vlenOf r) memberRoles) × (Whole r → length (r .tail) ≡ 0 + vlenOf r * 3))
+      member-each (λ (c : ℕ). kindOf r ≡ c
+      → (rename type name r .third ≡ r .third) × (tailRoles r ≡ times (vlenOf r) memberRoles) × (Whole r → length (r .tail) ≡ 0 + vlenOf r * 3))
       (kindOf r) (STRUCT ∷ UNION ∷ []) e (
         (λ k. (third-role R r STRUCT k refl, tailRoles-kind r STRUCT k, λ w. tail-length r STRUCT w k)),
         ((λ k. (third-role R r UNION k refl, tailRoles-kind r UNION k, λ w. tail-length r UNION w k)), tt),
@@ -172,7 +178,8 @@ module _ {A B : Table} {type name : ℕ → ℕ} (R : Renaming A B type name)
   proto-of : (r : Record) → refsOk A r ≡ true → kindOf r ≡ FUNC → kindAt A (r .third) ≡ FUNC-PROTO
   unfolding refsOk refOk rowOf rows
   proto-of r ok e =
-      let third = and-left (refWordOk A (rowOf (kindOf r) .thirdRole) (r .third)) _ (and-right (refWordOk A (names (rowOf (kindOf r) .name)) (r .nameOff)) _ ok) in
+      let third =
+      and-left (refWordOk A (rowOf (kindOf r) .thirdRole) (r .third)) _ (and-right (refWordOk A (names (rowOf (kindOf r) .name)) (r .nameOff)) _ ok) in
       eqb-true (kindAt A (r .third)) FUNC-PROTO (ap (λ (k : ℕ). refWordOk A (rowOf k .thirdRole) (r .third)) (sym e) ∙ third)
 
   functionOk-rename : (r : Record) → refsOk A r ≡ true → Inside A r → kindOf r ≡ FUNC → functionOk B (rename type name r) ≡ functionOk A r

@@ -22,7 +22,8 @@ use Rattle.paper.specs.rules.References.{refsOk}
 use Rattle.paper.specs.rules.Rename.{renameWords, rename}
 use Rattle.paper.specs.rules.Section.{Entry, entriesIn, coversSize, entryCovers, placedFrom}
 use Rattle.paper.specs.rules.Size.{exactSize, within, smallSize}
-use Rattle.paper.specs.rules.Span.{Member, membersIn, isRegularWord, isRegular, bitOffset, fieldWidth, spanIf, wholeSpan, plainSpan, fieldSpan, spanOfSize, spanOf, baseOf}
+use Rattle.paper.specs.rules.Span.{Member, membersIn, isRegularWord, isRegular, bitOffset, fieldWidth}
+use Rattle.paper.specs.rules.Span.{spanIf, wholeSpan, plainSpan, fieldSpan, spanOfSize, spanOf, baseOf}
 use Rattle.paper.specs.rules.Table.{Record, Table, count, recordAt, kindOf, everyRoled}
 use Rattle.paper.specs.rules.Tails.{offsetIn, widthIn}
 

@@ -58,7 +58,8 @@ module _ {A B : Table} {type name : ℕ → ℕ} (R : Renaming A B type name) wh
 
   -- a prototype's words are its parameters', one by one
   parametersIn-rename : (v : ℕ) (ws : List ℕ) → length ws ≤ v * 2
-      → parametersIn (renameWords type name (times v (names offset0OrIdentifier ∷ refers voidOrPlain ∷ [])) ws) ≡ map (renameParameter type name) (parametersIn ws)
+      → parametersIn (renameWords type name (times v (names offset0OrIdentifier ∷ refers voidOrPlain ∷ [])) ws)
+      ≡ map (renameParameter type name) (parametersIn ws)
   parametersIn-rename zero [] h = refl
   parametersIn-rename zero (n ∷ ws) h = absurd (omega arith)
   parametersIn-rename (suc v) [] h = refl

@@ -98,7 +98,10 @@ module _ (step : ℕ → List ℕ) (n : ℕ) (inside : (t u : ℕ) → List·Mem
     where
       go : (z : Bool) → eqb (left (suc m)) (left m) ≡ z → Stable m ⊎ (left (suc m) < left m)
       go true x = inl (λ t low high h. tally-same (walks step (suc m)) (walks step m) (walks-fewer step m) n t (eqb-true _ _ x) low high h)
-      go false x = let ne = eqb-false (left (suc m)) (left m) x in let le = tally-mono (walks step (suc m)) (walks step m) (walks-fewer step m) n in inr (omega arith)
+      go false x =
+          let ne = eqb-false (left (suc m)) (left m) x in
+          let le = tally-mono (walks step (suc m)) (walks step m) (walks-fewer step m) n in
+          inr (omega arith)
 
   stable-by : (m : ℕ) → Stable m ⊎ (left m + m ≤ n)
   unfolding left

@@ -132,7 +132,8 @@ far-walks T (suc k) (suc t) e = go (stepIn T (suc t)) refl e (far-walks T k)
     go (manyOf n u) p q on =
         let x = scale-far n (sizeBy (stepIn T) k u) q in
         let ne : u ≡ 0 → ⊥ = λ v. let z = far (sym (ap (sizeBy (stepIn T) k) v ∙ sizeBy-void (stepIn T) k) ∙ x) in omega arith in
-        any-holds (walks (heldBy T) k) u (subst (λ (w : ℕ). List·Memᴰ w (heldBy T (suc t))) (ap next p) (step-held T (suc t) (λ v. ne (sym (ap next p) ∙ v)))) (on u x)
+        any-holds (walks (heldBy T) k) u
+        (subst (λ (w : ℕ). List·Memᴰ w (heldBy T (suc t))) (ap next p) (step-held T (suc t) (λ v. ne (sym (ap next p) ∙ v)))) (on u x)
 
 -- ── in a table whose references and chains are good ──
 

@@ -2,7 +2,8 @@
 use Prim.Native.Nat.{ℕ, _+_}
 use Rattle.paper.specs.rules.Limits.{typeLimit}
 use Rattle.paper.specs.declared.Report.{Report}
-use Rattle.paper.specs.declared.Report.the-variants.{Length, Opening, HeaderLength, Sections, Strings, RecordCut, UnknownKind, ManyTypes, SlicesShort, Head, Named, Tail, Reference, Endless, Layout}
+use Rattle.paper.specs.declared.Report.the-variants.{Length, Opening, HeaderLength, Sections, Strings, RecordCut, UnknownKind, ManyTypes, SlicesShort}
+use Rattle.paper.specs.declared.Report.the-variants.{Head, Named, Tail, Reference, Endless, Layout}
 use Rattle.paper.specs.declared.Checked.{Checked}
 use Rattle.paper.specs.declared.Checked.the-variants.{Accepted, Refused}
 use Rattle.paper.specs.declared.Sized.{Sized}

@@ -3,7 +3,8 @@ use Rattle.paper.specs.rules.Answer.{reportAsPaper, checkedAsPaper, size
 use Rattle.paper.specs.rules.Word.{wordAt, putWord}
 use Rattle.paper.specs.rules.Kind.{rows, rowOf}
 use Rattle.paper.specs.rules.Table.{tailLength, tailRoles}
-use Rattle.paper.specs.rules.Header.{orderOf, typeOff, typeLen, strOff, strLen, stringsIn, lengthBad, openingBad, headerLengthBad, sectionsBad, stringsBad, headerReport}
+use Rattle.paper.specs.rules.Header.{orderOf, typeOff, typeLen, strOff, strLen, stringsIn}
+use Rattle.paper.specs.rules.Header.{lengthBad, openingBad, headerLengthBad, sectionsBad, stringsBad, headerReport}
 use Rattle.paper.specs.rules.Walk.{walkRecord, typeWords, walk, tableOf, bytesOf, placesOf, placeAt}
 use Rattle.paper.specs.terms.Reading.{recordIn, roled}
 use Rattle.paper.specs.rules.Name.{nameIn, nameless, nameAt, isDigit, isLetter, isSectionName}

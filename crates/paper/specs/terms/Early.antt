@@ -24,7 +24,8 @@ pub data Fault (limit number t : ℕ) (left : List ℕ) : Type 0 where
   -- "head fits, kind 0 or 20 to 31"
   no-kind : number ≡ 7 → t ≤ limit → 3 ≤ length left → known (kindIn (getD left 1 0)) ≡ false → Fault limit number t left
   -- ".. or its tail"
-  tail-cut : number ≡ 6 → t ≤ limit → known (kindIn (getD left 1 0)) ≡ true → 3 ≤ length left → length left < 3 + tailLength (getD left 1 0) → Fault limit number t left
+  tail-cut : number ≡ 6 → t ≤ limit → known (kindIn (getD left 1 0)) ≡ true → 3 ≤ length left → length left < 3 + tailLength (getD left 1 0)
+      → Fault limit number t left
 
 -- which phase has spoken: every earlier one is silent
 pub data SpokenEarly (b : List ℕ) (places work : ℕ) (a : Answer) : Type 0 where

@@ -15,19 +15,24 @@ use Rattle.refs.proofs.entries_ok.Statement.{statement}
 use Rattle.refs.proofs.entries_ok.Tie as tie
 
 abbrev Inv-loop : tie.InvT-loop
-Inv-loop base b index view bytes kind v step r0 r1 r2 p₀ left₀ p left = Entering lowFirst (refWordOk (tableBy base b index view)) bytes (rowOf kind .each) p₀ v p left
+Inv-loop base b index view bytes kind v step r0 r1 r2 p₀ left₀ p left =
+    Entering lowFirst (refWordOk (tableBy base b index view)) bytes (rowOf kind .each) p₀ v p left
 
 abbrev μ-loop : tie.MeasureT-loop
 μ-loop base b index view bytes kind v step r0 r1 r2 p₀ left₀ p left = left
 
 -- the three words at a place are those of an entry
-here : (c : tie.After-three-ok Inv-loop μ-loop) → let l = c .before .before in let a = l .before .before .before .before .before .before .before .before .before .args in c .three-ok .result ≡ roled lowFirst (refWordOk (tableBy (now (a .base)) (now (a .b)) (now (a .index)) (a .view))) (now (a .bytes)) (l .loop .p) (rowOf (a .kind) .each)
+here : (c : tie.After-three-ok Inv-loop μ-loop) → let l = c .before .before in
+    let a = l .before .before .before .before .before .before .before .before .before .args in
+    c .three-ok .result
+    ≡ roled lowFirst (refWordOk (tableBy (now (a .base)) (now (a .b)) (now (a .index)) (a .view))) (now (a .bytes)) (l .loop .p) (rowOf (a .kind) .each)
 here c =
     let l = c .before .before in
     let r = l .before in
     let a = r .before .before .before .before .before .before .before .before .args in
     c .three-ok .ensures
-    ∙ three-codes lowFirst (refWordOk (tableBy (now (a .base)) (now (a .b)) (now (a .index)) (a .view))) (now (a .bytes)) (λ w. refl) (l .loop .p) (rowOf (a .kind) .each) (each-few (a .kind))
+    ∙ three-codes lowFirst (refWordOk (tableBy (now (a .base)) (now (a .b)) (now (a .index)) (a .view))) (now (a .bytes)) (λ w. refl) (l .loop .p)
+    (rowOf (a .kind) .each) (each-few (a .kind))
     (r .before .before .entry-role .ensures) (r .before .entry-role2 .ensures) (r .entry-role3 .ensures)
 
 entry-words-requires : tie.Need-entry-words-requires Inv-loop μ-loop
@@ -71,7 +76,8 @@ loop-again : tie.Need-loop-again Inv-loop μ-loop
 loop-again c =
     let l = c .before .before .before in
     let e = l .before .before .before .before in
-    entering-next (l .loop .inv) (c .before .before .loop-test .taken) (here (c .before)) (c .if1 .left) (e .entry-words .ensures) (each-few (e .before .before .before .before .before .args .kind))
+    entering-next (l .loop .inv) (c .before .before .loop-test .taken) (here (c .before)) (c .if1 .left) (e .entry-words .ensures)
+    (each-few (e .before .before .before .before .before .args .kind))
 
 returns-2 : tie.Need-returns-2 Inv-loop μ-loop
 returns-2 c = entering-done (c .before .loop .inv) (c .loop-test .left)

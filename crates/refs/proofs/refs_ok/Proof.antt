@@ -30,7 +30,8 @@ returns c =
     let t = c .before in
     let k = t .before .before .before in
     let a = k .before .before .before .before .before .before .args in
-    record-head lowFirst (refWordOk (tableBy (now (a .base)) (now (a .b)) (now (a .index)) (a .view))) (now (a .bytes)) (k .before .read .ensures) (k .kind-of .ensures)
+    record-head lowFirst (refWordOk (tableBy (now (a .base)) (now (a .b)) (now (a .index)) (a .view))) (now (a .bytes))
+    (k .before .read .ensures) (k .kind-of .ensures)
     (t .before .before .name-role .ensures) (t .before .third-role .ensures) (t .three-ok .ensures) (c .if1 .taken)
 
 tail-refs-ok-requires : tie.Need-tail-refs-ok-requires
@@ -42,7 +43,8 @@ returns-2 c =
     let t = c .before .before in
     let k = t .before .before .before in
     let a = k .before .before .before .before .before .before .args in
-    record-tail lowFirst (refWordOk (tableBy (now (a .base)) (now (a .b)) (now (a .index)) (a .view))) (now (a .bytes)) (k .before .read .ensures) (k .kind-of .ensures)
+    record-tail lowFirst (refWordOk (tableBy (now (a .base)) (now (a .b)) (now (a .index)) (a .view))) (now (a .bytes))
+    (k .before .read .ensures) (k .kind-of .ensures)
     (t .before .before .name-role .ensures) (t .before .third-role .ensures) (t .three-ok .ensures) (c .before .if1 .left) (c .tail-refs-ok .ensures)
 
 pub refs-ok-spec : {M : Type 1} → statement M

@@ -15,12 +15,15 @@ use Rattle.refs.proofs.tail_refs_ok.Statement.{statement}
 use Rattle.refs.proofs.tail_refs_ok.Tie as tie
 
 -- the three words behind the head are those that stand once
-once : (c : tie.After-three-ok) → let k = c .before .before .before .before in let a = k .before .before .before .before .before .args in c .three-ok .result ≡ roled lowFirst (refWordOk (tableBy (now (a .base)) (now (a .b)) (now (a .index)) (a .view))) (now (a .bytes)) 12 (rowOf (k .kind-of .result) .once)
+once : (c : tie.After-three-ok) → let k = c .before .before .before .before in let a = k .before .before .before .before .before .args in
+    c .three-ok .result
+    ≡ roled lowFirst (refWordOk (tableBy (now (a .base)) (now (a .b)) (now (a .index)) (a .view))) (now (a .bytes)) 12 (rowOf (k .kind-of .result) .once)
 once c =
     let k = c .before .before .before .before in
     let a = k .before .before .before .before .before .args in
     c .three-ok .ensures
-    ∙ three-codes lowFirst (refWordOk (tableBy (now (a .base)) (now (a .b)) (now (a .index)) (a .view))) (now (a .bytes)) (λ w. refl) 12 (rowOf (k .kind-of .result) .once) (once-few (k .kind-of .result))
+    ∙ three-codes lowFirst (refWordOk (tableBy (now (a .base)) (now (a .b)) (now (a .index)) (a .view))) (now (a .bytes)) (λ w. refl) 12
+    (rowOf (k .kind-of .result) .once) (once-few (k .kind-of .result))
     (c .before .before .before .once-role .ensures) (c .before .before .once-role2 .ensures) (c .before .once-role3 .ensures)
 
 kind-of-requires : tie.Need-kind-of-requires
@@ -42,7 +45,8 @@ returns : tie.Need-returns
 returns c =
     let k = c .before .before .before .before .before in
     let a = k .before .before .before .before .before .args in
-    tail-once lowFirst (refWordOk (tableBy (now (a .base)) (now (a .b)) (now (a .index)) (a .view))) (now (a .bytes)) (a .info) (k .kind-of .ensures) (once (c .before)) (c .if1 .taken)
+    tail-once lowFirst (refWordOk (tableBy (now (a .base)) (now (a .b)) (now (a .index)) (a .view))) (now (a .bytes)) (a .info) (k .kind-of .ensures)
+    (once (c .before)) (c .if1 .taken)
 
 once-words-requires : tie.Need-once-words-requires
 once-words-requires c κs = search needs
@@ -68,7 +72,8 @@ returns-2 c =
     let e = o .before in
     let k = e .before .before .before .before .before in
     let a = k .before .before .before .before .before .args in
-    tail-entries lowFirst (refWordOk (tableBy (now (a .base)) (now (a .b)) (now (a .index)) (a .view))) (now (a .bytes)) (a .info) (k .kind-of .ensures) (once (e .before)) (e .if1 .left)
+    tail-entries lowFirst (refWordOk (tableBy (now (a .base)) (now (a .b)) (now (a .index)) (a .view))) (now (a .bytes)) (a .info) (k .kind-of .ensures)
+    (once (e .before)) (e .if1 .left)
     (o .once-words .ensures) (c .before .vlen-of .ensures) (c .entries-ok .ensures)
 
 pub tail-refs-ok-spec : {M : Type 1} → statement M

@@ -17,7 +17,8 @@ returns : tie.Need-returns
 returns c =
     let w = c .before in
     let a = w .before .before .before .before .before .args in
-    three-first lowFirst (refWordOk (tableBy (now (a .base)) (now (a .b)) (now (a .index)) (a .view))) (now (a .bytes)) (a .at .0) (roleOf (a .r0)) (roleOf (a .r1)) (roleOf (a .r2)) (w .word-ok .ensures) (c .if1 .taken)
+    three-first lowFirst (refWordOk (tableBy (now (a .base)) (now (a .b)) (now (a .index)) (a .view))) (now (a .bytes)) (a .at .0) (roleOf (a .r0))
+    (roleOf (a .r1)) (roleOf (a .r2)) (w .word-ok .ensures) (c .if1 .taken)
 
 add-second : tie.Need-add-second
 add-second c = search needs
@@ -30,7 +31,8 @@ returns-2 c =
     let e = c .before .before in
     let w = e .before in
     let a = w .before .before .before .before .before .args in
-    three-second lowFirst (refWordOk (tableBy (now (a .base)) (now (a .b)) (now (a .index)) (a .view))) (now (a .bytes)) (a .at .0) (roleOf (a .r0)) (roleOf (a .r1)) (roleOf (a .r2)) (w .word-ok .ensures) (e .if1 .left)
+    three-second lowFirst (refWordOk (tableBy (now (a .base)) (now (a .b)) (now (a .index)) (a .view))) (now (a .bytes)) (a .at .0) (roleOf (a .r0))
+    (roleOf (a .r1)) (roleOf (a .r2)) (w .word-ok .ensures) (e .if1 .left)
     (c .before .word-ok2 .ensures) (c .if2 .taken)
 
 add-third : tie.Need-add-third
@@ -44,7 +46,8 @@ returns-3 c =
     let e = c .before .before .before in
     let w = e .before in
     let a = w .before .before .before .before .before .args in
-    three-third lowFirst (refWordOk (tableBy (now (a .base)) (now (a .b)) (now (a .index)) (a .view))) (now (a .bytes)) (a .at .0) (roleOf (a .r0)) (roleOf (a .r1)) (roleOf (a .r2)) (w .word-ok .ensures) (e .if1 .left)
+    three-third lowFirst (refWordOk (tableBy (now (a .base)) (now (a .b)) (now (a .index)) (a .view))) (now (a .bytes)) (a .at .0) (roleOf (a .r0))
+    (roleOf (a .r1)) (roleOf (a .r2)) (w .word-ok .ensures) (e .if1 .left)
     (c .before .before .word-ok2 .ensures) (c .before .if2 .left) (c .word-ok3 .ensures)
 
 pub three-ok-spec : {M : Type 1} → statement M

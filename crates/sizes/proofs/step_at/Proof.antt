@@ -43,7 +43,9 @@ step-of-requires : tie.Need-step-of-requires
 step-of-requires c κs = search needs
 
 returns-4 : tie.Need-returns-4
-returns-4 c = stepAt-part _ _ _ (c .before .before .before .before .before .if1 .left) (c .before .before .before .if2 .left) (c .before .before .if3 .left) (c .step-of .ensures)
+returns-4 c =
+    stepAt-part _ _ _ (c .before .before .before .before .before .if1 .left) (c .before .before .before .if2 .left)
+    (c .before .before .if3 .left) (c .step-of .ensures)
 
 pub step-at-spec : {M : Type 1} → statement M
 step-at-spec =

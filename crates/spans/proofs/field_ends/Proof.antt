@@ -27,7 +27,8 @@ returns-2 c =
     let e = c .before .before in
     let g = e .before in
     let a = g .before .before .args in
-    field-whole (recordIn lowFirst (now (a .bytes))) (a .offset) (a .size) (a .end) (g .regular-or-other .ensures) (e .if1 .left) (c .before .if2 .taken) (c .whole-ends .ensures)
+    field-whole (recordIn lowFirst (now (a .bytes))) (a .offset) (a .size) (a .end) (g .regular-or-other .ensures) (e .if1 .left)
+    (c .before .if2 .taken) (c .whole-ends .ensures)
 
 read-requires : tie.Need-read-requires
 read-requires c κs = search needs
@@ -46,7 +47,8 @@ returns-3 c =
     let e = z .before in
     let g = e .before in
     let a = g .before .before .args in
-    field-kind (recordIn lowFirst (now (a .bytes))) (a .offset) (a .size) (a .end) (g .regular-or-other .ensures) (e .if1 .left) (z .if2 .left) (kind-read _ refl (k .before .read .ensures) (k .kind-of .ensures)) (f .takes-field .ensures) (c .if3 .taken)
+    field-kind (recordIn lowFirst (now (a .bytes))) (a .offset) (a .size) (a .end) (g .regular-or-other .ensures) (e .if1 .left) (z .if2 .left)
+    (kind-read _ refl (k .before .read .ensures) (k .kind-of .ensures)) (f .takes-field .ensures) (c .if3 .taken)
 
 mul-if4 : tie.Need-mul-if4
 mul-if4 c = search needs
@@ -63,7 +65,8 @@ returns-4 c =
     let e = z .before in
     let g = e .before in
     let a = g .before .before .args in
-    field-wide (recordIn lowFirst (now (a .bytes))) (a .offset) (a .size) (a .end) (g .regular-or-other .ensures) (e .if1 .left) (z .if2 .left) (kind-read _ refl (k .before .read .ensures) (k .kind-of .ensures)) (f .takes-field .ensures) (h .if3 .left) (c .if4 .taken)
+    field-wide (recordIn lowFirst (now (a .bytes))) (a .offset) (a .size) (a .end) (g .regular-or-other .ensures) (e .if1 .left) (z .if2 .left)
+    (kind-read _ refl (k .before .read .ensures) (k .kind-of .ensures)) (f .takes-field .ensures) (h .if3 .left) (c .if4 .taken)
 
 cast-result : tie.Need-cast-result
 cast-result c = search needs
@@ -83,7 +86,8 @@ returns-5 c =
     let e = z .before in
     let g = e .before in
     let a = g .before .before .args in
-    field-on (recordIn lowFirst (now (a .bytes))) (a .offset) (a .size) (a .end) (g .regular-or-other .ensures) (e .if1 .left) (z .if2 .left) (kind-read _ refl (k .before .read .ensures) (k .kind-of .ensures)) (f .takes-field .ensures) (h .if3 .left) (c .if4 .left)
+    field-on (recordIn lowFirst (now (a .bytes))) (a .offset) (a .size) (a .end) (g .regular-or-other .ensures) (e .if1 .left) (z .if2 .left)
+    (kind-read _ refl (k .before .read .ensures) (k .kind-of .ensures)) (f .takes-field .ensures) (h .if3 .left) (c .if4 .left)
 
 pub field-ends-spec : {M : Type 1} → statement M
 field-ends-spec =

@@ -26,7 +26,9 @@ loop-less : tie.Need-loop-less Inv-loop μ-loop
 loop-less c = search needs
 
 loop-again : tie.Need-loop-again Inv-loop μ-loop
-loop-again c = summing-lent {n = c .before .before .loop .left} (omega (arith, c .before .loop-test .taken)) (c .before .before .loop .inv) (c .add .ensures .0) (c .add .ensures .1)
+loop-again c =
+    summing-lent {n = c .before .before .loop .left} (omega (arith, c .before .loop-test .taken)) (c .before .before .loop .inv)
+    (c .add .ensures .0) (c .add .ensures .1)
 
 cast-result : tie.Need-cast-result Inv-loop μ-loop
 cast-result c = omega (arith, c .before .loop .inv .small)

@@ -33,7 +33,8 @@ loop-less : tie.Need-loop-less Inv-loop μ-loop
 loop-less c = omega arith
 
 loop-again : tie.Need-loop-again Inv-loop μ-loop
-loop-again c = (omega arith, summing-byte _ _ (c .before .before .loop-test .taken) (c .before .before .before .loop .inv .1) (c .add .ensures .0) (c .add .ensures .1))
+loop-again c =
+    (omega arith, summing-byte _ _ (c .before .before .loop-test .taken) (c .before .before .before .loop .inv .1) (c .add .ensures .0) (c .add .ensures .1))
 
 cast-result : tie.Need-cast-result Inv-loop μ-loop
 cast-result c = omega arith

@@ -28,10 +28,14 @@ cast-p : tie.Need-cast-p
 cast-p c = omega (arith, c .shared-slice-known .given (c .before .before .before .before .args .t .0))
 
 returns-4 : tie.Need-returns-4
-returns-4 c = let l = c .before .before in starts _ _ _ _ (start-past _ _ _ _ (l .before .before .if1 .left) (l .before .if2 .left) (l .if3 .left) (c .if4 .taken))
+returns-4 c =
+    let l = c .before .before in
+    starts _ _ _ _ (start-past _ _ _ _ (l .before .before .if1 .left) (l .before .if2 .left) (l .if3 .left) (c .if4 .taken))
 
 returns-5 : tie.Need-returns-5
-returns-5 c = let l = c .before .before in starts _ _ _ _ (start-there _ _ _ _ (l .before .before .if1 .left) (l .before .if2 .left) (l .if3 .left) (c .if4 .left))
+returns-5 c =
+    let l = c .before .before in
+    starts _ _ _ _ (start-there _ _ _ _ (l .before .before .if1 .left) (l .before .if2 .left) (l .if3 .left) (c .if4 .left))
 
 pub start-of-spec : {M : Type 1} → statement M
 start-of-spec =

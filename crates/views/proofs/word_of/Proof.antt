@@ -28,7 +28,9 @@ cast-p : tie.Need-cast-p
 cast-p c = omega (arith, c .shared-slice-known4 .given (c .before .before .before .before .before .before .before .args .t .0))
 
 returns-4 : tie.Need-returns-4
-returns-4 c = let l = c .before .before in word-nowhere _ _ _ _ (start-past _ _ _ _ (l .before .before .if1 .left) (l .before .if2 .left) (l .if3 .left) (c .if4 .taken))
+returns-4 c =
+    let l = c .before .before in
+    word-nowhere _ _ _ _ (start-past _ _ _ _ (l .before .before .if1 .left) (l .before .if2 .left) (l .if3 .left) (c .if4 .taken))
 
 sub-read : tie.Need-sub-read
 sub-read c = search needs

@@ -18,7 +18,8 @@ use Rattle.words.proofs.rest_from.Tie as tie
 past : (s : List ℕ) (p : ℕ) → length s ≤ p → [] ≡ drop p s
 past s p h =
     let whole : length s + (p - length s) ≡ p = omega arith in
-    sym (ap (λ (k : ℕ). drop k s) (sym whole) ∙ sym (drop-drop (p - length s) (length s) s) ∙ ap (drop (p - length s)) (drop-length s) ∙ drop-nil (p - length s))
+    let beyond = ap (drop (p - length s)) (drop-length s) ∙ drop-nil (p - length s) in
+    sym (ap (λ (k : ℕ). drop k s) (sym whole) ∙ sym (drop-drop (p - length s) (length s) s) ∙ beyond)
 
 -- a part's pointer, by where the part begins
 starts : (s : RefT (List ℕ)) (n : ℕ) {m : ℕ} → m ≡ n + ptr s .1 → _≡_ {A = ℕ × ℕ} (ptr s .0, m) (ptr s .0, n + ptr s .1)

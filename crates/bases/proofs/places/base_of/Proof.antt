@@ -32,7 +32,8 @@ returns c =
     let a = c .before in
     let i = a .before .before in
     let l = i .before .before .before in
-    following-base (l .loop .inv) (omega arith) (i .before .record-of .ensures .bytes) (i .info-of .ensures) (a .before .kind-of .ensures) (a .is-alias .ensures) (c .if1 .taken)
+    following-base (l .loop .inv) (omega arith) (i .before .record-of .ensures .bytes) (i .info-of .ensures) (a .before .kind-of .ensures)
+    (a .is-alias .ensures) (c .if1 .taken)
 
 third-of-requires : tie.Need-third-of-requires Inv-loop μ-loop
 third-of-requires c κs = search needs
@@ -48,7 +49,8 @@ loop-again c =
     let a = c .before .before in
     let i = a .before .before in
     let l = i .before .before .before in
-    following-next (l .loop .inv) (omega arith) (i .before .record-of .ensures .bytes) (i .info-of .ensures) (a .before .kind-of .ensures) (a .is-alias .ensures) (c .before .if1 .left) (c .third-of .ensures)
+    following-next (l .loop .inv) (omega arith) (i .before .record-of .ensures .bytes) (i .info-of .ensures) (a .before .kind-of .ensures)
+    (a .is-alias .ensures) (c .before .if1 .left) (c .third-of .ensures)
 
 returns-2 : tie.Need-returns-2 Inv-loop μ-loop
 returns-2 c = following-end (c .before .loop .inv) (omega arith)

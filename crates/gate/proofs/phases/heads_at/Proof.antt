@@ -14,13 +14,17 @@ use Rattle.gate.proofs.phases.heads_at.Statement.{statement}
 use Rattle.gate.proofs.phases.heads_at.Tie as tie
 
 -- what phase 3 said of the record is what it says of the type
-due : (c : tie.After-phase3) (d : Due) → let at = c .before .before .before in let a = at .before .before .before .before .args in let T = tableBy (now (a .base)) (now (a .b)) (now (a .index)) (a .view) in
-    c .phase3 .result ≡ d → namingAt (a .t .0) (at .place-of .result .0) (dueAsPaper d) ≡ namingAt (a .t .0) (placeBy (now (a .index)) (a .view) (a .t .0)) (firstDue (phase3 T (a .t .0)))
+due : (c : tie.After-phase3) (d : Due) → let at = c .before .before .before in let a = at .before .before .before .before .args in
+    let T = tableBy (now (a .base)) (now (a .b)) (now (a .index)) (a .view) in
+    c .phase3 .result ≡ d
+    → namingAt (a .t .0) (at .place-of .result .0) (dueAsPaper d)
+    ≡ namingAt (a .t .0) (placeBy (now (a .index)) (a .view) (a .t .0)) (firstDue (phase3 T (a .t .0)))
 due c d e =
     let at = c .before .before .before in
     let a = at .before .before .before .before .args in
     ap (λ (d : Due). namingAt (a .t .0) (at .place-of .result .0) (dueAsPaper d)) (sym e)
-    ∙ heads-due (tableBy (now (a .base)) (now (a .b)) (now (a .index)) (a .view)) (a .t .0) (c .phase3 .result) (c .phase3 .ensures) (c .before .strings-of .ensures .bytes) (c .before .before .record-of .ensures .shows) (at .place-of .ensures)
+    ∙ heads-due (tableBy (now (a .base)) (now (a .b)) (now (a .index)) (a .view)) (a .t .0) (c .phase3 .result) (c .phase3 .ensures)
+    (c .before .strings-of .ensures .bytes) (c .before .before .record-of .ensures .shows) (at .place-of .ensures)
 
 place-of-requires : tie.Need-place-of-requires
 place-of-requires c κs = search needs

@@ -14,9 +14,13 @@ use borrow.Author.Needs.{needs}
 use Rattle.gate.proofs.phases.layout_at.Statement.{statement}
 use Rattle.gate.proofs.phases.layout_at.Tie as tie
 
-due : (c : tie.After-layout-ok) {z : Bool} {p : ℕ} → let a = c .before .before .before .before .args in let T = tableBy (now (a .base)) (now (a .b)) (now (a .index)) (a .view) in
-    c .layout-ok .result ≡ z → p ≡ placeBy (now (a .index)) (a .view) (a .t .0) → namingAt (a .t .0) p (firstDue (15 when not z ∷ [])) ≡ namingAt (a .t .0) (placeBy (now (a .index)) (a .view) (a .t .0)) (firstDue (phase6 T (a .t .0)))
-due c e at = let a = c .before .before .before .before .args in layout-due (tableBy (now (a .base)) (now (a .b)) (now (a .index)) (a .view)) (a .t .0) (sym e ∙ c .layout-ok .ensures) at
+due : (c : tie.After-layout-ok) {z : Bool} {p : ℕ} → let a = c .before .before .before .before .args in
+    let T = tableBy (now (a .base)) (now (a .b)) (now (a .index)) (a .view) in
+    c .layout-ok .result ≡ z → p ≡ placeBy (now (a .index)) (a .view) (a .t .0)
+    → namingAt (a .t .0) p (firstDue (15 when not z ∷ [])) ≡ namingAt (a .t .0) (placeBy (now (a .index)) (a .view) (a .t .0)) (firstDue (phase6 T (a .t .0)))
+due c e at =
+    let a = c .before .before .before .before .args in
+    layout-due (tableBy (now (a .base)) (now (a .b)) (now (a .index)) (a .view)) (a .t .0) (sym e ∙ c .layout-ok .ensures) at
 
 layout-ok-requires : tie.Need-layout-ok-requires
 layout-ok-requires c κs = search needs

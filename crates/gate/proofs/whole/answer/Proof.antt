@@ -27,7 +27,9 @@ judge-requires c κs =
     let s = m .before .before .before .before in
     let a = s .before .before .before .before .before in
     record {
-      standing = scan-standing _ _ _ (s .scan .result) (s .scan .ensures) (m .n .given .1) (slice-bytes (now (a .args .b)) (s .before .before .before .before .shared-slice-known .given));
+      standing =
+          scan-standing _ _ _ (s .scan .result) (s .scan .ensures) (m .n .given .1)
+          (slice-bytes (now (a .args .b)) (s .before .before .before .before .shared-slice-known .given));
       room = scan-room _ _ _ (s .scan .result) (s .scan .ensures) (m .n .given .1);
     }
 
@@ -72,7 +74,8 @@ returns-3 c =
     let j = r .before .before .before .before in
     let m = j .before .before .before .before .before in
     let s = m .before .before .before .before in
-    scan-judged _ _ _ (s .scan .result) (s .scan .ensures) (m .n .given .1) (j .judge .result) (j .judge .ensures) (r .r2 .given .1) (l .clear .ensures ∙ ap zeros (s .scan .kept .1 .0))
+    scan-judged _ _ _ (s .scan .result) (s .scan .ensures) (m .n .given .1) (j .judge .result) (j .judge .ensures) (r .r2 .given .1)
+    (l .clear .ensures ∙ ap zeros (s .scan .kept .1 .0))
 
 pub answer-spec : {M : Type 1} → statement M
 answer-spec =

@@ -50,7 +50,8 @@ returns-2 c =
     let n = w .before .before in
     let h = n .before .before in
     let j = h .before .before .before .before .before .pre in
-    judge-sixth _ j (h .third .result) (h .third .ensures) (n .enum-told .given .1) (judge-few j) (w .links .result) (w .links .ensures .says) (c .before .enum-told3 .given .1) (c .sixth .ensures)
+    judge-sixth _ j (h .third .result) (h .third .ensures) (n .enum-told .given .1) (judge-few j) (w .links .result) (w .links .ensures .says)
+    (c .before .enum-told3 .given .1) (c .sixth .ensures)
 
 same-length-2 : tie.Need-same-length-2
 same-length-2 c = search needs
@@ -63,7 +64,8 @@ returns-3 c =
     let n = w .before .before in
     let h = n .before .before in
     let j = h .before .before .before .before .before .pre in
-    judge-reference _ j (h .third .result) (h .third .ensures) (n .enum-told .given .1) (judge-few j) (w .links .result) (w .links .ensures .says) (t .t .given .1) (c .place-of .ensures)
+    judge-reference _ j (h .third .result) (h .third .ensures) (n .enum-told .given .1) (judge-few j) (w .links .result) (w .links .ensures .says)
+    (t .t .given .1) (c .place-of .ensures)
 
 same-length-3 : tie.Need-same-length-3
 same-length-3 c = search needs
@@ -76,7 +78,8 @@ returns-4 c =
     let n = w .before .before in
     let h = n .before .before in
     let j = h .before .before .before .before .before .pre in
-    judge-endless _ j (h .third .result) (h .third .ensures) (n .enum-told .given .1) (judge-few j) (w .links .result) (w .links .ensures .says) (t .t2 .given .1) (c .place-of2 .ensures)
+    judge-endless _ j (h .third .result) (h .third .ensures) (n .enum-told .given .1) (judge-few j) (w .links .result) (w .links .ensures .says)
+    (t .t2 .given .1) (c .place-of2 .ensures)
 
 pub judge-spec : {M : Type 1} → statement M
 judge-spec =

@@ -26,11 +26,13 @@ short : (c : tie.After-read) → length (now (c .before .before .before .before 
 short c = named-short _ (c .before .before .before .before .args .at .0) (tells (c .before .before .nameless .ensures) (c .before .if1 .left))
 
 -- the scan from there ends where the name does
-ends : (c : tie.After-until-zero) → let a = c .before .before .before .before .before .before .before .args in Ending (drop (nameStart (now (a .b)) (a .at .0)) (now (a .b))) (c .until-zero .result)
+ends : (c : tie.After-until-zero) → let a = c .before .before .before .before .before .before .before .args in
+    Ending (drop (nameStart (now (a .b)) (a .at .0)) (now (a .b))) (c .until-zero .result)
 ends c =
     let r = c .before .before .before in
     let a = r .before .before .before .before .args in
-    subst (λ (s : List ℕ). Ending s (c .until-zero .result)) (part-rest (now (a .b)) (24 + r .read .result + a .at .0) ∙ ap (λ (p : ℕ). drop p (now (a .b))) (begins r)) (c .until-zero .ensures)
+    subst (λ (s : List ℕ). Ending s (c .until-zero .result))
+    (part-rest (now (a .b)) (24 + r .read .result + a .at .0) ∙ ap (λ (p : ℕ). drop p (now (a .b))) (begins r)) (c .until-zero .ensures)
 
 nameless-requires : tie.Need-nameless-requires
 nameless-requires c κs = search needs

@@ -12,10 +12,12 @@ use Rattle.join.proofs.blob.write.Tie as tie
 
 -- the lengths as they are read
 lengths : (c : tie.After-read4) → let r = c .before .before .before in let a = r .before .before .before .before .args in
-    Lengths (r .read .result) (c .before .before .read2 .result) (c .before .read3 .result) (c .read4 .result) (length (now (a .a))) (length (now (a .b))) (length (now (a .out)))
+    Lengths (r .read .result) (c .before .before .read2 .result) (c .before .read3 .result) (c .read4 .result)
+    (length (now (a .a))) (length (now (a .b))) (length (now (a .out)))
 lengths c =
     let r = c .before .before .before in
-    write-lengths (r .before .before .before .before .pre) (r .read .ensures) (c .before .before .read2 .ensures) (c .before .read3 .ensures) (c .read4 .ensures)
+    write-lengths (r .before .before .before .before .pre) (r .read .ensures) (c .before .before .read2 .ensures)
+    (c .before .read3 .ensures) (c .read4 .ensures)
 
 read-requires : tie.Need-read-requires
 read-requires c κs = search needs
@@ -72,10 +74,18 @@ part-raise-records-end : tie.Need-part-raise-records-end
 part-raise-records-end c = search needs
 
 sub-raise-records-2 : tie.Need-sub-raise-records-2
-sub-raise-records-2 c = let l = lengths (c .before .before .before .before .before .before .before .before .before .before) in omega (arith, c .before .before .before .lay .kept .0, c .before .before .before .before .before .before .before .before .write-header .kept .1 .1 .1 .0)
+sub-raise-records-2 c =
+    let l1 = c .before .before .before in
+    let h = l1 .before .before .before .before .before in
+    let l = lengths (h .before .before) in
+    omega (arith, l1 .lay .kept .0, h .write-header .kept .1 .1 .1 .0)
 
 part-raise-records-start-2 : tie.Need-part-raise-records-start-2
-part-raise-records-start-2 c = let l = lengths (c .before .before .before .before .before .before .before .before .before .before) in omega (arith, c .before .before .before .lay .kept .0, c .before .before .before .before .before .before .before .before .write-header .kept .1 .1 .1 .0)
+part-raise-records-start-2 c =
+    let l1 = c .before .before .before in
+    let h = l1 .before .before .before .before .before in
+    let l = lengths (h .before .before) in
+    omega (arith, l1 .lay .kept .0, h .write-header .kept .1 .1 .1 .0)
 
 part-raise-records-end-2 : tie.Need-part-raise-records-end-2
 part-raise-records-end-2 c = search needs
@@ -90,10 +100,16 @@ add-behind : tie.Need-add-behind
 add-behind c = search needs
 
 sub-lay-2 : tie.Need-sub-lay-2
-sub-lay-2 c = let l = lengths (c .before .before .before .before .before .before .before .before .before .before .before .before .before .before .before) in omega arith
+sub-lay-2 c =
+    let h = c .before .before .before .before .before .before .before .before .before .before .before .before .before in
+    let l = lengths (h .before .before) in
+    omega arith
 
 part-lay-start-2 : tie.Need-part-lay-start-2
-part-lay-start-2 c = let l = lengths (c .before .before .before .before .before .before .before .before .before .before .before .before .before .before .before) in omega arith
+part-lay-start-2 c =
+    let h = c .before .before .before .before .before .before .before .before .before .before .before .before .before in
+    let l = lengths (h .before .before) in
+    omega arith
 
 part-lay-end-2 : tie.Need-part-lay-end-2
 part-lay-end-2 c = search needs
@@ -114,10 +130,18 @@ add-last : tie.Need-add-last
 add-last c = search needs
 
 sub-lay-3 : tie.Need-sub-lay-3
-sub-lay-3 c = let l = lengths (c .before .before .before .before .before .before .before .before .before .before .before .before .before .before .before .before .before .before .before .before) in omega arith
+sub-lay-3 c =
+    let l2 = c .before .before .before .before .before in
+    let h = l2 .before .before .before .before .before .before .before .before .before .before .before .before .before in
+    let l = lengths (h .before .before) in
+    omega arith
 
 part-lay-start-3 : tie.Need-part-lay-start-3
-part-lay-start-3 c = let l = lengths (c .before .before .before .before .before .before .before .before .before .before .before .before .before .before .before .before .before .before .before .before) in omega arith
+part-lay-start-3 c =
+    let l2 = c .before .before .before .before .before in
+    let h = l2 .before .before .before .before .before .before .before .before .before .before .before .before .before in
+    let l = lengths (h .before .before) in
+    omega arith
 
 part-lay-end-3 : tie.Need-part-lay-end-3
 part-lay-end-3 c = search needs
@@ -138,7 +162,8 @@ returns c =
     let r = h .before .before in
     let f = r .before .before .before in
     let a = f .before .before .before .before in
-    write-parts (a .pre) _ refl (ap (λ (n : ℕ). n - 1) (r .before .before .read2 .ensures)) (ap₂ (λ (x y : ℕ). x + y) (f .read .ensures) (r .before .read3 .ensures))
+    write-parts (a .pre) _ refl (ap (λ (n : ℕ). n - 1) (r .before .before .read2 .ensures))
+    (ap₂ (λ (x y : ℕ). x + y) (f .read .ensures) (r .before .read3 .ensures))
     (ap₂ (λ (x y : ℕ). x + (y - 1)) (r .before .before .read2 .ensures) (r .read4 .ensures))
     (now (a .args .out)) (f .read .ensures) (r .before .read3 .ensures) (r .before .before .read2 .ensures) refl
     (h .write-header .ensures) (l1 .lay .ensures) (rr .raise-records .ensures) (l2 .lay2 .ensures) (l3 .lay3 .ensures)

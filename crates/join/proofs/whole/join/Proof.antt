@@ -14,13 +14,16 @@ use Rattle.join.proofs.whole.join.Statement.{statement}
 use Rattle.join.proofs.whole.join.Tie as tie
 
 -- the second check finds as many places lent as the first
-second : (c : tie.After-check2) → let a = c .before .before .before .before .before .before .before .before .before .before .before .before .before .before .before .before .before .before .args in
+second : (c : tie.After-check2) → let f = c .before .before .before .before .before .before .before .before .before .before in
+    let a = f .before .before .before .before .before .before .before .before .args in
     CheckOf (c .check2 .result) (now (a .b)) (length (now (a .index))) (length (now (a .work))) (c .check2 .last .1 .0) (c .check2 .last .1 .1 .0)
 second c =
     let f = c .before .before .before .before .before .before .before .before .before .before in
     let a = f .before .before .before .before .before .before .before .before .args in
-    subst (λ (w : ℕ). CheckOf (c .check2 .result) (now (a .b)) (length (now (a .index))) w (c .check2 .last .1 .0) (c .check2 .last .1 .1 .0)) (f .check .kept .1 .1 .0)
-    (subst (λ (p : ℕ). CheckOf (c .check2 .result) (now (a .b)) p (length (f .check .last .1 .1 .0)) (c .check2 .last .1 .0) (c .check2 .last .1 .1 .0)) (f .check .kept .1 .0) (c .check2 .ensures))
+    subst (λ (w : ℕ). CheckOf (c .check2 .result) (now (a .b)) (length (now (a .index))) w (c .check2 .last .1 .0) (c .check2 .last .1 .1 .0))
+    (f .check .kept .1 .1 .0)
+    (subst (λ (p : ℕ). CheckOf (c .check2 .result) (now (a .b)) p (length (f .check .last .1 .1 .0)) (c .check2 .last .1 .0) (c .check2 .last .1 .1 .0))
+    (f .check .kept .1 .0) (c .check2 .ensures))
 
 check-requires : tie.Need-check-requires
 check-requires c κs = search needs
@@ -53,9 +56,12 @@ join-accepted-requires c κs =
     let s = f .before .before .before .before .before .before .before .before in
     let a = s .args in
     both-accepted (now (a .a)) (now (a .b)) _ _
-    (subst (λ (r : Checked). CheckOf r (now (a .a)) (length (now (a .index))) (length (now (a .work))) (f .check .last .1 .0) (f .check .last .1 .1 .0)) (n .n .given .1) (f .check .ensures))
-    (subst (λ (r : Checked). CheckOf r (now (a .b)) (length (now (a .index))) (length (now (a .work))) (d .check2 .last .1 .0) (d .check2 .last .1 .1 .0)) (m .m .given .1) (second d))
-    (slice-bytes (now (a .a)) (f .before .before .before .before .before .before .before .shared-slice-known .given)) (slice-bytes (now (a .b)) (f .before .before .before .before .before .before .shared-slice-known2 .given))
+    (subst (λ (r : Checked). CheckOf r (now (a .a)) (length (now (a .index))) (length (now (a .work))) (f .check .last .1 .0) (f .check .last .1 .1 .0))
+    (n .n .given .1) (f .check .ensures))
+    (subst (λ (r : Checked). CheckOf r (now (a .b)) (length (now (a .index))) (length (now (a .work))) (d .check2 .last .1 .0) (d .check2 .last .1 .1 .0))
+    (m .m .given .1) (second d))
+    (slice-bytes (now (a .a)) (f .before .before .before .before .before .before .before .shared-slice-known .given))
+    (slice-bytes (now (a .b)) (f .before .before .before .before .before .before .shared-slice-known2 .given))
 
 same-length : tie.Need-same-length
 same-length c = search needs
@@ -68,7 +74,8 @@ returns c =
     let f = c .before .before .before .before .before .before .before in
     let a = f .before .before .before .before .before .before .before .before .args in
     first-refused (now (a .a)) (now (a .b)) _ _ (now (a .out))
-    (subst (λ (r : Checked). CheckOf r (now (a .a)) (length (now (a .index))) (length (now (a .work))) (f .check .last .1 .0) (f .check .last .1 .1 .0)) (c .before .r .given .1) (f .check .ensures))
+    (subst (λ (r : Checked). CheckOf r (now (a .a)) (length (now (a .index))) (length (now (a .work))) (f .check .last .1 .0) (f .check .last .1 .1 .0))
+    (c .before .r .given .1) (f .check .ensures))
 
 same-length-3 : tie.Need-same-length-3
 same-length-3 c = search needs
@@ -83,9 +90,11 @@ returns-2 c =
     let f = n .before .before .before .before .before .before in
     let a = f .before .before .before .before .before .before .before .before .args in
     second-refused (now (a .a)) (now (a .b)) _ _
-    (subst (λ (r : Checked). CheckOf r (now (a .a)) (length (now (a .index))) (length (now (a .work))) (f .check .last .1 .0) (f .check .last .1 .1 .0)) (n .n .given .1) (f .check .ensures))
+    (subst (λ (r : Checked). CheckOf r (now (a .a)) (length (now (a .index))) (length (now (a .work))) (f .check .last .1 .0) (f .check .last .1 .1 .0))
+    (n .n .given .1) (f .check .ensures))
     (now (a .out))
-    (subst (λ (r : Checked). CheckOf r (now (a .b)) (length (now (a .index))) (length (now (a .work))) (d .check2 .last .1 .0) (d .check2 .last .1 .1 .0)) (c .before .r2 .given .1) (second d))
+    (subst (λ (r : Checked). CheckOf r (now (a .b)) (length (now (a .index))) (length (now (a .work))) (d .check2 .last .1 .0) (d .check2 .last .1 .1 .0))
+    (c .before .r2 .given .1) (second d))
 
 same-length-5 : tie.Need-same-length-5
 same-length-5 c = search needs
@@ -106,8 +115,10 @@ returns-3 c =
     let f = n .before .before .before .before .before .before in
     let a = f .before .before .before .before .before .before .before .before .args in
     limits-decide (now (a .a)) (now (a .b)) _ _
-    (subst (λ (r : Checked). CheckOf r (now (a .a)) (length (now (a .index))) (length (now (a .work))) (f .check .last .1 .0) (f .check .last .1 .1 .0)) (n .n .given .1) (f .check .ensures))
-    (subst (λ (r : Checked). CheckOf r (now (a .b)) (length (now (a .index))) (length (now (a .work))) (d .check2 .last .1 .0) (d .check2 .last .1 .1 .0)) (m .m .given .1) (second d))
+    (subst (λ (r : Checked). CheckOf r (now (a .a)) (length (now (a .index))) (length (now (a .work))) (f .check .last .1 .0) (f .check .last .1 .1 .0))
+    (n .n .given .1) (f .check .ensures))
+    (subst (λ (r : Checked). CheckOf r (now (a .b)) (length (now (a .index))) (length (now (a .work))) (d .check2 .last .1 .0) (d .check2 .last .1 .1 .0))
+    (m .m .given .1) (second d))
     (k .clear .ensures ∙ ap zeros (d .check2 .kept .1 .0 ∙ f .check .kept .1 .0)) (j .join-accepted .ensures)
 
 pub join-spec : {M : Type 1} → statement M

@@ -27,19 +27,24 @@ returns-2 : tie.Need-returns-2
 returns-2 c = let a = c .before .before .before .before .before in limit-bytes (a .pre) (now (a .args .out)) (c .before .if1 .left) refl (c .if2 .taken)
 
 returns-3 : tie.Need-returns-3
-returns-3 c = let a = c .before .before .before .before .before .before in limit-room (a .pre) (now (a .args .out)) (c .before .before .if1 .left) refl (c .before .if2 .left) (c .if3 .taken)
+returns-3 c =
+    let a = c .before .before .before .before .before .before in
+    limit-room (a .pre) (now (a .args .out)) (c .before .before .if1 .left) refl (c .before .if2 .left) (c .if3 .taken)
 
 slice-relend-prefix-write : tie.Need-slice-relend-prefix-write
 slice-relend-prefix-write c = search needs
 
 slice-aggregate-write : tie.Need-slice-aggregate-write
-slice-aggregate-write c = let a = c .before .before .before .before .before .before .before in sym (length-take-le (length (now (a .args .a)) + length (now (a .args .b)) - 25) (now (a .args .out)) (c .before .if3 .left))
+slice-aggregate-write c =
+    let a = c .before .before .before .before .before .before .before in
+    sym (length-take-le (length (now (a .args .a)) + length (now (a .args .b)) - 25) (now (a .args .out)) (c .before .if3 .left))
 
 write-requires : tie.Need-write-requires
 write-requires c κs =
     let e = c .before in
     let a = e .before .before .before .before .before .before in
-    write-ask (a .pre) (now (a .args .out)) (e .before .before .if1 .left) refl (e .before .if2 .left) (e .if3 .left) (length-take-le (length (now (a .args .a)) + length (now (a .args .b)) - 25) (now (a .args .out)) (e .if3 .left))
+    write-ask (a .pre) (now (a .args .out)) (e .before .before .if1 .left) refl (e .before .if2 .left) (e .if3 .left)
+    (length-take-le (length (now (a .args .a)) + length (now (a .args .b)) - 25) (now (a .args .out)) (e .if3 .left))
 
 cast-t7 : tie.Need-cast-t7
 cast-t7 c = search needs

@@ -13,7 +13,8 @@ use Rattle.layout.proofs.members.members_ok.Statement.{statement}
 use Rattle.layout.proofs.members.members_ok.Tie as tie
 
 abbrev Inv-loop : tie.InvT-loop
-Inv-loop base b index view bytes info size flag kind p₀ left₀ before₀ p left before = Laying (tableBy base b index view) (recordIn lowFirst bytes) bytes p left before
+Inv-loop base b index view bytes info size flag kind p₀ left₀ before₀ p left before =
+    Laying (tableBy base b index view) (recordIn lowFirst bytes) bytes p left before
 
 abbrev μ-loop : tie.MeasureT-loop
 μ-loop base b index view bytes info size flag kind p₀ left₀ before₀ p left before = left
@@ -37,7 +38,8 @@ loop-holds : tie.Need-loop-holds Inv-loop μ-loop
 loop-holds c =
     let r = c .before .before .before .before in
     let start = r .before .before .before .before .before in
-    laying-start (tableBy (now (start .args .base)) (now (start .args .b)) (now (start .args .index)) (start .args .view)) (now (start .args .bytes)) (r .read .ensures) (c .tail-words .ensures)
+    laying-start (tableBy (now (start .args .base)) (now (start .args .b)) (now (start .args .index)) (start .args .view)) (now (start .args .bytes))
+    (r .read .ensures) (c .tail-words .ensures)
 
 member-ok-requires : tie.Need-member-ok-requires Inv-loop μ-loop
 member-ok-requires c κs =

@@ -26,7 +26,9 @@ read-requires-2 : tie.Need-read-requires-2 Inv-loop μ-loop
 read-requires-2 c κs = search needs
 
 returns : tie.Need-returns Inv-loop μ-loop
-returns c = let d = c .before .before in naming-inner (d .before .before .loop .inv) (d .before .loop-test .taken) (d .read2 .ensures) (c .before .if1 .taken) (c .if2 .taken)
+returns c =
+    let d = c .before .before in
+    naming-inner (d .before .before .loop .inv) (d .before .loop-test .taken) (d .read2 .ensures) (c .before .if1 .taken) (c .if2 .taken)
 
 add-t11 : tie.Need-add-t11 Inv-loop μ-loop
 add-t11 c = omega (arith, c .before .before .before .before .loop .inv .near)
@@ -35,7 +37,10 @@ read-requires-3 : tie.Need-read-requires-3 Inv-loop μ-loop
 read-requires-3 c κs = search needs
 
 returns-2 : tie.Need-returns-2 Inv-loop μ-loop
-returns-2 c = let e = c .before in let d = e .before .before in naming-last (d .before .before .loop .inv) (d .before .loop-test .taken) (d .read2 .ensures) (e .before .if1 .taken) (e .if2 .left) (c .read3 .ensures)
+returns-2 c =
+    let e = c .before in
+    let d = e .before .before in
+    naming-last (d .before .before .loop .inv) (d .before .loop-test .taken) (d .read2 .ensures) (e .before .if1 .taken) (e .if2 .left) (c .read3 .ensures)
 
 add-p : tie.Need-add-p Inv-loop μ-loop
 add-p c = omega (arith, c .before .before .before .loop .inv .near)

@@ -77,7 +77,8 @@ returns-4 c =
     let T = tableBy (now (start .args .base)) (now (start .args .b)) (now (start .args .index)) (start .args .view) in
     let proto = now (q .record-of .result) in
     components-func T (recordIn lowFirst target) kind (e .before .before .if1 .left) (e .before .if2 .left) (e .if3 .left)
-    (third-read target refl (q .before .read2 .ensures)) (recordIn lowFirst proto) (q .record-of .ensures .shows) (vlen-read proto refl (c .before .read3 .ensures) (c .vlen-of3 .ensures))
+    (third-read target refl (q .before .read2 .ensures)) (recordIn lowFirst proto) (q .record-of .ensures .shows)
+    (vlen-read proto refl (c .before .read3 .ensures) (c .vlen-of3 .ensures))
 
 pub components-of-spec : {M : Type 1} → statement M
 components-of-spec =

@@ -25,7 +25,8 @@ returns c =
     let q = c .before in
     let start = q .before .before .before .before .before .before in
     let bytes = now (start .args .bytes) in
-    function-names (tableBy (now (start .args .base)) (now (start .args .b)) (now (start .args .index)) (start .args .view)) (recordIn lowFirst bytes) (third-read bytes refl (q .before .read .ensures))
+    function-names (tableBy (now (start .args .base)) (now (start .args .b)) (now (start .args .index)) (start .args .view)) (recordIn lowFirst bytes)
+    (third-read bytes refl (q .before .read .ensures))
     (recordIn lowFirst (now (q .record-of .result))) (q .record-of .ensures .shows) (c .all-named .ensures)
 
 pub function-ok-spec : {M : Type 1} → statement M

@@ -19,7 +19,8 @@ returns c =
     let r = c .before in
     let start = r .before .before .before .before .before in
     let bytes = now (start .args .bytes) in
-    tag-whole (tableBy (now (start .args .base)) (now (start .args .b)) (now (start .args .index)) (start .args .view)) (recordIn lowFirst bytes) (component-read bytes (start .pre) (r .read .ensures)) (c .if1 .taken)
+    tag-whole (tableBy (now (start .args .base)) (now (start .args .b)) (now (start .args .index)) (start .args .view)) (recordIn lowFirst bytes)
+    (component-read bytes (start .pre) (r .read .ensures)) (c .if1 .taken)
 
 read-requires-2 : tie.Need-read-requires-2
 read-requires-2 c κs = search needs
@@ -37,8 +38,10 @@ returns-2 c =
     let r = e .before in
     let start = r .before .before .before .before .before in
     let bytes = now (start .args .bytes) in
-    tag-part (tableBy (now (start .args .base)) (now (start .args .b)) (now (start .args .index)) (start .args .view)) (recordIn lowFirst bytes) (component-read bytes (start .pre) (r .read .ensures)) (e .if1 .left)
-    (third-read bytes refl (q .before .read2 .ensures)) (recordIn lowFirst (now (q .record-of .result))) (q .record-of .ensures .shows) (c .components-of .ensures)
+    tag-part (tableBy (now (start .args .base)) (now (start .args .b)) (now (start .args .index)) (start .args .view)) (recordIn lowFirst bytes)
+    (component-read bytes (start .pre) (r .read .ensures)) (e .if1 .left)
+    (third-read bytes refl (q .before .read2 .ensures)) (recordIn lowFirst (now (q .record-of .result))) (q .record-of .ensures .shows)
+    (c .components-of .ensures)
 
 pub tag-ok-spec : {M : Type 1} → statement M
 tag-ok-spec =

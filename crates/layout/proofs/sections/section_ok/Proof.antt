@@ -31,7 +31,8 @@ loop-holds : tie.Need-loop-holds Inv-loop μ-loop
 loop-holds c =
     let r = c .before in
     let start = r .before .before .before .before .before .before in
-    setting-start (tableBy (now (start .args .base)) (now (start .args .b)) (now (start .args .index)) (start .args .view)) (now (start .args .bytes)) (r .read2 .ensures) (c .tail-words .ensures)
+    setting-start (tableBy (now (start .args .base)) (now (start .args .b)) (now (start .args .index)) (start .args .view)) (now (start .args .bytes))
+    (r .read2 .ensures) (c .tail-words .ensures)
 
 read-requires-3 : tie.Need-read-requires-3 Inv-loop μ-loop
 read-requires-3 c κs = search needs
@@ -56,7 +57,8 @@ returns c =
     let v = c .before .before in
     let i = v .before .before .before in
     let l = i .before in
-    setting-short (l .loop .inv) (i .loop-test .taken) (v .before .before .read3 .ensures) (v .before .read4 .ensures) (v .read5 .ensures) (c .before .covers .ensures) (c .if1 .taken)
+    setting-short (l .loop .inv) (i .loop-test .taken) (v .before .before .read3 .ensures) (v .before .read4 .ensures) (v .read5 .ensures)
+    (c .before .covers .ensures) (c .if1 .taken)
 
 placed-requires : tie.Need-placed-requires Inv-loop μ-loop
 placed-requires c κs = search needs
@@ -69,7 +71,8 @@ returns-2 c =
     let l = i .before in
     let z = l .before .before .before in
     let bytes = now (z .before .before .before .before .before .args .bytes) in
-    setting-out (l .loop .inv) (i .loop-test .taken) (v .before .before .read3 .ensures) (v .before .read4 .ensures) (v .read5 .ensures) (e .before .covers .ensures) (e .if1 .left) (third-read bytes refl (z .read .ensures)) (c .before .placed .ensures) (c .if2 .taken)
+    setting-out (l .loop .inv) (i .loop-test .taken) (v .before .before .read3 .ensures) (v .before .read4 .ensures) (v .read5 .ensures)
+    (e .before .covers .ensures) (e .if1 .left) (third-read bytes refl (z .read .ensures)) (c .before .placed .ensures) (c .if2 .taken)
 
 cast-free : tie.Need-cast-free Inv-loop μ-loop
 cast-free c = search needs
@@ -94,7 +97,8 @@ loop-again c =
     let l = i .before in
     let z = l .before .before .before in
     let bytes = now (z .before .before .before .before .before .args .bytes) in
-    setting-next (l .loop .inv) (i .loop-test .taken) (v .before .before .read3 .ensures) (v .before .read4 .ensures) (v .read5 .ensures) (e .before .covers .ensures) (e .if1 .left) (third-read bytes refl (z .read .ensures)) (c .before .placed .ensures) (c .if2 .left)
+    setting-next (l .loop .inv) (i .loop-test .taken) (v .before .before .read3 .ensures) (v .before .read4 .ensures) (v .read5 .ensures)
+    (e .before .covers .ensures) (e .if1 .left) (third-read bytes refl (z .read .ensures)) (c .before .placed .ensures) (c .if2 .left)
 
 returns-3 : tie.Need-returns-3 Inv-loop μ-loop
 returns-3 c = setting-done (c .before .loop .inv) (c .loop-test .left)

@@ -30,31 +30,36 @@ returns : tie.Need-returns
 returns c =
     let s = c .before .before .before in
     let start = s .before .before .before .before in
-    covers-told (tableBy (now (start .args .base)) (now (start .args .b)) (now (start .args .index)) (start .args .view)) (start .args .t .0) (c .before .needed .given .1) (s .size-of .ensures) (start .args .size) (omega arith)
+    covers-told (tableBy (now (start .args .base)) (now (start .args .b)) (now (start .args .index)) (start .args .view)) (start .args .t .0)
+    (c .before .needed .given .1) (s .size-of .ensures) (start .args .size) (omega arith)
 
 returns-2 : tie.Need-returns-2
 returns-2 c =
     let s = c .before .before in
     let start = s .before .before .before .before in
-    covers-told (tableBy (now (start .args .base)) (now (start .args .b)) (now (start .args .index)) (start .args .view)) (start .args .t .0) (c .enum-told .given .1) (s .size-of .ensures) (start .args .size) (omega arith)
+    covers-told (tableBy (now (start .args .base)) (now (start .args .b)) (now (start .args .index)) (start .args .view)) (start .args .t .0)
+    (c .enum-told .given .1) (s .size-of .ensures) (start .args .size) (omega arith)
 
 returns-3 : tie.Need-returns-3
 returns-3 c =
     let s = c .before .before in
     let start = s .before .before .before .before in
-    covers-told (tableBy (now (start .args .base)) (now (start .args .b)) (now (start .args .index)) (start .args .view)) (start .args .t .0) (c .enum-told2 .given .1) (s .size-of .ensures) (start .args .size) (omega arith)
+    covers-told (tableBy (now (start .args .base)) (now (start .args .b)) (now (start .args .index)) (start .args .view)) (start .args .t .0)
+    (c .enum-told2 .given .1) (s .size-of .ensures) (start .args .size) (omega arith)
 
 returns-4 : tie.Need-returns-4
 returns-4 c =
     let s = c .before .before in
     let start = s .before .before .before .before in
-    covers-told (tableBy (now (start .args .base)) (now (start .args .b)) (now (start .args .index)) (start .args .view)) (start .args .t .0) (c .enum-told3 .given .1) (s .size-of .ensures) (start .args .size) (omega arith)
+    covers-told (tableBy (now (start .args .base)) (now (start .args .b)) (now (start .args .index)) (start .args .view)) (start .args .t .0)
+    (c .enum-told3 .given .1) (s .size-of .ensures) (start .args .size) (omega arith)
 
 returns-5 : tie.Need-returns-5
 returns-5 c =
     let s = c .before .before in
     let start = s .before .before .before .before in
-    covers-told (tableBy (now (start .args .base)) (now (start .args .b)) (now (start .args .index)) (start .args .view)) (start .args .t .0) (c .enum-told4 .given .1) (s .size-of .ensures) (start .args .size) (omega arith)
+    covers-told (tableBy (now (start .args .base)) (now (start .args .b)) (now (start .args .index)) (start .args .view)) (start .args .t .0)
+    (c .enum-told4 .given .1) (s .size-of .ensures) (start .args .size) (omega arith)
 
 pub covers-spec : {M : Type 1} → statement M
 covers-spec =

@@ -29,31 +29,36 @@ returns : tie.Need-returns
 returns c =
     let s = c .before .before in
     let start = s .before .before .before .before in
-    hasSize-told (tableBy (now (start .args .base)) (now (start .args .b)) (now (start .args .index)) (start .args .view)) (start .args .t .0) (c .enum-told .given .1) (s .size-of .ensures)
+    hasSize-told (tableBy (now (start .args .base)) (now (start .args .b)) (now (start .args .index)) (start .args .view)) (start .args .t .0)
+    (c .enum-told .given .1) (s .size-of .ensures)
 
 returns-2 : tie.Need-returns-2
 returns-2 c =
     let s = c .before .before in
     let start = s .before .before .before .before in
-    hasSize-told (tableBy (now (start .args .base)) (now (start .args .b)) (now (start .args .index)) (start .args .view)) (start .args .t .0) (c .enum-told2 .given .1) (s .size-of .ensures)
+    hasSize-told (tableBy (now (start .args .base)) (now (start .args .b)) (now (start .args .index)) (start .args .view)) (start .args .t .0)
+    (c .enum-told2 .given .1) (s .size-of .ensures)
 
 returns-3 : tie.Need-returns-3
 returns-3 c =
     let s = c .before .before in
     let start = s .before .before .before .before in
-    hasSize-told (tableBy (now (start .args .base)) (now (start .args .b)) (now (start .args .index)) (start .args .view)) (start .args .t .0) (c .enum-told3 .given .1) (s .size-of .ensures)
+    hasSize-told (tableBy (now (start .args .base)) (now (start .args .b)) (now (start .args .index)) (start .args .view)) (start .args .t .0)
+    (c .enum-told3 .given .1) (s .size-of .ensures)
 
 returns-4 : tie.Need-returns-4
 returns-4 c =
     let s = c .before .before in
     let start = s .before .before .before .before in
-    hasSize-told (tableBy (now (start .args .base)) (now (start .args .b)) (now (start .args .index)) (start .args .view)) (start .args .t .0) (c .enum-told4 .given .1) (s .size-of .ensures)
+    hasSize-told (tableBy (now (start .args .base)) (now (start .args .b)) (now (start .args .index)) (start .args .view)) (start .args .t .0)
+    (c .enum-told4 .given .1) (s .size-of .ensures)
 
 returns-5 : tie.Need-returns-5
 returns-5 c =
     let s = c .before .before in
     let start = s .before .before .before .before in
-    hasSize-told (tableBy (now (start .args .base)) (now (start .args .b)) (now (start .args .index)) (start .args .view)) (start .args .t .0) (c .enum-told5 .given .1) (s .size-of .ensures)
+    hasSize-told (tableBy (now (start .args .base)) (now (start .args .b)) (now (start .args .index)) (start .args .view)) (start .args .t .0)
+    (c .enum-told5 .given .1) (s .size-of .ensures)
 
 pub has-size-spec : {M : Type 1} → statement M
 has-size-spec =

@@ -21,7 +21,10 @@ abbrev μ-loop : tie.MeasureT-loop
 μ-loop base b index view work₀ n t₀ work t = view .n - t
 
 -- what a visit tells, by its answer
-followed : (c : tie.After-visit Inv-loop μ-loop) {z : Bool} → let l = c .before .before .before in let a = l .before .before .before .before .before .args in c .visit .result ≡ z → Followed (heldBy (tableBy (now (a .base)) (now (a .b)) (now (a .index)) (a .view))) (a .view .n) (l .loop .t + 1) (c .visit .last .1 .1 .1 .1 .1 .0) z
+followed : (c : tie.After-visit Inv-loop μ-loop) {z : Bool} → let l = c .before .before .before in
+    let a = l .before .before .before .before .before .args in
+    c .visit .result ≡ z
+    → Followed (heldBy (tableBy (now (a .base)) (now (a .b)) (now (a .index)) (a .view))) (a .view .n) (l .loop .t + 1) (c .visit .last .1 .1 .1 .1 .1 .0) z
 followed c e = subst (Followed _ _ _ _) e (c .visit .ensures)
 
 loop-holds : tie.Need-loop-holds Inv-loop μ-loop

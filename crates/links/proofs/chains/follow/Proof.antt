@@ -19,12 +19,19 @@ abbrev μ-loop : tie.MeasureT-loop
 μ-loop base b index view work₀ t₀ j₀ work t j = toDo (view .n) work j
 
 -- what a step tells, by its answer
-moved : (c : tie.After-move-from Inv-loop μ-loop) {s : Move} → let l = c .before .before in let a = l .before .before .before .before .before .args in c .move-from .result ≡ s → MoveOf (recordAt (tableBy (now (a .base)) (now (a .b)) (now (a .index)) (a .view)) (l .loop .t)) (l .loop .work) (l .loop .t) (l .loop .j) (c .move-from .last .1 .1 .1 .1 .1 .1 .0) s
+moved : (c : tie.After-move-from Inv-loop μ-loop) {s : Move} → let l = c .before .before in let a = l .before .before .before .before .before .args in
+    c .move-from .result ≡ s
+    → MoveOf (recordAt (tableBy (now (a .base)) (now (a .b)) (now (a .index)) (a .view)) (l .loop .t)) (l .loop .work) (l .loop .t) (l .loop .j)
+    (c .move-from .last .1 .1 .1 .1 .1 .1 .0) s
 moved c e = subst (MoveOf _ _ _ _ _) e (c .move-from .ensures)
 
 -- the work slice is as long as it was
-same-size : (c : tie.After-move-from Inv-loop μ-loop) → length (c .move-from .last .1 .1 .1 .1 .1 .1 .0) ≡ length (now (c .before .before .before .before .before .before .before .args .work))
-same-size c = c .move-from .kept .1 .1 .1 .1 .1 .1 .0 ∙ c .before .before .loop .inv .size-kept ∙ length-set (now (c .before .before .before .before .before .before .before .args .work)) _ _
+same-size : (c : tie.After-move-from Inv-loop μ-loop)
+    → length (c .move-from .last .1 .1 .1 .1 .1 .1 .0) ≡ length (now (c .before .before .before .before .before .before .before .args .work))
+same-size c =
+    c .move-from .kept .1 .1 .1 .1 .1 .1 .0
+    ∙ c .before .before .loop .inv .size-kept
+    ∙ length-set (now (c .before .before .before .before .before .before .before .args .work)) _ _
 
 cast-work : tie.Need-cast-work Inv-loop μ-loop
 cast-work c = search needs

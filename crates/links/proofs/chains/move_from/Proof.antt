@@ -14,13 +14,15 @@ use Rattle.links.proofs.chains.move_from.Statement.{statement}
 use Rattle.links.proofs.chains.move_from.Tie as tie
 
 -- nothing is left of the type
-spent : (c : tie.After-enum-told) → let a = c .before .before .before .before .before .before .before .before .before .args in heldFrom (recordAt (tableBy (now (a .base)) (now (a .b)) (now (a .index)) (a .view)) (a .t .0)) (a .j) ≡ []
+spent : (c : tie.After-enum-told) → let a = c .before .before .before .before .before .before .before .before .before .args in
+    heldFrom (recordAt (tableBy (now (a .base)) (now (a .b)) (now (a .index)) (a .view)) (a .t .0)) (a .j) ≡ []
 spent c =
     let h = c .before .before in
     told _ (h .before .record-of .ensures .shows) (c .enum-told .given .1) (h .next-held .ensures)
 
 -- or a type is found
-found : (c : tie.After-u) → let a = c .before .before .before .before .before .before .before .before .before .args in NextHeld (recordAt (tableBy (now (a .base)) (now (a .b)) (now (a .index)) (a .view)) (a .t .0)) (a .j) (c .u .given .0 .0 .0) (c .u .given .0 .1 .0)
+found : (c : tie.After-u) → let a = c .before .before .before .before .before .before .before .before .before .args in
+    NextHeld (recordAt (tableBy (now (a .base)) (now (a .b)) (now (a .index)) (a .view)) (a .t .0)) (a .j) (c .u .given .0 .0 .0) (c .u .given .0 .1 .0)
 found c =
     let h = c .before .before in
     told _ (h .before .record-of .ensures .shows) (c .u .given .1) (h .next-held .ensures)

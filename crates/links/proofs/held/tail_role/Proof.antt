@@ -15,13 +15,17 @@ once-role-requires : tie.Need-once-role-requires
 once-role-requires c κs = search needs
 
 returns : tie.Need-returns
-returns c = let k = c .before .before .before in tail-once _ (k .before .pre) (k .kind-of .ensures) (c .before .before .once-words .ensures) (c .before .if1 .taken) (c .once-role .ensures)
+returns c =
+    let k = c .before .before .before in
+    tail-once _ (k .before .pre) (k .kind-of .ensures) (c .before .before .once-words .ensures) (c .before .if1 .taken) (c .once-role .ensures)
 
 entry-words-requires : tie.Need-entry-words-requires
 entry-words-requires c κs = search needs
 
 rem-entry-role : tie.Need-rem-entry-role
-rem-entry-role c = let k = c .before .before .before in tail-some _ (k .before .pre) (k .kind-of .ensures) (c .before .before .once-words .ensures) (c .before .if1 .left) (c .entry-words .ensures)
+rem-entry-role c =
+    let k = c .before .before .before in
+    tail-some _ (k .before .pre) (k .kind-of .ensures) (c .before .before .once-words .ensures) (c .before .if1 .left) (c .entry-words .ensures)
 
 entry-role-requires : tie.Need-entry-role-requires
 entry-role-requires c κs = search needs
@@ -30,7 +34,8 @@ returns-2 : tie.Need-returns-2
 returns-2 c =
     let w = c .before in
     let k = w .before .before .before in
-    tail-entry _ (k .before .pre) (k .kind-of .ensures) (w .before .before .once-words .ensures) (w .before .if1 .left) (w .entry-words .ensures) (c .entry-role .ensures)
+    tail-entry _ (k .before .pre) (k .kind-of .ensures) (w .before .before .once-words .ensures) (w .before .if1 .left)
+    (w .entry-words .ensures) (c .entry-role .ensures)
 
 pub tail-role-spec : {M : Type 1} → statement M
 tail-role-spec =

@@ -25,7 +25,8 @@ returns c =
     let l = c .before .before in
     let k = l .before in
     let r = k .before .before in
-    link-leads _ _ _ (r .record-of .ensures .shows) (k .before .read .ensures) (k .kind-of .ensures) (l .is-link .ensures) (c .before .if1 .taken) (c .read2 .ensures)
+    link-leads _ _ _ (r .record-of .ensures .shows) (k .before .read .ensures) (k .kind-of .ensures) (l .is-link .ensures)
+    (c .before .if1 .taken) (c .read2 .ensures)
 
 returns-2 : tie.Need-returns-2
 returns-2 c =

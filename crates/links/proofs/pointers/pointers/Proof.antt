@@ -21,7 +21,9 @@ abbrev μ-loop : tie.MeasureT-loop
 μ-loop base b index view work₀ n t₀ work t = view .n - t
 
 -- what a line tells, by its answer
-trailed : (c : tie.After-trail Inv-loop μ-loop) {z : Bool} → let l = c .before .before .before in let a = l .before .before .before .before .before .args in c .trail .result ≡ z → Trailed (pointedBy (tableBy (now (a .base)) (now (a .b)) (now (a .index)) (a .view))) (a .view .n) (l .loop .t + 1) (c .trail .last .1 .1 .1 .1 .1 .0) z
+trailed : (c : tie.After-trail Inv-loop μ-loop) {z : Bool} → let l = c .before .before .before in let a = l .before .before .before .before .before .args in
+    c .trail .result ≡ z
+    → Trailed (pointedBy (tableBy (now (a .base)) (now (a .b)) (now (a .index)) (a .view))) (a .view .n) (l .loop .t + 1) (c .trail .last .1 .1 .1 .1 .1 .0) z
 trailed c e = subst (Trailed _ _ _ _) e (c .trail .ensures)
 
 loop-holds : tie.Need-loop-holds Inv-loop μ-loop

@@ -41,7 +41,9 @@ same-length-2 : tie.Need-same-length-2
 same-length-2 c = search needs
 
 returns-2 : tie.Need-returns-2
-returns-2 c = appended-plain _ _ _ (omega arith) (c .before .before .before .is-special .ensures) (c .before .before .if1 .left) (c .before .is-printable .ensures) (c .if2 .taken)
+returns-2 c =
+    appended-plain _ _ _ (omega arith) (c .before .before .before .is-special .ensures) (c .before .before .if1 .left)
+    (c .before .is-printable .ensures) (c .if2 .taken)
 
 slice-write-out-4 : tie.Need-slice-write-out-4
 slice-write-out-4 c = search needs

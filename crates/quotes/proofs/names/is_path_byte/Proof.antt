@@ -24,13 +24,15 @@ returns-3 : tie.Need-returns-3
 returns-3 c =
     let e = c .before .before in
     let d = e .before .before in
-    byte-lower _ (d .before .is-between .ensures) (d .if1 .left) (e .before .is-between2 .ensures) (e .if2 .left) (c .before .is-between3 .ensures) (c .if3 .taken)
+    byte-lower _ (d .before .is-between .ensures) (d .if1 .left) (e .before .is-between2 .ensures) (e .if2 .left)
+    (c .before .is-between3 .ensures) (c .if3 .taken)
 
 returns-4 : tie.Need-returns-4
 returns-4 c =
     let e = c .before .before in
     let d = e .before .before in
-    byte-last _ (d .before .is-between .ensures) (d .if1 .left) (e .before .is-between2 .ensures) (e .if2 .left) (c .before .is-between3 .ensures) (c .if3 .left)
+    byte-last _ (d .before .is-between .ensures) (d .if1 .left) (e .before .is-between2 .ensures) (e .if2 .left)
+    (c .before .is-between3 .ensures) (c .if3 .left)
 
 pub is-path-byte-spec : {M : Type 1} → statement M
 is-path-byte-spec =

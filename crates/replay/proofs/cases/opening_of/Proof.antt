@@ -16,13 +16,22 @@ word-requires-2 : tie.Need-word-requires-2
 word-requires-2 c κs = search needs
 
 returns-2 : tie.Need-returns-2
-returns-2 c = rw (← c .before .before .before .word .ensures, ← c .before .word2 .ensures, eq-eqb _ _ (c .before .before .if1 .left), ne-eqb _ _ (c .if2 .taken)) refl
+returns-2 c =
+    rw (← c .before .before .before .word .ensures, ← c .before .word2 .ensures, eq-eqb _ _ (c .before .before .if1 .left), ne-eqb _ _ (c .if2 .taken)) refl
 
 word-requires-3 : tie.Need-word-requires-3
 word-requires-3 c κs = search needs
 
 returns-3 : tie.Need-returns-3
-returns-3 c = rw (← c .before .before .before .before .word .ensures, ← c .before .before .word2 .ensures, ← c .word3 .ensures, eq-eqb _ _ (c .before .before .before .if1 .left), eq-eqb _ _ (c .before .if2 .left)) refl
+returns-3 c =
+    rw (
+      ← c .before .before .before .before .word .ensures,
+      ← c .before .before .word2 .ensures,
+      ← c .word3 .ensures,
+      eq-eqb _ _ (c .before .before .before .if1 .left),
+      eq-eqb _ _ (c .before .if2 .left),
+    )
+    refl
 
 pub opening-of-spec : {M : Type 1} → statement M
 opening-of-spec =

@@ -47,7 +47,8 @@ returns-3 c =
     let k = c .before .before .before .before in
     let e = k .before .before .before in
     let s = e .before .before .before .before .before .before .before .args in
-    check-cut (now (s .a)) (s .h .output) (length-take-le (s .h .index) (now (s .index)) (omega (arith, e .before .if1 .left))) (length-take-le (s .h .work) (now (s .work)) (omega (arith, e .if2 .left))) (k .check-lent .ensures)
+    check-cut (now (s .a)) (s .h .output) (length-take-le (s .h .index) (now (s .index)) (omega (arith, e .before .if1 .left)))
+    (length-take-le (s .h .work) (now (s .work)) (omega (arith, e .if2 .left))) (k .check-lent .ensures)
 
 pub check-in-spec : {M : Type 1} → statement M
 check-in-spec =

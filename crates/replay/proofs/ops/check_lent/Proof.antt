@@ -45,7 +45,8 @@ returns c =
     let f = w .before .before .before .before in
     let s = f .before .before .before .before .before .args in
     check-seen _ _ _ (s .bytes) (c .seen .ensures) (p .of-places .ensures) (c .before .before .of-places2 .ensures) (c .before .bytes-lent .ensures)
-    (f .fill-places .kept .0) (w .fill-places2 .kept .0) (o .of-checked .ensures ∙ k .check .ensures .told .answers) (k .check .ensures .told .indexes) (k .check .ensures .cleared)
+    (f .fill-places .kept .0) (w .fill-places2 .kept .0) (o .of-checked .ensures ∙ k .check .ensures .told .answers) (k .check .ensures .told .indexes)
+    (k .check .ensures .cleared)
 
 pub check-lent-spec : {M : Type 1} → statement M
 check-lent-spec =

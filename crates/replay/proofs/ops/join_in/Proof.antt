@@ -63,7 +63,8 @@ returns-4 c =
     let e = k .before .before .before .before in
     let s = e .before .before .before .before .before .before .before .before .before .before .before .args in
     join-cut (now (s .a)) (now (s .b)) (length-take-le (s .h .index) (now (s .index)) (omega (arith, e .before .before .if1 .left)))
-    (length-take-le (s .h .work) (now (s .work)) (omega (arith, e .before .if2 .left))) (length-take-le (s .h .output) (now (s .output)) (omega (arith, e .if3 .left))) (k .join-lent .ensures)
+    (length-take-le (s .h .work) (now (s .work)) (omega (arith, e .before .if2 .left)))
+    (length-take-le (s .h .output) (now (s .output)) (omega (arith, e .if3 .left))) (k .join-lent .ensures)
 
 pub join-in-spec : {M : Type 1} → statement M
 join-in-spec =

@@ -39,7 +39,8 @@ same-length : tie.Need-same-length
 same-length c =
     let o = c .before .before .before .before .before .before .before in
     let k = o .before .before .before .before .before .before .before in
-    k .join .kept .1 .1 .0 ∙ k .before .before .before .before .before .before .before .before .before .before .before .before .before .before .fill-places .kept .0
+    k .join .kept .1 .1 .0
+    ∙ k .before .before .before .before .before .before .before .before .before .before .before .before .before .before .fill-places .kept .0
 
 same-length-2 : tie.Need-same-length-2
 same-length-2 c = search needs

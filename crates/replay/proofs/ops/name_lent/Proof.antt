@@ -42,7 +42,8 @@ returns c =
     let w = o .before in
     let i = w .before in
     let h = i .before .before .before .args in
-    name-seen (now (h .a)) (h .h .x) (h .h .index) (h .h .work) (c .seen .ensures) (i .places-lent .ensures) (w .places-lent2 .ensures) (o .of-bytes .ensures) (i .before .name .ensures .bytes)
+    name-seen (now (h .a)) (h .h .x) (h .h .index) (h .h .work) (c .seen .ensures) (i .places-lent .ensures) (w .places-lent2 .ensures) (o .of-bytes .ensures)
+    (i .before .name .ensures .bytes)
     (d .nameless .ensures) (sym (ap (λ (t : Bool). cond t 1 0) (c .before .before .if1 .taken))) (c .before .plain .ensures)
 
 plain-requires-2 : tie.Need-plain-requires-2
@@ -58,7 +59,8 @@ returns-2 c =
     let w = o .before in
     let i = w .before in
     let h = i .before .before .before .args in
-    name-seen (now (h .a)) (h .h .x) (h .h .index) (h .h .work) (c .seen2 .ensures) (i .places-lent .ensures) (w .places-lent2 .ensures) (o .of-bytes .ensures) (i .before .name .ensures .bytes)
+    name-seen (now (h .a)) (h .h .x) (h .h .index) (h .h .work) (c .seen2 .ensures) (i .places-lent .ensures) (w .places-lent2 .ensures) (o .of-bytes .ensures)
+    (i .before .name .ensures .bytes)
     (d .nameless .ensures) (sym (ap (λ (t : Bool). cond t 1 0) (c .before .before .if1 .left))) (c .before .plain2 .ensures)
 
 pub name-lent-spec : {M : Type 1} → statement M

@@ -38,7 +38,8 @@ returns c =
     let i = w .before in
     let s = i .before .before in
     let h = s .before .before .before .before .before .before .before .before .before .args in
-    size-seen _ (now (h .b)) (h .h .x) (h .h .index) (h .h .work) (h .h .output) (c .seen .ensures) (i .places-lent .ensures) (w .places-lent2 .ensures) (b .bytes-lent .ensures)
+    size-seen _ (now (h .b)) (h .h .x) (h .h .index) (h .h .work) (h .h .output) (c .seen .ensures) (i .places-lent .ensures)
+    (w .places-lent2 .ensures) (b .bytes-lent .ensures)
     (s .before .before .before .before .places .ensures) (i .before .of-sized .ensures ∙ s .size .ensures)
 
 pub size-lent-spec : {M : Type 1} → statement M

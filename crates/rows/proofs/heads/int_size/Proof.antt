@@ -16,7 +16,9 @@ returns-2 : tie.Need-returns-2
 returns-2 c = sym (or-right (eqb (c .before .before .args .w) 1) (sym (member-key (c .before .before .args .w) 2 (4 ∷ 8 ∷ 16 ∷ []) (c .match .keys1))))
 
 returns-3 : tie.Need-returns-3
-returns-3 c = sym (false-or (ne-eqb (c .before .before .args .w) 1 (c .before .if1 .left)) (sym (member-no-key (c .before .before .args .w) 2 (4 ∷ 8 ∷ 16 ∷ []) (c .match .rest .1))))
+returns-3 c =
+    sym (false-or (ne-eqb (c .before .before .args .w) 1 (c .before .if1 .left))
+    (sym (member-no-key (c .before .before .args .w) 2 (4 ∷ 8 ∷ 16 ∷ []) (c .match .rest .1))))
 
 pub int-size-spec : {M : Type 1} → statement M
 int-size-spec = tie.close (tie.spec returns returns-2 returns-3)

@@ -29,15 +29,21 @@ column-requires-3 c κs = search needs
 
 returns : tie.Need-returns
 unfolding tailCode rows
-returns c = rw (c .before .before .match .keys1) (column-is tailCode (λ (r : Row). roleAt (r .once) 0) 281474976710656 refl _ (c .before .tail-row .ensures) (c .column .ensures))
+returns c =
+    rw (c .before .before .match .keys1)
+    (column-is tailCode (λ (r : Row). roleAt (r .once) 0) 281474976710656 refl _ (c .before .tail-row .ensures) (c .column .ensures))
 
 returns-2 : tie.Need-returns-2
 unfolding tailCode rows
-returns-2 c = rw (c .before .before .match .keys2) (column-is tailCode (λ (r : Row). roleAt (r .once) 1) 1099511627776 refl _ (c .before .tail-row2 .ensures) (c .column2 .ensures))
+returns-2 c =
+    rw (c .before .before .match .keys2)
+    (column-is tailCode (λ (r : Row). roleAt (r .once) 1) 1099511627776 refl _ (c .before .tail-row2 .ensures) (c .column2 .ensures))
 
 returns-3 : tie.Need-returns-3
 unfolding tailCode rows
-returns-3 c = rw (c .before .before .match .keys3) (column-is tailCode (λ (r : Row). roleAt (r .once) 2) 4294967296 refl _ (c .before .tail-row3 .ensures) (c .column3 .ensures))
+returns-3 c =
+    rw (c .before .before .match .keys3)
+    (column-is tailCode (λ (r : Row). roleAt (r .once) 2) 4294967296 refl _ (c .before .tail-row3 .ensures) (c .column3 .ensures))
 
 returns-4 : tie.Need-returns-4
 returns-4 c =

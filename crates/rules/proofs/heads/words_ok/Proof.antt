@@ -12,7 +12,9 @@ spare-zero-requires : tie.Need-spare-zero-requires
 spare-zero-requires c κs = search needs
 
 returns : tie.Need-returns
-returns c = let a = c .before .before .before .args in head-spare (a .info) (a .third) (c .before .before .kind-of .ensures) (c .before .spare-zero .ensures) (c .if1 .taken)
+returns c =
+    let a = c .before .before .before .args in
+    head-spare (a .info) (a .third) (c .before .before .kind-of .ensures) (c .before .spare-zero .ensures) (c .if1 .taken)
 
 flag-of-requires : tie.Need-flag-of-requires
 flag-of-requires c κs = search needs

@@ -20,7 +20,8 @@ abbrev μ-loop : tie.MeasureT-loop
 μ-loop bytes strings kind n step r0 r1 r2 p₀ left₀ p left = left
 
 -- the three words at a place are those of an entry
-here : (c : tie.After-three-ok Inv-loop μ-loop) → let l = c .before .before in let a = l .before .before .before .before .before .before .before .args in c .three-ok .result ≡ roled lowFirst (nameWordOk (now (a .strings))) (now (a .bytes)) (l .loop .p) (rowOf (a .kind) .each)
+here : (c : tie.After-three-ok Inv-loop μ-loop) → let l = c .before .before in let a = l .before .before .before .before .before .before .before .args in
+    c .three-ok .result ≡ roled lowFirst (nameWordOk (now (a .strings))) (now (a .bytes)) (l .loop .p) (rowOf (a .kind) .each)
 here c =
     let l = c .before .before in
     let r = l .before in
@@ -69,7 +70,8 @@ loop-again : tie.Need-loop-again Inv-loop μ-loop
 loop-again c =
     let l = c .before .before .before in
     let e = l .before .before .before .before in
-    entering-next (l .loop .inv) (c .before .before .loop-test .taken) (here (c .before)) (c .if1 .left) (e .entry-words .ensures) (each-few (e .before .before .before .args .kind))
+    entering-next (l .loop .inv) (c .before .before .loop-test .taken) (here (c .before)) (c .if1 .left) (e .entry-words .ensures)
+    (each-few (e .before .before .before .args .kind))
 
 returns-2 : tie.Need-returns-2 Inv-loop μ-loop
 returns-2 c = entering-done (c .before .loop .inv) (c .loop-test .left)

@@ -10,7 +10,8 @@ use borrow.Author.Needs.{needs}
 use Rattle.rules.proofs.names.is_identifier.Statement.{statement}
 use Rattle.rules.proofs.names.is_identifier.Tie as tie
 
-told : (c : tie.After-identifier) (x : Spelt) → let a = c .before .before .args in c .identifier .result ≡ x → isSome (speltAsPaper x) ≡ isIdentifier (nameIn (now (a .strings)) (a .at .0))
+told : (c : tie.After-identifier) (x : Spelt) → let a = c .before .before .args in
+    c .identifier .result ≡ x → isSome (speltAsPaper x) ≡ isIdentifier (nameIn (now (a .strings)) (a .at .0))
 told c x e = ap isSome (sym (ap speltAsPaper e) ∙ c .identifier .ensures)
 
 identifier-requires : tie.Need-identifier-requires

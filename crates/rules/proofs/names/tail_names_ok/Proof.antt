@@ -14,7 +14,8 @@ use Rattle.rules.proofs.names.tail_names_ok.Statement.{statement}
 use Rattle.rules.proofs.names.tail_names_ok.Tie as tie
 
 -- the three words behind the head are those that stand once
-once : (c : tie.After-three-ok) → let k = c .before .before .before .before in let a = k .before .before .before .args in c .three-ok .result ≡ roled lowFirst (nameWordOk (now (a .strings))) (now (a .bytes)) 12 (rowOf (k .kind-of .result) .once)
+once : (c : tie.After-three-ok) → let k = c .before .before .before .before in let a = k .before .before .before .args in
+    c .three-ok .result ≡ roled lowFirst (nameWordOk (now (a .strings))) (now (a .bytes)) 12 (rowOf (k .kind-of .result) .once)
 once c =
     let k = c .before .before .before .before in
     let a = k .before .before .before .args in
@@ -56,7 +57,10 @@ vlen-of-requires : tie.Need-vlen-of-requires
 vlen-of-requires c κs = search needs
 
 entries-ok-requires : tie.Need-entries-ok-requires
-entries-ok-requires c κs = let o = c .before in let k = o .before .before .before .before .before .before in (omega (arith, o .once-words .ensures, once-few (k .kind-of .result)), omega (arith, c .vlen-of .ensures))
+entries-ok-requires c κs =
+    let o = c .before in
+    let k = o .before .before .before .before .before .before in
+    (omega (arith, o .once-words .ensures, once-few (k .kind-of .result)), omega (arith, c .vlen-of .ensures))
 
 returns-2 : tie.Need-returns-2
 returns-2 c =

@@ -39,7 +39,8 @@ returns-3 c =
     let h = e .before in
     let a = h .before .before .before .args in
     let r = recordIn lowFirst (now (a .bytes)) in
-    due-tail (now (a .strings)) r (h .head-ok .ensures) (e .if1 .left) (n .before .names-ok .ensures) (n .if2 .left) (c .before .tail-ok .ensures) (c .if3 .taken)
+    due-tail (now (a .strings)) r (h .head-ok .ensures) (e .if1 .left) (n .before .names-ok .ensures) (n .if2 .left)
+    (c .before .tail-ok .ensures) (c .if3 .taken)
 
 returns-4 : tie.Need-returns-4
 returns-4 c =
@@ -48,7 +49,8 @@ returns-4 c =
     let h = e .before in
     let a = h .before .before .before .args in
     let r = recordIn lowFirst (now (a .bytes)) in
-    due-none (now (a .strings)) r (h .head-ok .ensures) (e .if1 .left) (n .before .names-ok .ensures) (n .if2 .left) (c .before .tail-ok .ensures) (c .if3 .left)
+    due-none (now (a .strings)) r (h .head-ok .ensures) (e .if1 .left) (n .before .names-ok .ensures) (n .if2 .left)
+    (c .before .tail-ok .ensures) (c .if3 .left)
 
 pub phase3-spec : {M : Type 1} → statement M
 phase3-spec =

@@ -23,13 +23,20 @@ read-requires : tie.Need-read-requires Inv-loop μ-loop
 read-requires c κs = search needs
 
 returns : tie.Need-returns Inv-loop μ-loop
-returns c = let d = c .before .before in let l = d .before .before in asking-inner (l .loop .inv) (d .before .loop-test .taken) (d .read .ensures) (c .before .if1 .taken) (c .if2 .taken)
+returns c =
+    let d = c .before .before in
+    let l = d .before .before in
+    asking-inner (l .loop .inv) (d .before .loop-test .taken) (d .read .ensures) (c .before .if1 .taken) (c .if2 .taken)
 
 read-requires-2 : tie.Need-read-requires-2 Inv-loop μ-loop
 read-requires-2 c κs = search needs
 
 returns-2 : tie.Need-returns-2 Inv-loop μ-loop
-returns-2 c = let e = c .before in let d = e .before .before in let l = d .before .before in asking-last (l .loop .inv) (d .before .loop-test .taken) (d .read .ensures) (e .before .if1 .taken) (e .if2 .left) (c .read2 .ensures)
+returns-2 c =
+    let e = c .before in
+    let d = e .before .before in
+    let l = d .before .before in
+    asking-last (l .loop .inv) (d .before .loop-test .taken) (d .read .ensures) (e .before .if1 .taken) (e .if2 .left) (c .read2 .ensures)
 
 add-p : tie.Need-add-p Inv-loop μ-loop
 add-p c = let i = c .before .before .before .loop .inv in omega (arith, i .near, i .few)

@@ -57,7 +57,8 @@ returns-5 : tie.Need-returns-5
 returns-5 c =
     let w = c .before .before .before .before .before in
     let g = w .before .before in
-    found-count _ _ _ (g .before .before .read .ensures) (g .s .given .1) (w .walk .ensures) (c .before .before .before .n .given .1) (c .before .if1 .left) (c .if2 .left)
+    found-count _ _ _ (g .before .before .read .ensures) (g .s .given .1) (w .walk .ensures)
+    (c .before .before .before .n .given .1) (c .before .if1 .left) (c .if2 .left)
 
 pub find-spec : {M : Type 1} → statement M
 find-spec =

@@ -11,7 +11,8 @@ use Rattle.scan.proofs.found.scan.Statement.{statement}
 use Rattle.scan.proofs.found.scan.Tie as tie
 
 -- in the arm of a count, what was found is that count
-counted : (c : tie.After-found) → let a = c .before .before .before .before .before .args in CountOf (c .found .given .0 .0) (now (a .b)) (length (now (a .index))) (a .work)
+counted : (c : tie.After-found) → let a = c .before .before .before .before .before .args in
+    CountOf (c .found .given .0 .0) (now (a .b)) (length (now (a .index))) (a .work)
 counted c =
     let a = c .before .before .before .before .before .args in
     subst (λ (s : Scanned). FoundOf s (now (a .b)) (length (now (a .index))) (a .work)) (c .found .given .1) (c .before .before .find .ensures)
@@ -45,7 +46,9 @@ returns-2 c =
     let a = c .before .before .before .before .before .before .before .before .before .args in
     record {
       found = c .before .before .before .before .before .before .find .ensures;
-      left = c .before .before .clear .ensures ∙ ap (λ (s : Scanned). indexAfter s (now (a .b)) (length (now (a .index)))) (sym (c .before .before .before .before .enum-told .given .1));
+      left =
+          c .before .before .clear .ensures
+          ∙ ap (λ (s : Scanned). indexAfter s (now (a .b)) (length (now (a .index)))) (sym (c .before .before .before .before .enum-told .given .1));
     }
 
 pub scan-spec : {M : Type 1} → statement M

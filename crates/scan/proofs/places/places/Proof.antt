@@ -21,7 +21,9 @@ abbrev μ-loop : tie.MeasureT-loop
 μ-loop b n index₀ at₀ k₀ index at k = n - k
 
 -- the tail that was asked for is that of the record at the place
-tail-here : (c : tie.After-tail-words Inv-loop μ-loop) → let l = c .before .before .before in let a = l .before .before .before .before .before .before .before .args in c .tail-words .result ≡ tailLength (wordAt lowFirst (now (a .b)) (l .loop .at + 4))
+tail-here : (c : tie.After-tail-words Inv-loop μ-loop) → let l = c .before .before .before in
+    let a = l .before .before .before .before .before .before .before .args in
+    c .tail-words .result ≡ tailLength (wordAt lowFirst (now (a .b)) (l .loop .at + 4))
 tail-here c = c .tail-words .ensures ∙ ap tailLength (c .before .read .ensures)
 
 -- so that what is added stays small

@@ -15,12 +15,14 @@ use Rattle.scan.proofs.walk.behind_of.Statement.{statement}
 use Rattle.scan.proofs.walk.behind_of.Tie as tie
 
 -- the kind that was asked about is that of the record at the place
-known-here : (c : tie.After-is-known) → let a = c .before .before .before .before .before .before .before .before .args in knownAt (now (a .b)) (a .at .0) ≡ c .is-known .result
+known-here : (c : tie.After-is-known) → let a = c .before .before .before .before .before .before .before .before .args in
+    knownAt (now (a .b)) (a .at .0) ≡ c .is-known .result
 known-here c =
     sym (c .is-known .ensures ∙ ap known (c .before .kind-of .ensures ∙ ap kindIn (c .before .before .read .ensures)))
 
 -- and so is the tail
-next-here : (c : tie.After-tail-words) → let a = c .before .before .before .before .before .before .before .before .before .before .args in nextPlace (now (a .b)) (a .at .0) ≡ a .at .0 + 12 + 4 * c .tail-words .result
+next-here : (c : tie.After-tail-words) → let a = c .before .before .before .before .before .before .before .before .before .before .args in
+    nextPlace (now (a .b)) (a .at .0) ≡ a .at .0 + 12 + 4 * c .tail-words .result
 next-here c = omega (arith, c .tail-words .ensures ∙ ap tailLength (c .before .before .before .before .read .ensures))
 
 sub-room : tie.Need-sub-room

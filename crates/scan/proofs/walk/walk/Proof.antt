@@ -18,7 +18,8 @@ abbrev μ-loop : tie.MeasureT-loop
 μ-loop b len end at₀ count₀ at count = end - at
 
 -- what the step of a turn tells
-told : (c : tie.After-behind-of Inv-loop μ-loop) {s : Behind} → let l = c .before .before .before in let a = l .before .before .args in c .behind-of .result ≡ s → Told (now (a .b)) (24 + a .len) (l .loop .count) (l .loop .at) s
+told : (c : tie.After-behind-of Inv-loop μ-loop) {s : Behind} → let l = c .before .before .before in let a = l .before .before .args in
+    c .behind-of .result ≡ s → Told (now (a .b)) (24 + a .len) (l .loop .count) (l .loop .at) s
 told c e =
     let l = c .before .before .before .loop in
     standing-step _ _ (l .count) (l .at) (l .inv) (c .before .before .loop-test .taken) (c .before .if1 .left) (sym (c .behind-of .ensures) ∙ e)

@@ -19,7 +19,9 @@ loop-holds : tie.Need-loop-holds Inv-loop μ-loop
 loop-holds c = entering-start (c .before .before .before .pre)
 
 raise-group-requires : tie.Need-raise-group-requires Inv-loop μ-loop
-raise-group-requires c κs = let l = c .before .before in entering-ask (l .before .before .before .before .pre) (l .loop .inv) (omega (arith, c .before .loop-test .taken))
+raise-group-requires c κs =
+    let l = c .before .before in
+    entering-ask (l .before .before .before .before .pre) (l .loop .inv) (omega (arith, c .before .loop-test .taken))
 
 add-p : tie.Need-add-p Inv-loop μ-loop
 add-p c =
@@ -37,7 +39,8 @@ loop-again : tie.Need-loop-again Inv-loop μ-loop
 loop-again c =
     let g = c .before .before in
     let l = g .before .before .before in
-    entering-next (l .before .before .before .before .pre) (l .loop .inv) (omega (arith, g .before .before .loop-test .taken)) (g .raise-group .kept .1 .1 .1 .1 .0) (g .raise-group .ensures)
+    entering-next (l .before .before .before .before .pre) (l .loop .inv) (omega (arith, g .before .before .loop-test .taken))
+    (g .raise-group .kept .1 .1 .1 .1 .0) (g .raise-group .ensures)
 
 same-length : tie.Need-same-length Inv-loop μ-loop
 same-length c = c .before .loop .inv .same-length

@@ -20,7 +20,8 @@ returns-2 c =
     let first = c .before .before .before in
     let one = first .before .before in
     let pre = one .before .before .before .pre in
-    sofar-all (sofar-more sofar-none (pre .fits) (omega (arith, one .if1 .left)) (omega arith) (λ ρs h. h .first-role) (first .raise-word .ensures)) (c .if2 .taken)
+    sofar-all (sofar-more sofar-none (pre .fits) (omega (arith, one .if1 .left)) (omega arith) (λ ρs h. h .first-role) (first .raise-word .ensures))
+    (c .if2 .taken)
 
 add-second : tie.Need-add-second
 add-second c = search needs

@@ -22,7 +22,13 @@ returns c =
     let second = c .before in
     let first = second .before in
     let words = first .before in
-    record { counted = words .entry-words .ensures; few = each-few (words .before .args .kind); first-role = first .entry-role .ensures; second-role = second .entry-role2 .ensures; third-role = c .entry-role3 .ensures }
+    record {
+      counted = words .entry-words .ensures;
+      few = each-few (words .before .args .kind);
+      first-role = first .entry-role .ensures;
+      second-role = second .entry-role2 .ensures;
+      third-role = c .entry-role3 .ensures;
+    }
 
 pub entry-of-spec : {M : Type 1} → statement M
 entry-of-spec =

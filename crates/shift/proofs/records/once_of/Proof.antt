@@ -22,7 +22,13 @@ returns c =
     let second = c .before in
     let first = second .before in
     let words = first .before in
-    record { counted = words .once-words .ensures; few = once-few (words .before .args .kind); first-role = first .once-role .ensures; second-role = second .once-role2 .ensures; third-role = c .once-role3 .ensures }
+    record {
+      counted = words .once-words .ensures;
+      few = once-few (words .before .args .kind);
+      first-role = first .once-role .ensures;
+      second-role = second .once-role2 .ensures;
+      third-role = c .once-role3 .ensures;
+    }
 
 pub once-of-spec : {M : Type 1} → statement M
 once-of-spec =

@@ -32,7 +32,8 @@ raise-group-requires-2 c κs =
     let o = c .before .before in
     let g = o .before .before .before in
     let k = g .before .before .before in
-    once-ask (k .before .before .before .before .pre) (k .before .read .ensures) (k .kind-of .ensures) (o .once-of .ensures) (g .raise-group .kept .1 .1 .1 .1 .0)
+    once-ask (k .before .before .before .before .pre) (k .before .read .ensures) (k .kind-of .ensures) (o .once-of .ensures)
+    (g .raise-group .kept .1 .1 .1 .1 .0)
 
 entry-of-requires : tie.Need-entry-of-requires
 entry-of-requires c κs = search needs
@@ -51,7 +52,8 @@ raise-entries-requires c κs =
     let o = g2 .before .before .before in
     let g = o .before .before .before in
     let k = g .before .before .before in
-    entries-ask (k .before .before .before .before .pre) (k .before .read .ensures) (k .kind-of .ensures) (o .once-of .ensures) (e .entry-of .ensures) (v .vlen-of .ensures)
+    entries-ask (k .before .before .before .before .pre) (k .before .read .ensures) (k .kind-of .ensures) (o .once-of .ensures)
+    (e .entry-of .ensures) (v .vlen-of .ensures)
     (g2 .raise-group2 .kept .1 .1 .1 .1 .0 ∙ g .raise-group .kept .1 .1 .1 .1 .0)
 
 same-length : tie.Need-same-length
@@ -67,7 +69,8 @@ returns c =
     let g = o .before .before .before in
     let h = g .before .before in
     let k = h .before in
-    record-put (k .before .before .before .before .pre) (k .before .read .ensures) (k .kind-of .ensures) (v .vlen-of .ensures) (h .head-of .ensures) (o .once-of .ensures) (e .entry-of .ensures)
+    record-put (k .before .before .before .before .pre) (k .before .read .ensures) (k .kind-of .ensures) (v .vlen-of .ensures) (h .head-of .ensures)
+    (o .once-of .ensures) (e .entry-of .ensures)
     (g .raise-group .ensures) (g2 .raise-group2 .ensures) (n .raise-entries .ensures)
 
 pub put-record-spec : {M : Type 1} → statement M

@@ -43,7 +43,10 @@ put-record-requires c κs =
     let w = c .before .before in
     let s = now (w .before .before .before .before .args .bytes) in
     let l = length-take-le (12 + 4 * w .tail-words .result) (w .before .before .before .before .args .out .now) (c .before .if1 .left) in
-    record { fits = sym (recordLength-read s (w .before .read .ensures) (w .tail-words .ensures)) ∙ sym l; small = omega (arith, l, w .tail-words .ensures, tailLength-few (w .before .read .result)) }
+    record {
+      fits = sym (recordLength-read s (w .before .read .ensures) (w .tail-words .ensures)) ∙ sym l;
+      small = omega (arith, l, w .tail-words .ensures, tailLength-few (w .before .read .result));
+    }
 
 same-length : tie.Need-same-length
 same-length c = search needs
@@ -53,7 +56,8 @@ returns-2 c =
     let p = c .before .before in
     let w = p .before .before .before in
     let s = now (w .before .before .before .before .args .bytes) in
-    front-fits s (recordLength-read s (w .before .read .ensures) (w .tail-words .ensures)) (omega (arith, p .before .before .if1 .left)) (p .put-record .ensures)
+    front-fits s (recordLength-read s (w .before .read .ensures) (w .tail-words .ensures))
+    (omega (arith, p .before .before .if1 .left)) (p .put-record .ensures)
 
 pub raise-record-spec : {M : Type 1} → statement M
 raise-record-spec =

@@ -40,7 +40,8 @@ loop-again c =
     let r = c .before .before .before in
     let f = r .before .before in
     let l = f .before .before in
-    running-stopped (l .loop .inv) (r .raise-record .ensures) (f .rest-from .ensures .bytes) (part-rest (l .loop .out) (l .loop .p)) (f .before .loop-test .taken) (c .if1 .taken)
+    running-stopped (l .loop .inv) (r .raise-record .ensures) (f .rest-from .ensures .bytes) (part-rest (l .loop .out) (l .loop .p))
+    (f .before .loop-test .taken) (c .if1 .taken)
 
 cast-p : tie.Need-cast-p Inv-loop μ-loop
 cast-p c = search needs
@@ -50,7 +51,13 @@ add-p c =
     let r = c .before .before .before in
     let f = r .before .before in
     let l = f .before .before in
-    omega (arith, running-fits (l .loop .inv) (r .raise-record .ensures) (f .rest-from .ensures .bytes) (part-rest (l .loop .out) (l .loop .p)) (f .before .loop-test .taken) (c .if1 .left), l .loop .inv .same-length, l .before .before .before .good .1 .1 .1 .0 .0)
+    omega (
+      arith,
+      running-fits (l .loop .inv) (r .raise-record .ensures) (f .rest-from .ensures .bytes) (part-rest (l .loop .out) (l .loop .p))
+          (f .before .loop-test .taken) (c .if1 .left),
+      l .loop .inv .same-length,
+      l .before .before .before .good .1 .1 .1 .0 .0,
+    )
 
 sub-left : tie.Need-sub-left Inv-loop μ-loop
 sub-left c = search needs
@@ -63,7 +70,8 @@ loop-again-2 c =
     let r = c .before .before .before in
     let f = r .before .before in
     let l = f .before .before in
-    running-on (l .loop .inv) (r .raise-record .ensures) (f .rest-from .ensures .bytes) (part-rest (l .loop .out) (l .loop .p)) (f .before .loop-test .taken) (c .if1 .left)
+    running-on (l .loop .inv) (r .raise-record .ensures) (f .rest-from .ensures .bytes) (part-rest (l .loop .out) (l .loop .p))
+    (f .before .loop-test .taken) (c .if1 .left)
 
 same-length : tie.Need-same-length Inv-loop μ-loop
 same-length c = c .before .loop .inv .same-length

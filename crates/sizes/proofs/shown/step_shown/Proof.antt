@@ -23,11 +23,13 @@ bytes c =
     drop (startBy (now (a .base)) (now (a .b)) (now (a .index)) (a .view) (a .t .0)) (now (a .b))
 
 -- what its words say by the rule is what it says
-told : (c : tie.After-size-rule) {x : Step} → x ≡ stepBy (sizeRuleOf (c .size-rule .result)) (wordAt lowFirst (bytes c) 8) (wordAt lowFirst (bytes c) 12) (wordAt lowFirst (bytes c) 20)
+told : (c : tie.After-size-rule) {x : Step}
+    → x ≡ stepBy (sizeRuleOf (c .size-rule .result)) (wordAt lowFirst (bytes c) 8) (wordAt lowFirst (bytes c) 12) (wordAt lowFirst (bytes c) 20)
     → let a = c .before .before .before .before .before .args in x ≡ stepIn (tableBy (now (a .base)) (now (a .b)) (now (a .index)) (a .view)) (a .t .0)
 told c says =
     let a = c .before .before .before .before .before .args in
-    stepIn-rule _ (a .t .0) (bytes c) (startBy-record (now (a .base)) (now (a .b)) (now (a .index)) (a .view) (a .t .0)) (c .before .kind-at .ensures) (c .size-rule .ensures) says
+    stepIn-rule _ (a .t .0) (bytes c)
+    (startBy-record (now (a .base)) (now (a .b)) (now (a .index)) (a .view) (a .t .0)) (c .before .kind-at .ensures) (c .size-rule .ensures) says
 
 kind-at-requires : tie.Need-kind-at-requires
 kind-at-requires c κs = search needs
@@ -54,7 +56,9 @@ returns-2 : tie.Need-returns-2
 returns-2 c = told (c .before .before) (rw (c .before .match .keys2) (ap {B = Step} is (c .word-of .ensures .says)))
 
 returns-3 : tie.Need-returns-3
-returns-3 c = told (c .before .before .before) (rw (c .before .before .match .keys3) (ap₂ {C = Step} manyOf (c .before .word-of2 .ensures .says) (c .word-of3 .ensures .says)))
+returns-3 c =
+    told (c .before .before .before)
+    (rw (c .before .before .match .keys3) (ap₂ {C = Step} manyOf (c .before .word-of2 .ensures .says) (c .word-of3 .ensures .says)))
 
 returns-4 : tie.Need-returns-4
 returns-4 c = told (c .before .before) (rw (c .before .match .keys4) (ap {B = Step} (manyOf 1) (c .word-of4 .ensures .says)))
