@@ -1,10 +1,11 @@
 -- Laws of `Run`: what running a case gives, by its op.
 -- Assumes nothing.
-use Prim.Native.Nat.{ℕ}
-use mathlib.Core.Path.{_≡_, refl, ap₂, _∙_}
-use mathlib.Core.Bool.{Bool, cond}
+use Prim.Native.Nat.{ℕ, _≤_, _<_}
+use mathlib.Core.Path.{_≡_, refl, sym, ap, ap₂, subst, _∙_}
+use mathlib.Core.Bool.{Bool, true, false, cond, _&&_}
 use mathlib.Core.List.{List}
-use borrow.Author.Tests.{ne-eqb}
+use borrow.Author.Tests.{ne-eqb, le-leb, lt-leb}
+use lib.Dec.{leb}
 use lib.ListN.{length}
 use Rattle.paper.specs.rules.Answer.{Answer}
 use Rattle.paper.specs.rules.Gate.{gate}
@@ -14,11 +15,11 @@ use Rattle.paper.specs.rules.Size.{sizeOf}
 use Rattle.paper.specs.rules.Word.{lowFirst, words, bytesOfWords}
 use Rattle.sums.specs.Sum.{sumOf, lentPlaces, lentBytes}
 use Rattle.replay.specs.Case.{checkSeen, sizeSeen, nameSeen, joinSeen, plainly, seenSums}
-use Rattle.replay.specs.Run.{RanAs, RunOf}
+use Rattle.replay.specs.Run.{ranOf, RanAs, RunOf}
 use Rattle.replay.specs.declared.cases.Head.{Head}
 use Rattle.replay.specs.declared.cases.Seen.{Seen}
 use Rattle.replay.specs.declared.ops.Ran.{Ran}
-use Rattle.replay.specs.declared.ops.Ran.the-variants.{Unknown}
+use Rattle.replay.specs.declared.ops.Ran.the-variants.{Saw, Unknown, Large}
 
 -- what is seen with the gate's answer and the sums of the gate's slices is what is seen of a check
 pub check-seen : (a : List ℕ) (places workPlaces bytes : ℕ) {seen : Seen} {r : Answer} {i w : List ℕ} {x y z : ℕ} → seen ≡ seenSums r x y z
@@ -54,6 +55,33 @@ check-cut a bytes ep eq e = e ∙ ap₂ (λ (p q : ℕ). checkSeen a p q (lentBy
 pub join-cut : (a b : List ℕ) {seen : Seen} {p q o places workPlaces bytes : ℕ} → p ≡ places → q ≡ workPlaces → o ≡ bytes
     → seen ≡ joinSeen a b p q (lentBytes o) → seen ≡ joinSeen a b places workPlaces (lentBytes bytes)
 join-cut a b ep eq eo e = e ∙ (λ i. joinSeen a b (ep i) (eq i) (lentBytes (eo i)))
+
+-- ── all that a case lends fits, or the first thing that does not is told ──
+
+module _ (must : Seen) where
+  -- of arrays whose length is not said
+  pub ran-as : (fits : Bool) {r : Ran} → r ≡ ranOf fits must → RanAs r must
+  unfolding ranOf
+  ran-as true e = subst (λ (r : Ran). RanAs r must) (sym e) refl
+  ran-as false e = subst (λ (r : Ran). RanAs r must) (sym e) tt
+
+  module _ {m n : ℕ} where
+    pub ran-large : n < m → Large ≡ ranOf (leb m n) must
+    unfolding ranOf
+    ran-large h = ap (λ (t : Bool). ranOf t must) (sym (lt-leb m n h))
+
+    pub ran-whole : m ≤ n → {seen : Seen} → seen ≡ must → Saw seen ≡ ranOf (leb m n) must
+    unfolding ranOf
+    ran-whole h e = ap {B = Ran} Saw e ∙ ap (λ (t : Bool). ranOf t must) (sym (le-leb m n h))
+
+    -- one more thing that is lent
+    pub ran-large-and : (later : Bool) → n < m → Large ≡ ranOf (leb m n && later) must
+    unfolding ranOf
+    ran-large-and later h = ap (λ (t : Bool). ranOf (t && later) must) (sym (lt-leb m n h))
+
+    pub ran-and : (later : Bool) → m ≤ n → {r : Ran} → r ≡ ranOf later must → r ≡ ranOf (leb m n && later) must
+    unfolding ranOf
+    ran-and later h e = e ∙ ap (λ (t : Bool). ranOf (t && later) must) (sym (le-leb m n h))
 
 module _ (h : Head) (a b : List ℕ) where
   pub run-unknown : (h .op ≡ 1 → ⊥) → (h .op ≡ 2 → ⊥) → (h .op ≡ 3 → ⊥) → (h .op ≡ 4 → ⊥) → RunOf Unknown h a b

@@ -1,7 +1,7 @@
 -- What running a case gives, and what becomes of it: the table of ops.
 use Prim.Native.Nat.{ℕ}
 use mathlib.Core.Path.{_≡_}
-use mathlib.Core.Bool.{cond}
+use mathlib.Core.Bool.{Bool, cond}
 use mathlib.Core.List.{List}
 use lib.Dec.{eqb}
 use Rattle.paper.specs.rules.Word.{lowFirst, words}
@@ -15,7 +15,11 @@ use Rattle.replay.specs.declared.tally.Outcome.the-variants.{Agreed, Dif
 use Rattle.replay.specs.declared.tally.Turn as turn
 use Rattle.replay.specs.declared.tally.Turn.the-variants as is
 
--- what was seen is what must be; or the case asks for more than the arrays hold
+-- what is given of a case: what is seen where all that it lends fits the arrays, else that it asks for too much
+unfoldable pub ranOf : Bool → Seen → Ran
+ranOf fits seen = cond fits (Saw seen) Large
+
+-- the same of arrays whose length is not said: what was seen is what must be, or the case asks for more than they hold
 abbrev pub RanAs : Ran → Seen → Type 0
 RanAs (Saw seen) must = seen ≡ must
 RanAs Unknown must = ⊥

@@ -16,12 +16,14 @@ use sums::of_bytes;
 use sums::of_places;
 use sums::places_lent;
 ghost use mathlib.Core.Path.{_≡_};
+ghost use mathlib.Core.Bool.{_&&_};
 ghost use Prim.Native.Nat.{_/_, _<_};
+ghost use lib.Dec.{leb};
 ghost use lib.ListN.{length};
 ghost use Rattle.answers.specs.Numbers.{asPaper};
 ghost use Rattle.paper.specs.rules.Word.{lowFirst, words};
 ghost use Rattle.replay.specs.Case.{checkSeen, joinSeen, nameSeen, plainly, seenSums, sizeSeen};
-ghost use Rattle.replay.specs.Run.{RanAs, RunOf};
+ghost use Rattle.replay.specs.Run.{RanAs, RunOf, ranOf};
 ghost use Rattle.sums.specs.Sum.{lentBytes};
 
 // What running a case gives: what was seen; that there is no such op; or that the case asks for more than the op's arrays hold.
@@ -69,7 +71,7 @@ fn check_lent(a: &[u8], index: &mut [u32], work: &mut [u32], bytes: u32) -> Seen
 }
 
 fn check_in(h: Head, a: &[u8], index: &mut [u32], work: &mut [u32]) -> Ran
-    ensures { λ r. ⌜ RanAs r (checkSeen (now (a .entry)) (h .index) (h .work) (lentBytes (h .output))) ⌝ }
+    ensures { λ r. ⌜ r ≡ ranOf (leb (h .index) (length (now (index .entry))) && leb (h .work) (length (now (work .entry)))) (checkSeen (now (a .entry)) (h .index) (h .work) (lentBytes (h .output))) ⌝ }
 {
     let places = h.index as usize;
     let works = h.work as usize;
@@ -107,7 +109,7 @@ fn size_lent(h: Head, a: &[u8], b: &[u8], given: &mut [u32]) -> Seen
 }
 
 fn size_in(h: Head, a: &[u8], b: &[u8], given: &mut [u32]) -> Ran
-    ensures { λ r. ⌜ RanAs r (sizeSeen (h .x) (now (a .entry)) (words lowFirst (now (b .entry))) (h .index) (h .work) (h .output)) ⌝ }
+    ensures { λ r. ⌜ r ≡ ranOf (leb (length (now (b .entry)) / 4) (length (now (given .entry)))) (sizeSeen (h .x) (now (a .entry)) (words lowFirst (now (b .entry))) (h .index) (h .work) (h .output)) ⌝ }
 {
     let n = b.len() / 4;
     if given.len() < n {
@@ -141,7 +143,7 @@ fn name_lent(h: Head, a: &[u8]) -> Seen
 }
 
 fn name(h: Head, a: &[u8]) -> Ran
-    ensures { λ r. ⌜ RanAs r (nameSeen (h .x) (now (a .entry)) (h .index) (h .work)) ⌝ }
+    ensures { λ r. ⌜ r ≡ ranOf (leb (length (now (a .entry))) 4294967295) (nameSeen (h .x) (now (a .entry)) (h .index) (h .work)) ⌝ }
 {
     if 4294967295 < a.len() {
         return Ran::Large;
@@ -168,7 +170,7 @@ fn join_in(
     work: &mut [u32],
     output: &mut [u8],
 ) -> Ran
-    ensures { λ r. ⌜ RanAs r (joinSeen (now (a .entry)) (now (b .entry)) (h .index) (h .work) (lentBytes (h .output))) ⌝ }
+    ensures { λ r. ⌜ r ≡ ranOf (leb (h .index) (length (now (index .entry))) && (leb (h .work) (length (now (work .entry))) && leb (h .output) (length (now (output .entry))))) (joinSeen (now (a .entry)) (now (b .entry)) (h .index) (h .work) (lentBytes (h .output))) ⌝ }
 {
     let places = h.index as usize;
     let works = h.work as usize;

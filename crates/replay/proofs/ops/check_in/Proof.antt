@@ -4,7 +4,7 @@ use mathlib.Core.Path.{sym}
 use native.Mathlib.Omega.{arith}
 use denote.Ref.{now}
 use lib.Seq.{length-take-le}
-use Rattle.replay.proofs.Runs.{check-cut}
+use Rattle.replay.proofs.Runs.{check-cut, ran-large, ran-large-and, ran-whole, ran-and}
 use borrow.Author.Needs.{needs}
 use Rattle.replay.proofs.ops.check_in.Statement.{statement}
 use Rattle.replay.proofs.ops.check_in.Tie as tie
@@ -16,10 +16,10 @@ cast-works : tie.Need-cast-works
 cast-works c = search needs
 
 returns : tie.Need-returns
-returns c = search needs
+returns c = ran-large-and _ _ (c .if1 .taken)
 
 returns-2 : tie.Need-returns-2
-returns-2 c = search needs
+returns-2 c = ran-and _ _ (c .before .if1 .left) (ran-large _ (c .if2 .taken))
 
 slice-relend-prefix-index : tie.Need-slice-relend-prefix-index
 slice-relend-prefix-index c = search needs
@@ -47,8 +47,10 @@ returns-3 c =
     let k = c .before .before .before .before in
     let e = k .before .before .before in
     let s = e .before .before .before .before .before .before .before .args in
-    check-cut (now (s .a)) (s .h .output) (length-take-le (s .h .index) (now (s .index)) (omega (arith, e .before .if1 .left)))
-    (length-take-le (s .h .work) (now (s .work)) (omega (arith, e .if2 .left))) (k .check-lent .ensures)
+    ran-and _ _ (e .before .if1 .left)
+    (ran-whole _ (e .if2 .left)
+    (check-cut (now (s .a)) (s .h .output) (length-take-le (s .h .index) (now (s .index)) (omega (arith, e .before .if1 .left)))
+    (length-take-le (s .h .work) (now (s .work)) (omega (arith, e .if2 .left))) (k .check-lent .ensures)))
 
 pub check-in-spec : {M : Type 1} → statement M
 check-in-spec =

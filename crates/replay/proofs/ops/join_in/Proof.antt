@@ -4,7 +4,7 @@ use mathlib.Core.Path.{sym}
 use native.Mathlib.Omega.{arith}
 use denote.Ref.{now}
 use lib.Seq.{length-take-le}
-use Rattle.replay.proofs.Runs.{join-cut}
+use Rattle.replay.proofs.Runs.{join-cut, ran-large, ran-large-and, ran-whole, ran-and}
 use borrow.Author.Needs.{needs}
 use Rattle.replay.proofs.ops.join_in.Statement.{statement}
 use Rattle.replay.proofs.ops.join_in.Tie as tie
@@ -19,13 +19,13 @@ cast-bytes : tie.Need-cast-bytes
 cast-bytes c = search needs
 
 returns : tie.Need-returns
-returns c = search needs
+returns c = ran-large-and _ _ (c .if1 .taken)
 
 returns-2 : tie.Need-returns-2
-returns-2 c = search needs
+returns-2 c = ran-and _ _ (c .before .if1 .left) (ran-large-and _ _ (c .if2 .taken))
 
 returns-3 : tie.Need-returns-3
-returns-3 c = search needs
+returns-3 c = ran-and _ _ (c .before .before .if1 .left) (ran-and _ _ (c .before .if2 .left) (ran-large _ (c .if3 .taken)))
 
 slice-relend-prefix-index : tie.Need-slice-relend-prefix-index
 slice-relend-prefix-index c = search needs
@@ -62,9 +62,12 @@ returns-4 c =
     let k = c .before .before .before .before .before .before in
     let e = k .before .before .before .before in
     let s = e .before .before .before .before .before .before .before .before .before .before .before .args in
-    join-cut (now (s .a)) (now (s .b)) (length-take-le (s .h .index) (now (s .index)) (omega (arith, e .before .before .if1 .left)))
+    ran-and _ _ (e .before .before .if1 .left)
+    (ran-and _ _ (e .before .if2 .left)
+    (ran-whole _ (e .if3 .left)
+    (join-cut (now (s .a)) (now (s .b)) (length-take-le (s .h .index) (now (s .index)) (omega (arith, e .before .before .if1 .left)))
     (length-take-le (s .h .work) (now (s .work)) (omega (arith, e .before .if2 .left)))
-    (length-take-le (s .h .output) (now (s .output)) (omega (arith, e .if3 .left))) (k .join-lent .ensures)
+    (length-take-le (s .h .output) (now (s .output)) (omega (arith, e .if3 .left))) (k .join-lent .ensures))))
 
 pub join-in-spec : {M : Type 1} → statement M
 join-in-spec =

@@ -1,6 +1,6 @@
 -- `replay::ops::run` meets its contract: what each op gives.
 -- Assumes nothing.
-use Rattle.replay.proofs.Runs.{run-check, run-size, run-name, run-join, run-unknown}
+use Rattle.replay.proofs.Runs.{run-check, run-size, run-name, run-join, run-unknown, ran-as}
 use borrow.Author.Needs.{needs}
 use Rattle.replay.proofs.ops.run.Statement.{statement}
 use Rattle.replay.proofs.ops.run.Tie as tie
@@ -24,7 +24,7 @@ returns-2 : tie.Need-returns-2
 returns-2 c = run-size _ _ _ _ (c .before .match .keys2) (c .size .ensures)
 
 returns-3 : tie.Need-returns-3
-returns-3 c = run-name _ _ _ _ (c .before .match .keys3) (c .name .ensures)
+returns-3 c = run-name _ _ _ _ (c .before .match .keys3) (ran-as _ _ (c .name .ensures))
 
 returns-4 : tie.Need-returns-4
 returns-4 c = run-join _ _ _ _ (c .before .match .keys4) (c .join .ensures)

@@ -3,12 +3,13 @@
 use mathlib.Core.Path.{sym}
 use native.Mathlib.Omega.{arith}
 use lib.Seq.{length-take-le}
+use Rattle.replay.proofs.Runs.{ran-large, ran-whole}
 use borrow.Author.Needs.{needs}
 use Rattle.replay.proofs.ops.size_in.Statement.{statement}
 use Rattle.replay.proofs.ops.size_in.Tie as tie
 
 returns : tie.Need-returns
-returns c = search needs
+returns c = ran-large _ (c .if1 .taken)
 
 slice-relend-prefix-size-lent : tie.Need-slice-relend-prefix-size-lent
 slice-relend-prefix-size-lent c = search needs
@@ -23,7 +24,7 @@ same-length : tie.Need-same-length
 same-length c = search needs
 
 returns-2 : tie.Need-returns-2
-returns-2 c = search needs
+returns-2 c = let k = c .before .before in ran-whole _ (k .before .before .if1 .left) (k .size-lent .ensures)
 
 pub size-in-spec : {M : Type 1} → statement M
 size-in-spec =
