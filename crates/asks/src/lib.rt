@@ -8,7 +8,6 @@ use libc::STDERR_FILENO;
 use libc::STDOUT_FILENO;
 use lines::Out;
 use lines::ROOM;
-use lines::first_of;
 use lines::flush;
 use lines::put;
 use lines::put_file;
@@ -24,6 +23,7 @@ use paper::Checked;
 use paper::NameOff;
 use paper::TypeNo;
 use reports::put_report;
+use texts::first_of;
 use titles::put_type;
 
 // Everything, one type, those of a name, a type's size, or the name at an offset.

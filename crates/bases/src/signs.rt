@@ -1,8 +1,8 @@
 // How a record's numbers are read: an INT's by its encoding, an enum's by its kind_flag and nothing else.
+use kindrows::ENUM;
+use kindrows::ENUM64;
+use kindrows::INT;
 use paper::Place;
-use rows::ENUM;
-use rows::ENUM64;
-use rows::INT;
 use rows::flag_of;
 use rows::kind_of;
 ghost use mathlib.Core.Path.{_≡_};

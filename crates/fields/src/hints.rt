@@ -1,10 +1,10 @@
 // What bytes that are no table are instead, as far as their first words tell: a line behind the report.
 use lines::Out;
 use lines::ROOM;
-use lines::line;
 use lines::put;
 use lines::put_with;
 use paper::Place;
+use texts::line;
 use titles::put_many;
 
 // The parts of a .BTF.ext section begin with the length of their records, 8 bytes for functions and 16 for lines; its header is

@@ -2,10 +2,10 @@
 use crate::bytes::put_bytes;
 use lines::Out;
 use lines::ROOM;
-use lines::line;
 use lines::put;
 use lines::put_with;
 use paper::Place;
+use texts::line;
 use titles::put_many;
 use words::rest_from;
 

@@ -1,8 +1,8 @@
 // A table is written under another name beside its own, and renamed when all of it is on the disk: whatever fails, what
 // stood under its name before stands there still.
 use crate::reads::fail;
-use lines::first_of;
 use paper::Place;
+use texts::first_of;
 use words::lay;
 
 // Four random bytes; zeros where the system has none.

@@ -1,7 +1,6 @@
 // Whether two types of two tables say the same: the info word, names by their bytes, what is referred to by its kind, name and
 // size, one step and no further, all other words as they stand.
 use answers::of_sized;
-use lines::first_of;
 use paper::Place;
 use paper::Sized;
 use paper::TypeNo;
@@ -17,6 +16,7 @@ use rows::once_words;
 use rows::tail_words;
 use rows::third_of;
 use rows::third_role;
+use texts::first_of;
 use views::View;
 use views::record_of;
 use views::strings_of;

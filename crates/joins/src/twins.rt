@@ -2,14 +2,14 @@
 use crate::same::record_at;
 use crate::same::same_name;
 use crate::same::same_record;
+use kindrows::DATASEC;
+use kindrows::DECL_TAG;
+use kindrows::TYPE_TAG;
 use lines::Out;
 use lines::ROOM;
 use lines::put;
 use lines::put_file;
 use lines::put_with;
-use rows::DATASEC;
-use rows::DECL_TAG;
-use rows::TYPE_TAG;
 use rows::info_of;
 use rows::kind_of;
 use rows::name_of;

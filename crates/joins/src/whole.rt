@@ -10,15 +10,15 @@ use libc::STDERR_FILENO;
 use libc::STDOUT_FILENO;
 use lines::Out;
 use lines::ROOM;
-use lines::first_of;
 use lines::flush;
-use lines::line;
 use lines::put;
 use lines::put_file;
 use lines::put_with;
 use paper::Joined;
 use reports::put_report;
 use scan::Scanned;
+use texts::first_of;
+use texts::line;
 
 // How many types a table has that has passed, and their places.
 fn count(blob: &[u8], index: &mut [u32], work: usize) -> u32 {

@@ -1,10 +1,10 @@
 // Report 15, members: every span ends by the record's end; offsets do not fall in a struct and are 0 in a union.
 use crate::bases::base_record;
 use crate::sized::size_of;
+use kindrows::UNION;
 use paper::Place;
 use paper::Sized;
 use paper::TypeNo;
-use rows::UNION;
 use rows::flag_of;
 use rows::kind_of;
 use rows::tail_words;

@@ -1,10 +1,10 @@
 // Report 15, arrays, functions and tags.
 use crate::sized::has_size;
+use kindrows::FUNC;
+use kindrows::STRUCT;
+use kindrows::UNION;
 use paper::Place;
 use paper::TypeNo;
-use rows::FUNC;
-use rows::STRUCT;
-use rows::UNION;
 use rows::kind_of;
 use rows::tail_words;
 use rows::vlen_of;

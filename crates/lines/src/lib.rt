@@ -1,10 +1,6 @@
-// The tool's text: pieces that wait in a buffer, one line of several, and a decimal argument.
-mod numbers; // a decimal argument
+// What the tool writes: pieces that wait in a buffer.
 mod out; // the buffer
-mod texts; // a line of a text, the first bytes of some
 
-pub use numbers::Number;
-pub use numbers::parse;
 pub use out::Out;
 pub use out::ROOM;
 pub use out::flush;
@@ -19,5 +15,3 @@ pub use out::put_whole;
 pub use out::put_wide;
 pub use out::put_with;
 pub use out::to;
-pub use texts::first_of;
-pub use texts::line;

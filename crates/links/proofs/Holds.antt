@@ -21,7 +21,7 @@ use Rattle.paper.specs.rules.Word.{lowFirst, wordAt}
 use Rattle.paper.proofs.bytes.Reading.{length-times, length-recordIn}
 use Rattle.rows.proofs.RecordWords.{getD-wordsFrom}
 use Rattle.rows.proofs.RoleCodes.{nameCode-range, refCode-range, roleCode-high, between-in, between-out}
-use Rattle.rows.specs.Codes.{nameCode, roleCode, roleAt, isHeldCode}
+use Rattle.kindrows.specs.Codes.{nameCode, roleCode, roleAt, isHeldCode}
 use Rattle.links.specs.Holding.{tailRolesBy, rolesBy, heldFrom, NextHeld, WordOf}
 
 -- ── the role of a word by its number ──

@@ -17,7 +17,7 @@ ghost use Rattle.links.specs.Holding.{HeldIs, WordOf, heldFrom, rolesBy,
 ghost use Rattle.paper.specs.rules.Chain.{stepTo};
 ghost use Rattle.paper.specs.terms.Reading.{recordIn};
 ghost use Rattle.paper.specs.rules.Word.{lowFirst};
-ghost use Rattle.rows.specs.Codes.{roleAt};
+ghost use Rattle.kindrows.specs.Codes.{roleAt};
 
 // A type that is held, with the number of the word behind the reference, or that no more are held.
 pub(crate) enum Held {

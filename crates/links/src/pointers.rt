@@ -1,9 +1,9 @@
 // Phase 5, the second sort of walk: over PTR, TYPEDEF, VOLATILE, CONST, RESTRICT and TYPE_TAG. A type leads to one type at most, so
 // there is no way back to keep: a walk is a line, and each type is entered once, for the first root that comes to it.
 use crate::chains::Ring;
+use kindrows::PTR;
 use paper::Place;
 use paper::TypeNo;
-use rows::PTR;
 use rows::is_alias;
 use rows::kind_of;
 use views::View;

@@ -15,7 +15,7 @@ use Rattle.paper.specs.rules.References.{isPlain, refOk, refWordOk, mayBeKind}
 use Rattle.paper.specs.rules.Table.{Table, kindAt}
 use Rattle.paper.specs.rules.Walk.{known}
 use Rattle.rows.proofs.RoleCodes.{between-in, between-out}
-use Rattle.rows.specs.Codes.{roleOf, isRefCode, ruleCode}
+use Rattle.kindrows.specs.Codes.{roleOf, isRefCode, ruleCode}
 use Rattle.rows.proofs.Members.{member-key, member-no-key}
 
 -- ── plain kinds ──

@@ -1,15 +1,15 @@
 // Phase 4, report 13: "a reference above n or to a forbidden kind". A record's words are gone over three at a time, each by its role.
+use kindrows::DATASEC;
+use kindrows::DECL_TAG;
+use kindrows::FUNC;
+use kindrows::FUNC_PROTO;
+use kindrows::INT;
+use kindrows::STRUCT;
+use kindrows::TYPEDEF;
+use kindrows::UNION;
+use kindrows::VAR;
 use paper::Place;
 use paper::TypeNo;
-use rows::DATASEC;
-use rows::DECL_TAG;
-use rows::FUNC;
-use rows::FUNC_PROTO;
-use rows::INT;
-use rows::STRUCT;
-use rows::TYPEDEF;
-use rows::UNION;
-use rows::VAR;
 use rows::entry_role;
 use rows::entry_words;
 use rows::is_known;
@@ -33,7 +33,7 @@ ghost use Rattle.paper.specs.terms.Reading.{recordIn, roled, tailRoled};
 ghost use Rattle.paper.specs.rules.References.{isPlain, mayBeKind, refWordOk, refsOk};
 ghost use Rattle.paper.specs.rules.Kind.{taggable};
 ghost use Rattle.paper.specs.rules.Word.{lowFirst, wordAt};
-ghost use Rattle.rows.specs.Codes.{roleOf};
+ghost use Rattle.kindrows.specs.Codes.{roleOf};
 ghost use Rattle.views.specs.Shown.{tableBy};
 
 // "Plain kinds are all but FUNC, VAR, DATASEC, DECL_TAG".

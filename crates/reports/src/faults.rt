@@ -1,15 +1,15 @@
 // Which bytes break the rule of a report, as far as one word or one entry does: the first where there are several.
 use crate::firsts::cut_info;
 use crate::firsts::first_entry;
+use kindrows::ARRAY;
+use kindrows::DECL_TAG;
+use kindrows::FUNC;
+use kindrows::FUNC_PROTO;
+use kindrows::INT;
+use kindrows::STRUCT;
+use kindrows::UNION;
 use paper::Place;
 use paper::TypeNo;
-use rows::ARRAY;
-use rows::DECL_TAG;
-use rows::FUNC;
-use rows::FUNC_PROTO;
-use rows::INT;
-use rows::STRUCT;
-use rows::UNION;
 use rows::entry_words;
 use rows::kind_of;
 use rows::tail_words;

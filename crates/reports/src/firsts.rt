@@ -1,6 +1,5 @@
 // Which entry of a record is the first that breaks the rule of a report: the record is cut to its first entries, and what judges it
 // is asked again. A rule that some entries break is broken by more of them too, so halving finds the entry.
-use lines::first_of;
 use links::Linked;
 use links::links;
 use paper::Place;
@@ -8,6 +7,7 @@ use paper::TypeNo;
 use rows::entry_words;
 use rows::kind_of;
 use rows::vlen_of;
+use texts::first_of;
 use views::View;
 use views::record_of;
 use views::strings_of;

@@ -1,15 +1,15 @@
 // The bytes of the record that a report names: its head, the words behind it that the rule is about, and a word on either side.
 use crate::records::types_of;
 use fields::put_bare;
+use kindrows::DECL_TAG;
+use kindrows::FUNC;
+use kindrows::STRUCT;
+use kindrows::UNION;
 use lines::Out;
 use lines::ROOM;
 use lines::put;
 use lines::put_with;
 use paper::TypeNo;
-use rows::DECL_TAG;
-use rows::FUNC;
-use rows::STRUCT;
-use rows::UNION;
 use rows::info_of;
 use rows::kind_of;
 use rows::tail_words;

@@ -10,11 +10,11 @@ use fields::put_header;
 use fields::put_hint;
 use lines::Out;
 use lines::ROOM;
-use lines::line;
 use lines::put;
 use lines::put_with;
 use rulings::put_rule;
 use scan::Scanned;
+use texts::line;
 use titles::put_record;
 use words::rest_from;
 

@@ -14,7 +14,7 @@ use Rattle.paper.specs.rules.Table.{kindIn, vlenIn, everyWord}
 use Rattle.paper.specs.rules.Word.{Order, wordAt}
 use Rattle.paper.proofs.basics.Choices.{and-nothing}
 use Rattle.paper.proofs.bytes.Reading.{roled-append, everyWord-recordIn}
-use Rattle.rows.specs.Codes.{nameCode, roleCode, roleOf, roleAt}
+use Rattle.kindrows.specs.Codes.{nameCode, roleCode, roleOf, roleAt}
 use Rattle.rows.proofs.RoleCodes.{roleOf-nameCode, roleOf-roleCode}
 
 module _ (order : Order) (f : Role → ℕ → Bool) (s : List ℕ) where

@@ -1,4 +1,3 @@
-pub mod Columns
 pub mod Members
 pub mod RoleCodes
 pub mod ByRole

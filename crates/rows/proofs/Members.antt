@@ -13,8 +13,8 @@ use Rattle.paper.specs.rules.Choice.{member}
 use Rattle.paper.specs.rules.Heads.{allowed}
 use Rattle.paper.specs.rules.Kind.{Row, Values, free, rows, rowOf}
 use Rattle.paper.proofs.basics.Choices.{or-left, or-right, false-or, or-nothing}
-use Rattle.rows.specs.Codes.{valuesOf, valuesCode}
-use Rattle.rows.proofs.Columns.{rowOf-agree}
+use Rattle.kindrows.specs.Codes.{valuesOf, valuesCode}
+use Rattle.kindrows.proofs.Columns.{rowOf-agree}
 
 -- ── a match on numbers ──
 

@@ -15,7 +15,7 @@ use Rattle.paper.specs.rules.Kind.{RefRule, voidOrPlain, plain, anInt, aProto, 
 use Rattle.paper.specs.rules.Kind.{SizeRule, eight, sizeWord, countTimes, referent, noSize, Row, rows, rowOf}
 use Rattle.paper.specs.rules.Table.{kindIn, vlenIn, tailLength}
 use Rattle.paper.proofs.basics.Rows.{rowOf-every}
-use Rattle.rows.specs.Codes.{nameCode, refCode, roleCode, roleOf, roleAt, between, sizeCode, sizeRuleOf}
+use Rattle.kindrows.specs.Codes.{nameCode, refCode, roleCode, roleOf, roleAt, between, sizeCode, sizeRuleOf}
 
 -- ── codes and what they stand for ──
 

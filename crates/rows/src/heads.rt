@@ -1,10 +1,10 @@
 // "Head (10)": which numbers the kind_flag, the vlen and the third word of each kind may be.
-use crate::table::column;
-use crate::table::head_row;
+use crate::columns::column;
+use kindrows::head_row;
 ghost use mathlib.Core.Path.{_≡_};
 ghost use Rattle.paper.specs.rules.Heads.{allowed};
 ghost use Rattle.paper.specs.rules.Kind.{rowOf};
-ghost use Rattle.rows.specs.Codes.{valuesOf};
+ghost use Rattle.kindrows.specs.Codes.{valuesOf};
 
 // A size that an ENUM or ENUM64 may have.
 fn enum_size(w: u32) -> bool

@@ -1,6 +1,6 @@
 // The parts of an info word: "bits 0 to 15 vlen, 24 to 28 kind, 31 kind_flag".
-use crate::kinds::ENUM64;
-use crate::kinds::INT;
+use kindrows::ENUM64;
+use kindrows::INT;
 ghost use mathlib.Core.Path.{_≡_};
 ghost use Rattle.paper.specs.rules.Table.{flagIn, kindIn, vlenIn};
 ghost use Rattle.paper.specs.rules.Walk.{known};

@@ -1,14 +1,14 @@
 // The words of a record by kind: how many there are, the role of each, and where the size comes from.
+use crate::columns::column;
 use crate::info::kind_of;
 use crate::info::vlen_of;
-use crate::table::column;
-use crate::table::head_row;
-use crate::table::tail_row;
+use kindrows::head_row;
+use kindrows::tail_row;
 ghost use mathlib.Core.Path.{_≡_};
 ghost use lib.ListN.{length};
 ghost use Rattle.paper.specs.rules.Kind.{rowOf};
 ghost use Rattle.paper.specs.rules.Table.{tailLength};
-ghost use Rattle.rows.specs.Codes.{isHeldCode, isNameCode, isRefCode, nameCode, roleAt, roleCode, ruleCode, sizeCode};
+ghost use Rattle.kindrows.specs.Codes.{isHeldCode, isNameCode, isRefCode, nameCode, roleAt, roleCode, ruleCode, sizeCode};
 
 // The role of a head's third word.
 pub fn third_role(kind: u32) -> u32

@@ -13,7 +13,7 @@ use Rattle.paper.specs.rules.Name.{nameIn}
 use Rattle.paper.specs.rules.Names.{nameFits, nameOk, nameWordOk}
 use Rattle.paper.proofs.basics.Choices.{every-getD}
 use Rattle.rows.proofs.RoleCodes.{between-in, between-out}
-use Rattle.rows.specs.Codes.{roleOf, isNameCode}
+use Rattle.kindrows.specs.Codes.{roleOf, isNameCode}
 use Rattle.rules.specs.Parts.{nameRuleOf}
 
 -- a code of 1 to 6 is that of a name

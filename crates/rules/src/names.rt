@@ -23,7 +23,7 @@ ghost use Rattle.paper.specs.rules.Name.{isIdentifier, nameIn};
 ghost use Rattle.paper.specs.rules.Names.{nameFits, nameWordOk, namesOk};
 ghost use Rattle.paper.specs.terms.Reading.{recordIn, roled, tailRoled};
 ghost use Rattle.paper.specs.rules.Word.{lowFirst, wordAt};
-ghost use Rattle.rows.specs.Codes.{roleOf};
+ghost use Rattle.kindrows.specs.Codes.{roleOf};
 ghost use Rattle.rules.specs.Parts.{nameRuleOf};
 
 // The name at an offset is an identifier, however long.

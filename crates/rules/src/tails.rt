@@ -1,8 +1,8 @@
 // Report 12: "a tail word breaks the list".
+use kindrows::FUNC_PROTO;
+use kindrows::INT;
+use kindrows::VAR;
 use paper::Place;
-use rows::FUNC_PROTO;
-use rows::INT;
-use rows::VAR;
 use rows::kind_of;
 use rows::vlen_of;
 ghost use mathlib.Core.Path.{_≡_};

@@ -1,12 +1,12 @@
 // The rule that a report from 10 to 15 says is broken, by the kind of the record: a line for each kind, from 0 on.
+use kindrows::STRUCT;
+use kindrows::UNION;
 use lines::Out;
 use lines::ROOM;
-use lines::line;
 use lines::put;
-use rows::STRUCT;
-use rows::UNION;
 use rows::flag_of;
 use rows::kind_of;
+use texts::line;
 
 // Report 10, of the words of a head.
 fn put_head_rule(buf: &mut [u8; ROOM], o: Out, kind: u32) -> Out {

@@ -22,7 +22,7 @@ use Rattle.paper.specs.terms.Reading.{recordIn, wordsFrom}
 use Rattle.paper.specs.rules.Rename.{rename, raise}
 use Rattle.paper.specs.rules.Table.{kindIn, vlenIn, tailLength, tailRoles}
 use Rattle.rows.proofs.RoleCodes.{nameCode-range, refCode-range, roleCode-high, between-in, between-out}
-use Rattle.rows.specs.Codes.{roleCode, roleAt, isNameCode, isRefCode}
+use Rattle.kindrows.specs.Codes.{roleCode, roleAt, isNameCode, isRefCode}
 use Rattle.paper.specs.rules.Word.{lowFirst, wordBytes, bytesOfWords, wordAt, putWord}
 
 module _ (by : Shift) (s : List ℕ) where

@@ -16,7 +16,7 @@ use Rattle.paper.specs.rules.Rename.{renameWord, renameWords, rename, raise}
 use Rattle.paper.specs.rules.Table.{Record, wordsOf}
 use Rattle.paper.specs.rules.Walk.{flat}
 use Rattle.paper.specs.rules.Word.{lowFirst, bytesOfWords, putWord}
-use Rattle.rows.specs.Codes.{roleAt, roleCode}
+use Rattle.kindrows.specs.Codes.{roleAt, roleCode}
 
 -- the raising that a shift stands for: of a word, of a run of words, of a record
 abbrev pub raisedWord : Shift → Role → ℕ → ℕ

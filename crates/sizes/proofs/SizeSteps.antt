@@ -10,7 +10,7 @@ use lib.Dec.{leb, eqb}
 use lib.ListN.{length, getD, take, drop, length-drop}
 use Rattle.paper.proofs.bytes.Reading.{wordAt-drop}
 use Rattle.rows.proofs.RoleCodes.{sizeRuleOf-sizeCode}
-use Rattle.rows.specs.Codes.{sizeCode, sizeRuleOf}
+use Rattle.kindrows.specs.Codes.{sizeCode, sizeRuleOf}
 use Rattle.paper.proofs.bytes.Bytes.{part-rest}
 use Rattle.sizes.specs.SizeStep.{readable, stepWords, stepOf}
 use Rattle.paper.specs.rules.Kind.{noSize, rowOf}

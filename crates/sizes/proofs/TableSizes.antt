@@ -17,7 +17,7 @@ use Rattle.paper.specs.rules.Table as table
 use Rattle.paper.specs.rules.Table.{Record, Table, recordAt, kindIn, kindOf, kindAt, tailLength}
 use Rattle.paper.specs.rules.Word.{lowFirst, wordAt}
 use Rattle.rows.proofs.RecordWords.{getD-wordsFrom, kind-read}
-use Rattle.rows.specs.Codes.{sizeCode, sizeRuleOf}
+use Rattle.kindrows.specs.Codes.{sizeCode, sizeRuleOf}
 
 -- ── what is told of what a walk finds: 21 and 22 are no size ──
 

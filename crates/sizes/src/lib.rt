@@ -1,10 +1,10 @@
 // The exact size of a type, asked of any blob and any index. Counts are multiplied down the chain of records.
 mod shown; // of a type of the table that an index shows
 
+use kindrows::ARRAY;
 use paper::Place;
 use paper::Sized;
 use paper::TypeNo;
-use rows::ARRAY;
 use rows::is_known;
 use rows::kind_of;
 use rows::size_rule;
@@ -16,7 +16,7 @@ ghost use Rattle.sizes.specs.SizeStep.{cut, readable, stepAsPaper, stepO
 ghost use Rattle.paper.specs.rules.Answer.{sizedAsPaper};
 ghost use Rattle.paper.specs.rules.Size.{exactly, sizeAnswer, sizeOf, stepAt, stepBy};
 ghost use Rattle.paper.specs.rules.Word.{lowFirst, wordAt};
-ghost use Rattle.rows.specs.Codes.{sizeRuleOf};
+ghost use Rattle.kindrows.specs.Codes.{sizeRuleOf};
 
 // What one record says of a size: it, so many times another type's, none, or that it cannot be read.
 pub(crate) enum Step {

@@ -1,8 +1,8 @@
 // A member's span: which bits of a record it takes, and whether it ends in time. Sums are in 64 bits, since an offset and a span pass 2^32 together.
+use kindrows::ENUM;
+use kindrows::ENUM64;
+use kindrows::INT;
 use paper::Place;
-use rows::ENUM;
-use rows::ENUM64;
-use rows::INT;
 use rows::kind_of;
 ghost use mathlib.Core.Path.{_≡_};
 ghost use mathlib.Core.Bool.{not, _||_};

@@ -3,20 +3,20 @@ use bases::base_of;
 use bases::fourth_of;
 use bases::record_of;
 use bases::sign_of;
+use kindrows::INT;
 use lines::Out;
 use lines::ROOM;
-use lines::line;
 use lines::put;
 use lines::put_name;
 use lines::put_number;
 use lines::put_wide;
 use lines::put_with;
 use paper::NameOff;
-use rows::INT;
 use rows::info_of;
 use rows::is_known;
 use rows::kind_of;
 use rows::name_of;
+use texts::line;
 
 // The kind's name.
 pub fn put_kind(buf: &mut [u8; ROOM], o: Out, kind: u32) -> Out {

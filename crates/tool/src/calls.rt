@@ -15,9 +15,9 @@ use asks::ask_file;
 use files::Status;
 use files::fail_text;
 use joins::join_files;
-use lines::Number;
-use lines::first_of;
-use lines::parse;
+use texts::Number;
+use texts::first_of;
+use texts::parse;
 
 enum Verb {
     Check,

@@ -3,11 +3,11 @@ use files::Status;
 use files::fail_text;
 use libc::STDERR_FILENO;
 use libc::STDOUT_FILENO;
-use lines::first_of;
 use lines::flush;
-use lines::line;
 use lines::put;
 use lines::put_file;
+use texts::first_of;
+use texts::line;
 
 // Which line of the reasons.
 pub(crate) const UNKNOWN: u32 = 0;

@@ -2,13 +2,13 @@
 use crate::Look;
 use crate::referents::put_referent;
 use fields::put_bytes;
+use kindrows::FUNC;
 use lines::Out;
 use lines::ROOM;
 use lines::put;
 use lines::put_name;
 use lines::put_with;
 use paper::NameOff;
-use rows::FUNC;
 use rows::entry_words;
 use rows::flag_allowed;
 use rows::flag_of;

@@ -1,5 +1,6 @@
 // What stands at a number that a word refers to.
 use crate::Look;
+use kindrows::INT;
 use lines::Out;
 use lines::ROOM;
 use lines::put;
@@ -7,7 +8,6 @@ use lines::put_with;
 use listing::put_size;
 use paper::Place;
 use paper::TypeNo;
-use rows::INT;
 use rows::info_of;
 use rows::kind_of;
 use titles::put_record;

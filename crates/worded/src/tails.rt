@@ -2,18 +2,17 @@
 use crate::Look;
 use crate::heads::put_offset;
 use crate::referents::put_referent;
+use kindrows::ENUM64;
+use kindrows::INT;
+use kindrows::STRUCT;
+use kindrows::UNION;
 use lines::Out;
 use lines::ROOM;
-use lines::line;
 use lines::put;
 use lines::put_number;
 use lines::put_wide;
 use lines::put_with;
 use paper::NameOff;
-use rows::ENUM64;
-use rows::INT;
-use rows::STRUCT;
-use rows::UNION;
 use rows::entry_role;
 use rows::entry_words;
 use rows::flag_of;
@@ -23,6 +22,7 @@ use rows::is_reference;
 use rows::kind_of;
 use rows::once_role;
 use rows::once_words;
+use texts::line;
 
 // Which word of a tail: its entry, from 1, or 0 where it stands once; its number there, from 0; its role.
 pub(crate) struct Spot {

@@ -4,7 +4,7 @@ use denote.Ref.{now}
 use Rattle.paper.specs.rules.References.{refWordOk}
 use Rattle.views.specs.Shown.{tableBy}
 use Rattle.paper.specs.rules.Word.{lowFirst}
-use Rattle.rows.specs.Codes.{roleOf}
+use Rattle.kindrows.specs.Codes.{roleOf}
 use Rattle.rows.proofs.ByRole.{three-first, three-second, three-third}
 use borrow.Author.Needs.{needs}
 use Rattle.refs.proofs.three_ok.Statement.{statement}

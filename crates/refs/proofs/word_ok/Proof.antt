@@ -7,7 +7,7 @@ use Rattle.refs.proofs.References.{word-other, word-rule}
 use Rattle.refs.specs.Refers.{refBy, refRuleOf}
 use Rattle.paper.specs.rules.References.{refWordOk}
 use Rattle.views.specs.Shown.{tableBy}
-use Rattle.rows.specs.Codes.{roleOf}
+use Rattle.kindrows.specs.Codes.{roleOf}
 use borrow.Author.Needs.{needs}
 use Rattle.refs.proofs.word_ok.Statement.{statement}
 use Rattle.refs.proofs.word_ok.Tie as tie

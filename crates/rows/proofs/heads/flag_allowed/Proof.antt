@@ -2,8 +2,8 @@
 -- Assumes nothing.
 use mathlib.Core.Path.{refl, _∙_}
 use Rattle.paper.specs.rules.Kind.{Row, rows}
-use Rattle.rows.specs.Codes.{valuesCode, headCode}
-use Rattle.rows.proofs.Columns.{column-is}
+use Rattle.kindrows.specs.Codes.{valuesCode, headCode}
+use Rattle.kindrows.proofs.Columns.{column-is}
 use Rattle.rows.proofs.Members.{allowed-code}
 use borrow.Author.Needs.{needs}
 use Rattle.rows.proofs.heads.flag_allowed.Statement.{statement}

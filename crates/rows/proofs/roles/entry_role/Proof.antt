@@ -2,8 +2,8 @@
 -- Assumes nothing.
 use mathlib.Core.Path.{refl}
 use Rattle.paper.specs.rules.Kind.{Row, rows, rowOf}
-use Rattle.rows.specs.Codes.{roleAt, tailCode}
-use Rattle.rows.proofs.Columns.{column-is}
+use Rattle.kindrows.specs.Codes.{roleAt, tailCode}
+use Rattle.kindrows.proofs.Columns.{column-is}
 use Rattle.rows.proofs.RoleCodes.{each-few, roleAt-past}
 use borrow.Author.Needs.{needs}
 use Rattle.rows.proofs.roles.entry_role.Statement.{statement}

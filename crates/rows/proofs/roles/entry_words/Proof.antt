@@ -3,8 +3,8 @@
 use mathlib.Core.Path.{refl}
 use lib.ListN.{length}
 use Rattle.paper.specs.rules.Kind.{Row, rows}
-use Rattle.rows.specs.Codes.{tailCode}
-use Rattle.rows.proofs.Columns.{column-is}
+use Rattle.kindrows.specs.Codes.{tailCode}
+use Rattle.kindrows.proofs.Columns.{column-is}
 use borrow.Author.Needs.{needs}
 use Rattle.rows.proofs.roles.entry_words.Statement.{statement}
 use Rattle.rows.proofs.roles.entry_words.Tie as tie

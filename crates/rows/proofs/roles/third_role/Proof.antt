@@ -2,8 +2,8 @@
 -- Assumes nothing.
 use mathlib.Core.Path.{refl}
 use Rattle.paper.specs.rules.Kind.{Row, rows}
-use Rattle.rows.specs.Codes.{headCode, roleCode}
-use Rattle.rows.proofs.Columns.{column-is}
+use Rattle.kindrows.specs.Codes.{headCode, roleCode}
+use Rattle.kindrows.proofs.Columns.{column-is}
 use borrow.Author.Needs.{needs}
 use Rattle.rows.proofs.roles.third_role.Statement.{statement}
 use Rattle.rows.proofs.roles.third_role.Tie as tie

@@ -1,6 +1,6 @@
 -- `rules::names::three_ok` meets its contract: the first that fails decides.
 -- Assumes nothing.
-use Rattle.rows.specs.Codes.{roleOf}
+use Rattle.kindrows.specs.Codes.{roleOf}
 use denote.Ref.{now}
 use Rattle.paper.specs.rules.Names.{nameWordOk}
 use Rattle.paper.specs.rules.Word.{lowFirst}

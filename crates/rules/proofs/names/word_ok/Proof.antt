@@ -3,7 +3,7 @@
 use mathlib.Core.Path.{ap, _∙_}
 use denote.Ref.{now}
 use Rattle.paper.specs.rules.Names.{nameWordOk}
-use Rattle.rows.specs.Codes.{roleOf}
+use Rattle.kindrows.specs.Codes.{roleOf}
 use Rattle.rules.proofs.NameRoles.{word-other, word-outside, word-inside}
 use borrow.Author.Needs.{needs}
 use Rattle.rules.proofs.names.word_ok.Statement.{statement}

@@ -7,7 +7,7 @@ use denote.Ref.{now}
 use lib.ListN.{drop}
 use Rattle.paper.specs.rules.Size.{Step, is, manyOf, sizeless, stepBy, stepIn}
 use Rattle.paper.specs.rules.Word.{lowFirst, wordAt}
-use Rattle.rows.specs.Codes.{sizeRuleOf}
+use Rattle.kindrows.specs.Codes.{sizeRuleOf}
 use Rattle.sizes.proofs.SizeSteps.{sizeRuleOf-other}
 use Rattle.sizes.proofs.TableSizes.{stepIn-rule}
 use Rattle.views.proofs.Shows.{startBy-record}
