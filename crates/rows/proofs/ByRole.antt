@@ -1,21 +1,34 @@
 -- Laws of a test of words by their roles, whatever it tests: three words at a time, entry by entry, and the whole of a record.
 -- Assumes nothing.
-use Prim.Native.Nat.{ℕ, suc, _+_, _-_, _*_, _<_, _≤_}
+use Prim.Native.Nat.{ℕ, zero, suc, _+_, _-_, _*_, _<_, _≤_}
 use mathlib.Core.Path.{_≡_, refl, sym, ap, _∙_}
-use mathlib.Core.Bool.{Bool, true, false, not, _&&_}
-use mathlib.Core.List.{List, [], _∷_}
+use mathlib.Core.Bool.{Bool, true, false, not, _&&_, false≢true}
+use mathlib.Core.List.{List, [], _∷_, _++_}
 use native.Mathlib.Omega.{arith}
 use borrow.Author.Tests.{not-true, not-false}
 use lib.ListN.{length, getD}
-use Rattle.paper.specs.rules.Choice.{times}
-use Rattle.paper.specs.rules.Kind.{Role, names, number, rowOf}
+use Rattle.paper.specs.rules.Choice.{every, times}
+use Rattle.paper.specs.rules.Kind.{Role, names, refers, holds, number, rowOf}
 use Rattle.paper.specs.terms.Reading.{recordIn, roled, tailRoled}
 use Rattle.paper.specs.rules.Table.{kindIn, vlenIn, everyWord}
 use Rattle.paper.specs.rules.Word.{Order, wordAt}
-use Rattle.paper.proofs.basics.Choices.{and-nothing}
+use Rattle.paper.proofs.basics.Choices.{and-left, and-nothing, and-right}
 use Rattle.paper.proofs.bytes.Reading.{roled-append, everyWord-recordIn}
-use Rattle.kindrows.specs.Codes.{nameCode, roleCode, roleOf, roleAt}
+use Rattle.kindrows.specs.Codes.{nameCode, roleCode, roleOf, roleAt, isNumber, onlyNumbers}
 use Rattle.rows.proofs.RoleCodes.{roleOf-nameCode, roleOf-roleCode}
+
+-- ── plain numbers ──
+
+numbers-append : (ρs σs : List Role) → every isNumber ρs ≡ true → every isNumber σs ≡ true → every isNumber (ρs ++ σs) ≡ true
+numbers-append [] σs h e = e
+numbers-append (number ∷ ρs) σs h e = numbers-append ρs σs h e
+numbers-append (names rule ∷ ρs) σs h e = absurd (false≢true h)
+numbers-append (refers rule ∷ ρs) σs h e = absurd (false≢true h)
+numbers-append (holds rule ∷ ρs) σs h e = absurd (false≢true h)
+
+numbers-times : (n : ℕ) (ρs : List Role) → every isNumber ρs ≡ true → every isNumber (times n ρs) ≡ true
+numbers-times zero ρs h = refl
+numbers-times (suc n) ρs h = numbers-append ρs (times n ρs) h (numbers-times n ρs h)
 
 module _ (order : Order) (f : Role → ℕ → Bool) (s : List ℕ) where
   abbrev at : ℕ → ℕ
@@ -62,6 +75,25 @@ module _ (order : Order) (f : Role → ℕ → Bool) (s : List ℕ) where
         let g′ : roleOf b ≡ getD ρs 1 number = ap roleOf g ∙ roleOf-roleCode _ in
         let h′ : roleOf c ≡ getD ρs 2 number = ap roleOf h ∙ roleOf-roleCode _ in
         (λ i. roled order f s p (e′ i ∷ g′ i ∷ h′ i ∷ [])) ∙ padded p ρs few
+
+    -- ── a tail of plain numbers alone ──
+
+    numbers-pass : (p : ℕ) (ρs : List Role) → every isNumber ρs ≡ true → true ≡ roled order f s p ρs
+    unfolding roled
+    numbers-pass p [] h = refl
+    numbers-pass p (number ∷ ρs) h = (λ i. plain (at p) i && numbers-pass (p + 4) ρs h i)
+    numbers-pass p (names rule ∷ ρs) h = absurd (false≢true h)
+    numbers-pass p (refers rule ∷ ρs) h = absurd (false≢true h)
+    numbers-pass p (holds rule ∷ ρs) h = absurd (false≢true h)
+
+    pub tail-numbers : (info : ℕ) {k : ℕ} → k ≡ kindIn info → {z : Bool} → z ≡ onlyNumbers (rowOf k) → z ≡ true → true ≡ tailRoled order f s info
+    tail-numbers info {k} kind {z} asked e =
+        let row = rowOf (kindIn info) in
+        let all : onlyNumbers row ≡ true = ap (λ (j : ℕ). onlyNumbers (rowOf j)) (sym kind) ∙ sym asked ∙ e in
+        let once : every isNumber (row .once) ≡ true = and-left (every isNumber (row .once)) (every isNumber (row .each)) all in
+        let each : every isNumber (row .each) ≡ true = and-right (every isNumber (row .once)) (every isNumber (row .each)) all in
+        (λ i. numbers-pass 12 (row .once) once i
+        && numbers-pass (12 + 4 * length (row .once)) (times (vlenIn info) (row .each)) (numbers-times (vlenIn info) (row .each) each) i)
 
   -- ── the whole of a record: the head's three words, then the tail ──
 

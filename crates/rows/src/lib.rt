@@ -25,6 +25,7 @@ pub use roles::is_reference;
 pub use roles::name_role;
 pub use roles::once_role;
 pub use roles::once_words;
+pub use roles::only_numbers;
 pub use roles::rule_of;
 pub use roles::size_rule;
 pub use roles::tail_words;

@@ -8,7 +8,7 @@ ghost use mathlib.Core.Path.{_≡_};
 ghost use lib.ListN.{length};
 ghost use Rattle.paper.specs.rules.Kind.{rowOf};
 ghost use Rattle.paper.specs.rules.Table.{tailLength};
-ghost use Rattle.kindrows.specs.Codes.{isHeldCode, isNameCode, isRefCode, nameCode, roleAt, roleCode, ruleCode, sizeCode};
+ghost use Rattle.kindrows.specs.Codes.{isHeldCode, isNameCode, isRefCode, nameCode, onlyNumbers, roleAt, roleCode, ruleCode, sizeCode};
 
 // The role of a head's third word.
 pub fn third_role(kind: u32) -> u32
@@ -75,6 +75,14 @@ pub fn tail_words(info: u32) -> u32
 {
     let kind = kind_of(info);
     once_words(kind) + vlen_of(info) * entry_words(kind)
+}
+
+// The tail of a kind has no name and no reference: no role stands in its row.
+pub fn only_numbers(kind: u32) -> bool
+    ensures { λ r. ⌜ r ≡ onlyNumbers (rowOf kind) ⌝ }
+{
+    let row = tail_row(kind);
+    row / 0x1_00_00_00_00 % 0x1_00_00_00 + row % 0x1_00_00_00 == 0
 }
 
 // A code of a name's role.

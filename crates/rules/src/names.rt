@@ -11,6 +11,7 @@ use rows::kind_of;
 use rows::name_role;
 use rows::once_role;
 use rows::once_words;
+use rows::only_numbers;
 use rows::third_role;
 use rows::vlen_of;
 ghost use mathlib.Core.Path.{_≡_};
@@ -102,11 +103,14 @@ fn entries_ok(bytes: &[u8], strings: &[u8], at: Place, kind: u32, n: u32) -> boo
     true
 }
 
-// The names of a tail, behind the head.
+// The names of a tail, behind the head. Most kinds have none there, which one look at the row tells.
 fn tail_names_ok(bytes: &[u8], strings: &[u8], info: u32) -> bool
     ensures { λ r. ⌜ r ≡ tailRoled lowFirst (nameWordOk (now (strings .entry))) (now (bytes .entry)) info ⌝ }
 {
     let kind = kind_of(info);
+    if only_numbers(kind) {
+        return true;
+    }
     if !three_ok(
         bytes,
         strings,
@@ -117,13 +121,8 @@ fn tail_names_ok(bytes: &[u8], strings: &[u8], info: u32) -> bool
     ) {
         return false;
     }
-    entries_ok(
-        bytes,
-        strings,
-        Place(12 + 4 * once_words(kind)),
-        kind,
-        vlen_of(info),
-    )
+    let from = 12 + 4 * once_words(kind);
+    entries_ok(bytes, strings, Place(from), kind, vlen_of(info))
 }
 
 // Every name of the record keeps to the list.

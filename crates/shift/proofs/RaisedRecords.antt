@@ -11,7 +11,7 @@ use lib.Dec.{leb}
 use lib.ListN.{length, take, drop, length-append, length-drop, take-append-drop}
 use lib.Seq.{take-at, drop-at, drop-drop, length-take-le}
 use Rattle.shift.specs.Raising.{raisedFrom, headRoles, raisedRecord, recordLength, recordBytes, recordsBytes, raisedRun}
-use Rattle.shift.specs.Raising.{GroupOf, GroupAsk, GroupPut, EntriesAsk, EntriesPut, RecordPut, RecordAsk}
+use Rattle.shift.specs.Raising.{HeadPut, GroupOf, GroupAsk, GroupPut, EntriesAsk, EntriesPut, RecordPut, RecordAsk}
 use Rattle.shift.specs.declared.groups.Group.{Group}
 use Rattle.shift.specs.declared.groups.Shift.{Shift}
 use Rattle.shift.proofs.RaisedWords.{length-raisedFrom, recordBytes-parts}
@@ -42,11 +42,8 @@ module _ {s : List ℕ} {room : ℕ} (a : RecordAsk s room) {info kind : ℕ} (r
       let f = a .fits in
       omega arith
 
-  pub head-ask : {g : Group} → GroupOf g (headRoles kind) → GroupAsk g 0 room
-  head-ask first =
-      let l = all-fit in
-      let c = first .counted in
-      record { few = omega arith; fits = omega arith; small = a .small }
+  pub head-ask : 12 ≤ room
+  head-ask = let l = all-fit in omega arith
 
   module _ {h : Group} (second : GroupOf h (rowOf kind .once)) where
     pub once-ask : {room₁ : ℕ} → room₁ ≡ room → GroupAsk h 12 room₁
@@ -67,8 +64,8 @@ module _ {s : List ℕ} {room : ℕ} (a : RecordAsk s room) {info kind : ℕ} (r
 
 module _ {by : Shift} {s : List ℕ} {out out₁ out₂ out₃ : List ℕ} (a : RecordAsk s (length out))
     {info kind v : ℕ} (read : info ≡ wordAt lowFirst s 4) (kinded : kind ≡ kindIn info) (counted : v ≡ vlenIn info)
-    {g h e : Group} (first : GroupOf g (headRoles kind)) (second : GroupOf h (rowOf kind .once)) (third : GroupOf e (rowOf kind .each))
-    (p₁ : GroupPut by g s 0 out out₁) (p₂ : GroupPut by h s 12 out₁ out₂) (p₃ : EntriesPut by e v s (12 + 4 * h .words) out₂ out₃) where
+    {h e : Group} (second : GroupOf h (rowOf kind .once)) (third : GroupOf e (rowOf kind .each))
+    (p₁ : HeadPut by kind s out out₁) (p₂ : GroupPut by h s 12 out₁ out₂) (p₃ : EntriesPut by e v s (12 + 4 * h .words) out₂ out₃) where
   abbrev head : List ℕ
   head = raisedFrom by s 0 (headRoles kind)
 
@@ -95,7 +92,7 @@ module _ {by : Shift} {s : List ℕ} {out out₁ out₂ out₃ : List ℕ} (a : 
       let c = second .counted in
       let d = length-raisedFrom by s 0 (headRoles kind) in
       let f = length-raisedFrom by s 12 (rowOf kind .once) in
-      let one = p₁ .puts (headRoles kind) first in
+      let one = p₁ .puts in
       let same = ap length one ∙ length-put out 0 head (omega arith) in
       p₃ .puts (rowOf kind .each) third
       ∙ ap₂ (λ (o : List ℕ) (n : ℕ). put o (12 + 4 * n) (raisedFrom by s (12 + 4 * n) (times v (rowOf kind .each)))) (p₂ .puts (rowOf kind .once) second) c

@@ -8,7 +8,7 @@ use mathlib.Core.Logic.{⊎-elim}
 use native.Mathlib.Omega.{arith}
 use lib.ListN.{length, getD, take, length-append}
 use lib.Seq.{length-take-le, take-suc, take-all}
-use Rattle.shift.specs.Raising.{raisedWord, raisedWords, raisedFrom, recordBytes, GroupOf, WordRaised, WordPut, GroupPut}
+use Rattle.shift.specs.Raising.{raisedWord, raisedWords, raisedFrom, recordBytes, GroupOf, WordRaised, WordPut, HeadPut, GroupPut}
 use Rattle.shift.specs.declared.groups.Group.{Group}
 use Rattle.shift.specs.declared.groups.Shift.{Shift}
 use Rattle.words.proofs.PutWords.{put-word, putWord-cut}
@@ -22,7 +22,7 @@ use Rattle.paper.specs.terms.Reading.{recordIn, wordsFrom}
 use Rattle.paper.specs.rules.Rename.{rename, raise}
 use Rattle.paper.specs.rules.Table.{kindIn, vlenIn, tailLength, tailRoles}
 use Rattle.rows.proofs.RoleCodes.{nameCode-range, refCode-range, roleCode-high, between-in, between-out}
-use Rattle.kindrows.specs.Codes.{roleCode, roleAt, isNameCode, isRefCode}
+use Rattle.kindrows.specs.Codes.{nameCode, roleCode, roleAt, isNameCode, isRefCode}
 use Rattle.paper.specs.rules.Word.{lowFirst, wordBytes, bytesOfWords, wordAt, putWord}
 
 module _ (by : Shift) (s : List ℕ) where
@@ -121,6 +121,11 @@ module _ (by : Shift) {role w : ℕ} where
 
 -- ── the words of a group, put one after the other ──
 
+-- no words
+put-nothing : (by : Shift) (s : List ℕ) (p : ℕ) (out : List ℕ) → out ≡ put out p (raisedFrom by s p [])
+unfolding raisedFrom
+put-nothing by s p out = put-none out p
+
 -- the words of some roles, put one behind the other
 pub put-more : (by : Shift) (s : List ℕ) (p : ℕ) (out : List ℕ) (ρs : List Role) (σ : Role) → p + 4 * suc (length ρs) ≤ length out
     → {out₁ out₂ : List ℕ} {p₁ : ℕ} → p₁ ≡ p + 4 * length ρs
@@ -137,14 +142,29 @@ put-more by s p out ρs σ room {out₁} {out₂} {p₁} there e f =
     ∙ put-put out p run (omega arith) (omega arith) (wordBytes lowFirst (raisedWord by σ (wordAt lowFirst s (p + 4 * length ρs))))
     ∙ ap (put out p) (sym (raisedFrom-append by s p ρs (σ ∷ [])))
 
+-- those of a head
+pub head-put : {by : Shift} {s out : List ℕ} {k : ℕ} → 12 ≤ length out → {a c : ℕ} → a ≡ nameCode (rowOf k .name) → c ≡ roleCode (rowOf k .thirdRole)
+    → {out₁ out₂ out₃ : List ℕ} → WordPut by a (wordAt lowFirst s 0) 0 out out₁ → WordPut by 0 (wordAt lowFirst s 4) 4 out₁ out₂
+    → WordPut by c (wordAt lowFirst s 8) 8 out₂ out₃ → HeadPut by k s out out₃
+head-put {by} {s} {out} {k} room e g first second third =
+    let name : Role = names (rowOf k .name) in
+    let last : Role = rowOf k .thirdRole in
+    record {
+      puts =
+          put-more by s 0 out (name ∷ number ∷ []) last (omega arith) refl
+          (put-more by s 0 out (name ∷ []) number (omega arith) refl
+          (put-more by s 0 out [] name (omega arith) refl (put-nothing by s 0 out) (first .puts name e))
+          (second .puts number refl))
+          (third .puts last g);
+    }
+
 -- the first n words of a group are put
 pub record Sofar (by : Shift) (g : Group) (s : List ℕ) (p : ℕ) (out : List ℕ) (n : ℕ) (after : List ℕ) : Type 0 where
   pub puts : (ρs : List Role) → GroupOf g ρs → n ≤ length ρs → after ≡ put out p (raisedFrom by s p (take n ρs))
 
 module _ {by : Shift} {g : Group} {s : List ℕ} {p : ℕ} {out : List ℕ} where
   pub sofar-none : Sofar by g s p out 0 out
-  unfolding raisedFrom
-  sofar-none = record { puts = λ ρs h few. put-none out p }
+  sofar-none = record { puts = λ ρs h few. put-nothing by s p out }
 
   module _ {n : ℕ} {before : List ℕ} (sofar : Sofar by g s p out n before) where
     -- one word more

@@ -73,7 +73,10 @@ pub record WordRaised (by : Shift) (role w r : ℕ) : Type 0 where
 pub record WordPut (by : Shift) (role w at : ℕ) (before after : List ℕ) : Type 0 where
   pub puts : (ρ : Role) → role ≡ roleCode ρ → after ≡ putWord lowFirst before at (raisedWord by ρ w)
 
--- the words of a group, and of so many groups, each at its place in some bytes
+-- the words of a head, and of a group, and of so many groups, each at its place in some bytes
+pub record HeadPut (by : Shift) (kind : ℕ) (s before after : List ℕ) : Type 0 where
+  pub puts : after ≡ put before 0 (raisedFrom by s 0 (headRoles kind))
+
 pub record GroupPut (by : Shift) (g : Group) (s : List ℕ) (at : ℕ) (before after : List ℕ) : Type 0 where
   pub puts : (ρs : List Role) → GroupOf g ρs → after ≡ put before at (raisedFrom by s at ρs)
 

@@ -5,9 +5,12 @@ use paper::Place;
 use paper::TypeNo;
 use rows::is_name;
 use rows::is_reference;
+use rows::name_role;
+use rows::third_role;
+ghost use Prim.Native.Nat.{_≤_};
 ghost use lib.ListN.{length};
 ghost use Rattle.paper.specs.rules.Word.{lowFirst, wordAt};
-ghost use Rattle.shift.specs.Raising.{EntriesAsk, EntriesPut, GroupAsk, GroupPut, WordPut, WordRaised};
+ghost use Rattle.shift.specs.Raising.{EntriesAsk, EntriesPut, GroupAsk, GroupPut, HeadPut, WordPut, WordRaised};
 
 // By how much type numbers and name offsets are raised.
 pub struct Shift {
@@ -42,6 +45,16 @@ fn raise_word(bytes: &[u8], at: Place, role: u32, by: Shift, out: &mut [u8])
 {
     let w = raised(by, role, words::read(bytes, at));
     words::write(out, at, w);
+}
+
+// The head of a record of a kind: its name, its info word, its third word. Every record has the three, so that none is counted.
+pub(crate) fn raise_head(bytes: &[u8], kind: u32, by: Shift, out: &mut [u8])
+    requires { ⌜ 12 ≤ length (now out) ⌝ }
+    ensures { λ r. ⌜ HeadPut by kind (now (bytes .entry)) (now (out .entry)) (now (out .exit)) ⌝ }
+{
+    raise_word(bytes, Place(0), name_role(kind), by, out);
+    raise_word(bytes, Place(4), 0, by, out);
+    raise_word(bytes, Place(8), third_role(kind), by, out);
 }
 
 // The words of a group.

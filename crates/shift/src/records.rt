@@ -3,15 +3,14 @@ use crate::groups::Group;
 use crate::groups::Shift;
 use crate::groups::raise_entries;
 use crate::groups::raise_group;
+use crate::groups::raise_head;
 use paper::Place;
 use rows::entry_role;
 use rows::entry_words;
 use rows::kind_of;
-use rows::name_role;
 use rows::once_role;
 use rows::once_words;
 use rows::tail_words;
-use rows::third_role;
 use rows::vlen_of;
 use words::rest_from;
 ghost use mathlib.Core.Path.{_≡_};
@@ -20,21 +19,9 @@ ghost use Rattle.paper.specs.rules.Kind.{rowOf};
 ghost use Rattle.paper.specs.rules.Word.{lowFirst};
 ghost use Rattle.paper.specs.terms.Put.{put};
 ghost use Rattle.paper.specs.terms.Reading.{recordIn};
-ghost use Rattle.shift.specs.Raising.{GroupOf, RecordAsk, RecordPut, headRoles, raisedRun, recordBytes};
+ghost use Rattle.shift.specs.Raising.{GroupOf, RecordAsk, RecordPut, raisedRun, recordBytes};
 
-// The head of a record of a kind: its name, its info word, its third word.
-fn head_of(kind: u32) -> Group
-    ensures { λ g. ⌜ GroupOf g (headRoles kind) ⌝ }
-{
-    Group {
-        words: 3,
-        first: name_role(kind),
-        second: 0,
-        third: third_role(kind),
-    }
-}
-
-// The words of its tail that stand once.
+// The words of a kind's tail that stand once.
 fn once_of(kind: u32) -> Group
     ensures { λ g. ⌜ GroupOf g (rowOf kind .once) ⌝ }
 {
@@ -65,7 +52,7 @@ fn put_record(bytes: &[u8], by: Shift, out: &mut [u8])
 {
     let info = words::read(bytes, Place(4));
     let kind = kind_of(info);
-    raise_group(bytes, Place(0), head_of(kind), by, out);
+    raise_head(bytes, kind, by, out);
     let once = once_of(kind);
     let skip = 4 * once.words;
     raise_group(bytes, Place(12), once, by, out);

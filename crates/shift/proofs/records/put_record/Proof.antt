@@ -12,14 +12,10 @@ read-requires c κs = search needs
 kind-of-requires : tie.Need-kind-of-requires
 kind-of-requires c κs = search needs
 
-head-of-requires : tie.Need-head-of-requires
-head-of-requires c κs = search needs
-
-raise-group-requires : tie.Need-raise-group-requires
-raise-group-requires c κs =
-    let h = c .before in
-    let k = h .before in
-    head-ask (k .before .before .before .before .pre) (k .before .read .ensures) (k .kind-of .ensures) (h .head-of .ensures)
+raise-head-requires : tie.Need-raise-head-requires
+raise-head-requires c κs =
+    let k = c .before in
+    head-ask (k .before .before .before .before .pre) (k .before .read .ensures) (k .kind-of .ensures)
 
 once-of-requires : tie.Need-once-of-requires
 once-of-requires c κs = search needs
@@ -27,13 +23,13 @@ once-of-requires c κs = search needs
 mul-skip : tie.Need-mul-skip
 mul-skip c = search needs
 
-raise-group-requires-2 : tie.Need-raise-group-requires-2
-raise-group-requires-2 c κs =
+raise-group-requires : tie.Need-raise-group-requires
+raise-group-requires c κs =
     let o = c .before .before in
     let g = o .before .before .before in
-    let k = g .before .before .before in
+    let k = g .before .before in
     once-ask (k .before .before .before .before .pre) (k .before .read .ensures) (k .kind-of .ensures) (o .once-of .ensures)
-    (g .raise-group .kept .1 .1 .1 .1 .0)
+    (g .raise-head .kept .1 .1 .1 .0)
 
 entry-of-requires : tie.Need-entry-of-requires
 entry-of-requires c κs = search needs
@@ -51,10 +47,10 @@ raise-entries-requires c κs =
     let g2 = e .before .before .before in
     let o = g2 .before .before .before in
     let g = o .before .before .before in
-    let k = g .before .before .before in
+    let k = g .before .before in
     entries-ask (k .before .before .before .before .pre) (k .before .read .ensures) (k .kind-of .ensures) (o .once-of .ensures)
     (e .entry-of .ensures) (v .vlen-of .ensures)
-    (g2 .raise-group2 .kept .1 .1 .1 .1 .0 ∙ g .raise-group .kept .1 .1 .1 .1 .0)
+    (g2 .raise-group .kept .1 .1 .1 .1 .0 ∙ g .raise-head .kept .1 .1 .1 .0)
 
 same-length : tie.Need-same-length
 same-length c = search needs
@@ -67,11 +63,10 @@ returns c =
     let g2 = e .before .before .before in
     let o = g2 .before .before .before in
     let g = o .before .before .before in
-    let h = g .before .before in
-    let k = h .before in
-    record-put (k .before .before .before .before .pre) (k .before .read .ensures) (k .kind-of .ensures) (v .vlen-of .ensures) (h .head-of .ensures)
+    let k = g .before .before in
+    record-put (k .before .before .before .before .pre) (k .before .read .ensures) (k .kind-of .ensures) (v .vlen-of .ensures)
     (o .once-of .ensures) (e .entry-of .ensures)
-    (g .raise-group .ensures) (g2 .raise-group2 .ensures) (n .raise-entries .ensures)
+    (g .raise-head .ensures) (g2 .raise-group .ensures) (n .raise-entries .ensures)
 
 pub put-record-spec : {M : Type 1} → statement M
 put-record-spec =
@@ -79,11 +74,10 @@ put-record-spec =
     (tie.spec
     read-requires
     kind-of-requires
-    head-of-requires
-    raise-group-requires
+    raise-head-requires
     once-of-requires
     mul-skip
-    raise-group-requires-2
+    raise-group-requires
     entry-of-requires
     vlen-of-requires
     add-rest
