@@ -31,7 +31,7 @@
  *   scrieve_join   0 joined, or 16 to 20                 for 16 and 17 the   the type of the report        the joined length, or the place
  *                                                        report inside       inside, else 0                of the report inside, else 0
  *
- * A report's place is where in the blob the record of its type begins, in bytes from the blob's first: for 8, where record 4,097 would
+ * A report's place is where in the blob the record of its type begins, in bytes from the blob's first: for 8, where record 16,385 would
  * begin; for 1 to 5 and 9, which name no type, 0. It is a multiple of 4 and below the blob's length. That of a report inside a join's
  * refusal counts in the blob that was refused.
  *
@@ -43,13 +43,13 @@
 #include <stddef.h>
 #include <stdint.h>
 
-/* Which interface this is. It rises where a number, an argument or what is left in a slice changes its meaning. In 1 the change requests
- * 1, 2, 6, 9, 11 and 12 have landed (docs/orders). */
-#define SCRIEVE_VERSION 1
+/* Which interface this is. It rises where a number, an argument or what is left in a slice changes its meaning. In 2 the change requests
+ * 1, 2, 5, 6, 9, 11 and 12 have landed (docs/orders). */
+#define SCRIEVE_VERSION 2
 
 /* Full size: with so many places in index and work, and so many bytes of output, no table is refused for want of room. */
-#define SCRIEVE_FULL_PLACES 4097
-#define SCRIEVE_FULL_BYTES 65536
+#define SCRIEVE_FULL_PLACES 16385
+#define SCRIEVE_FULL_BYTES 262144
 
 /* Places for a whole answer, and what stands in each. */
 #define SCRIEVE_ANSWER_PLACES 4
@@ -62,14 +62,14 @@
  * question 21 and 22. */
 enum scrieve_report {
 	SCRIEVE_REPORT_NONE = 0,           /* accepted, joined, an exact size, a name */
-	SCRIEVE_REPORT_LENGTH = 1,         /* under 24 bytes or over 65,536 */
+	SCRIEVE_REPORT_LENGTH = 1,         /* under 24 bytes or over 262,144 */
 	SCRIEVE_REPORT_MAGIC = 2,          /* the first four bytes are not 9F EB 01 00 */
 	SCRIEVE_REPORT_HEADER = 3,         /* the header length is not 24 */
 	SCRIEVE_REPORT_SECTIONS = 4,       /* the sections do not add up to the blob */
 	SCRIEVE_REPORT_STRINGS = 5,        /* strings empty, or not from zero byte to zero byte */
 	SCRIEVE_REPORT_CUT = 6,            /* a record does not fit the type section */
 	SCRIEVE_REPORT_KIND = 7,           /* an unknown kind */
-	SCRIEVE_REPORT_TYPES = 8,          /* over 4,096 types */
+	SCRIEVE_REPORT_TYPES = 8,          /* over 16,384 types */
 	SCRIEVE_REPORT_PLACES = 9,         /* index or work has under count + 1 places */
 	SCRIEVE_REPORT_HEAD = 10,          /* a record's head breaks a rule */
 	SCRIEVE_REPORT_NAME = 11,          /* a name breaks a rule */
@@ -79,8 +79,8 @@ enum scrieve_report {
 	SCRIEVE_REPORT_LAYOUT = 15,        /* a layout rule is broken */
 	SCRIEVE_REPORT_FIRST = 16,         /* the first table is refused */
 	SCRIEVE_REPORT_SECOND = 17,        /* the second table is refused */
-	SCRIEVE_REPORT_JOINED_TYPES = 18,  /* over 4,096 types together */
-	SCRIEVE_REPORT_JOINED_LENGTH = 19, /* the joined length is over 65,536 */
+	SCRIEVE_REPORT_JOINED_TYPES = 18,  /* over 16,384 types together */
+	SCRIEVE_REPORT_JOINED_LENGTH = 19, /* the joined length is over 262,144 */
 	SCRIEVE_REPORT_OUTPUT = 20,        /* the output is shorter than the joined length */
 	SCRIEVE_REPORT_INDEX = 21,         /* the index leads outside what can be read */
 	SCRIEVE_REPORT_READS = 22          /* more records would be read than the index has places */

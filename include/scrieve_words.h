@@ -10,14 +10,14 @@ static inline const char *scrieve_report_words(uint32_t number)
 {
 	static const char *const words[] = {
 		"no report",
-		"the table has under 24 bytes or over 65536",
+		"the table has under 24 bytes or over 262144",
 		"the first four bytes are not 9F EB 01 00 (magic, version 1, flags 0)",
 		"the header's length is not 24",
 		"the sections of types and strings do not fill the table one after the other",
 		"the strings are empty, or their first or last byte is not zero",
 		"the record does not fit the type section",
 		"there is no such kind",
-		"there are more than 4096 types",
+		"there are more than 16384 types",
 		"too few places were lent",
 		"a word of the record's head is not allowed",
 		"a name is not allowed",
@@ -27,8 +27,8 @@ static inline const char *scrieve_report_words(uint32_t number)
 		"a rule of the layout is broken",
 		"the first table is refused",
 		"the second table is refused",
-		"together there are more than 4096 types",
-		"the joined table would have over 65536 bytes",
+		"together there are more than 16384 types",
+		"the joined table would have over 262144 bytes",
 		"the output is shorter than the joined table",
 		"the index leads outside what can be read",
 		"more records would be read than the index has places"

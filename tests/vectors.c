@@ -6,7 +6,7 @@
 #include <stdlib.h>
 #include <string.h>
 
-enum { PLACES = 5000, BYTES = 70000 };
+enum { PLACES = 20000, BYTES = 280000 };
 
 static uint8_t a[BYTES], b[BYTES], out[BYTES];
 static uint32_t index_[PLACES], work[PLACES], given[BYTES / 4], answer[4];

@@ -2,6 +2,7 @@
 //! `cargo run --offline --manifest-path second/Cargo.toml --example tables -- FOLDER`.
 
 use second::join::join;
+use second::limits::{BYTE_LIMIT, FULL_PLACES};
 use second::make::{field, info, int_word, Make};
 use second::table::Kind;
 use std::path::Path;
@@ -136,7 +137,8 @@ fn nest() -> Make {
 
 /// Both suppliers' in one.
 fn both() -> Vec<u8> {
-    let (mut index, mut work, mut output) = ([0; 4097], [0; 4097], [0; 65536]);
+    let [mut index, mut work] = [0; 2].map(|_| vec![0; FULL_PLACES as usize]);
+    let mut output = vec![0; BYTE_LIMIT as usize];
     let (first, second) = (blade().blob(), drum().blob());
     let length =
         join(&first, &second, &mut index, &mut work, &mut output).expect("they can be joined");

@@ -3,7 +3,7 @@
 
 use crate::archive;
 use crate::generate::random::Random;
-use crate::vectors::{places, run, Case, Seen, CHECK, JOIN, NAME, SIZE};
+use crate::vectors::{places, run, Case, Seen, CHECK, JOIN, MOST_BYTES, MOST_PLACES, NAME, SIZE};
 
 /// What stands in an answer's place before a call; no answer has this number.
 const UNTOLD: u32 = 0xA5A5_A5A5;
@@ -33,11 +33,11 @@ impl Trial {
     /// Lent lengths are mostly the case's own; answers mostly fit.
     pub fn new(r: &mut Random, mut case: Case) -> Trial {
         if case.op == CHECK || case.op == JOIN {
-            case.index_places = lent(r, case.index_places, 5_000);
-            case.work_places = lent(r, case.work_places, 5_000);
+            case.index_places = lent(r, case.index_places, MOST_PLACES);
+            case.work_places = lent(r, case.work_places, MOST_PLACES);
         }
         if case.op == JOIN {
-            case.output_bytes = lent(r, case.output_bytes, 70_000);
+            case.output_bytes = lent(r, case.output_bytes, MOST_BYTES);
         }
         Trial {
             case,

@@ -17,6 +17,7 @@
 use second::census::Census;
 use second::changed::changed;
 use second::generate::{cases, Scale, Wanted};
+use second::limits::FULL_PLACES;
 use second::report::meaning;
 use second::vectors::{self, run, Case, CHECK, JOIN};
 use std::io::Write;
@@ -154,8 +155,8 @@ fn changed_answers(path: &str) -> Result<Vec<u8>, String> {
 /// One line on the blob in a file.
 fn judge_file(path: &str) -> Result<Vec<u8>, String> {
     let blob = read(path)?;
-    let mut index = vec![0; 4_097];
-    let mut work = vec![0; 4_097];
+    let mut index = vec![0; FULL_PLACES as usize];
+    let mut work = vec![0; FULL_PLACES as usize];
     let line = match second::check(&blob, &mut index, &mut work) {
         Ok(1) => "accepted, 1 type\n".to_string(),
         Ok(count) => format!("accepted, {count} types\n"),

@@ -1,17 +1,27 @@
 //! Tables to time, and how calls are timed: what the programs share that
 //! measure the archive for C.
 
-use crate::generate::heavy::{Shape, NESTED, SHAPES};
+use crate::generate::heavy::Shape;
+use crate::limits::{BYTE_LIMIT, TYPE_LIMIT};
 use std::time::Instant;
 
-/// Runs of each; a run repeats a short call until it takes as long as this.
-const RUNS: usize = 101;
+/// Runs of each call; a run repeats a short call until it takes so long.
+const MOST_RUNS: usize = 101;
 const LEAST_NS: f64 = 50_000.0;
+/// Calls that take turns have fewer runs where they would all take longer than
+/// this, since some tables take a second for each.
+const ALL_NS: f64 = 4e9;
+const FEWEST_RUNS: usize = 5;
 
-pub const PLACES: usize = 4_097;
-pub const BYTES: usize = 65_536;
-/// Two tables of this length are joined to one of 65,535 bytes.
-const HALF: usize = 32_780;
+/// The same in words.
+pub fn runs_in_words() -> String {
+    format!(
+        "A time is the median of {MOST_RUNS} runs, or of as many as make a row take {} s, but of {FEWEST_RUNS} at least; \
+         a run repeats a short call until it takes {} µs.",
+        ALL_NS / 1e9,
+        LEAST_NS / 1e3
+    )
+}
 
 /// A table, and two tables of its kind to join.
 pub struct Subject {
@@ -21,16 +31,10 @@ pub struct Subject {
     pub pair_title: &'static str,
 }
 
-pub fn subjects() -> Vec<Subject> {
-    let mut found = vec![example()];
-    for (bytes, half) in [(BYTES, HALF), (32_768, 16_396), (16_384, 8_204)] {
-        found.push(shaped(&NESTED, bytes, half));
-    }
-    found.extend(SHAPES.iter().map(|shape| shaped(shape, BYTES, HALF)));
-    found
-}
-
-fn shaped(shape: &Shape, bytes: usize, half: usize) -> Subject {
+/// A shape at this length. Its halves have 25 bytes in common, so that they
+/// are joined to a table of this length or a byte less.
+pub fn shaped(shape: &Shape, bytes: usize) -> Subject {
+    let half = (bytes + 25) / 2;
     Subject {
         title: shape.title,
         blob: shape.blob(bytes),
@@ -40,7 +44,7 @@ fn shaped(shape: &Shape, bytes: usize, half: usize) -> Subject {
 }
 
 /// The compiler's tables of example/.
-fn example() -> Subject {
+pub fn example() -> Subject {
     let a = include_bytes!(concat!(
         env!("CARGO_MANIFEST_DIR"),
         "/../example/supplier_a.btf"
@@ -60,22 +64,25 @@ fn example() -> Subject {
 /// The median time of each call in nanoseconds. The calls take turns, so that
 /// what else the machine does falls on all of them alike.
 pub fn medians<const N: usize>(mut calls: [&mut dyn FnMut(); N]) -> [f64; N] {
-    let repeats: Vec<usize> = calls
+    let once: Vec<f64> = calls
         .iter_mut()
-        .map(|call| {
-            let once = time(call, 1).min(time(call, 1)).max(1.0);
-            (LEAST_NS / once).ceil() as usize
-        })
+        .map(|call| time(call, 1).min(time(call, 1)).max(1.0))
         .collect();
+    let repeats: Vec<usize> = once
+        .iter()
+        .map(|once| (LEAST_NS / once).ceil() as usize)
+        .collect();
+    let turn: f64 = once.iter().map(|once| once.max(LEAST_NS)).sum();
+    let runs = ((ALL_NS / turn) as usize).clamp(FEWEST_RUNS, MOST_RUNS);
     let mut times = [(); N].map(|()| Vec::new());
-    for _ in 0..RUNS {
+    for _ in 0..runs {
         for (at, call) in calls.iter_mut().enumerate() {
             times[at].push(time(call, repeats[at]));
         }
     }
     times.map(|mut of_call| {
         of_call.sort_by(f64::total_cmp);
-        of_call[RUNS / 2]
+        of_call[runs / 2]
     })
 }
 
@@ -95,11 +102,14 @@ pub struct Lent {
     pub answer: [u32; 4],
 }
 
-pub fn lent() -> Lent {
+/// An output of so many bytes, and as many places as such a table may have
+/// types, at the ratio of the limits, and one more.
+pub fn lent(bytes: usize) -> Lent {
+    let places = bytes / (BYTE_LIMIT / TYPE_LIMIT) as usize + 1;
     Lent {
-        index: vec![0; PLACES],
-        work: vec![0; PLACES],
-        out: vec![0; BYTES],
+        index: vec![0; places],
+        work: vec![0; places],
+        out: vec![0; bytes],
         answer: [0; 4],
     }
 }

@@ -10,6 +10,11 @@ pub const SIZE: u32 = 2;
 pub const NAME: u32 = 3;
 pub const JOIN: u32 = 4;
 
+/// What a case may lend at most: places in each u32 slice, and bytes in a, b
+/// and the output. Beyond the limits, so that they can be overstepped.
+pub const MOST_PLACES: u32 = 20_000;
+pub const MOST_BYTES: u32 = 280_000;
+
 /// What is lent or passed in one call.
 #[derive(Clone, PartialEq, Eq, Hash, Debug, Default)]
 pub struct Case {

@@ -126,21 +126,21 @@ fn large_products() {
 #[test]
 fn most_types() {
     let mut m = Make::new();
-    for _ in 0..4_096 {
+    for _ in 0..16_384 {
         m.ptr(0);
     }
-    assert_eq!(gate(&m.blob()), Ok(4_096));
+    assert_eq!(gate(&m.blob()), Ok(16_384));
     m.ptr(0);
-    assert_eq!(gate(&m.blob()), refused(8, 4_097, 49_176));
+    assert_eq!(gate(&m.blob()), refused(8, 16_385, 196_632));
     // The bytes that remain are not read: an unknown kind there is 8 too.
-    m.at(4_097).info = 0;
-    assert_eq!(gate(&m.blob()), refused(8, 4_097, 49_176));
+    m.at(16_385).info = 0;
+    assert_eq!(gate(&m.blob()), refused(8, 16_385, 196_632));
 }
 
 #[test]
 fn sixteen_byte_records_past_the_byte_limit() {
     let mut m = Make::new();
-    for _ in 0..4_097 {
+    for _ in 0..16_385 {
         m.int(4);
     }
     assert_eq!(gate(&m.blob()), refused(1, 0, 0));

@@ -3,6 +3,7 @@
 mod common;
 
 use common::{gate, joined};
+use second::limits::FULL_PLACES;
 use second::{size, SizeAnswer};
 
 const TABLES: [&str; 4] = [
@@ -23,7 +24,7 @@ fn example(name: &str) -> Vec<u8> {
 
 /// The sizes of some types of an accepted table.
 fn sizes(blob: &[u8], types: &[u32]) -> Vec<SizeAnswer> {
-    let mut index = vec![0; 4_097];
+    let mut index = vec![0; FULL_PLACES as usize];
     let mut work = index.clone();
     second::check(blob, &mut index, &mut work).expect("accepted");
     types

@@ -28,8 +28,8 @@ fn due(case: &Case) -> Vec<u32> {
     match (a, b) {
         (Ok(first), Ok(second)) => {
             let bytes = case.a.len() + case.b.len() - 25;
-            found.extend((first + second > 4_096).then_some(18));
-            found.extend((bytes > 65_536).then_some(19));
+            found.extend((first + second > 16_384).then_some(18));
+            found.extend((bytes > 262_144).then_some(19));
             found.extend(((case.output_bytes as usize) < bytes).then_some(20));
         }
         (a, b) => {
@@ -101,17 +101,17 @@ fn thinned_limits() {
     let numbers: Vec<u32> = seen.iter().map(|seen| seen.number).collect();
     assert_eq!(numbers, [16, 17, 0, 18, 0, 20, 19]);
     assert_eq!([seen[0].inner, seen[1].inner], [8, 8]);
-    assert_eq!(seen[4].p, 65_536);
+    assert_eq!(seen[4].p, 262_144);
 }
 
-/// 4,096 types and 65,536 bytes are joined, one more of either is refused.
+/// 16,384 types and 262,144 bytes are joined, one more of either is refused.
 #[test]
 fn limits_are_met_exactly() {
     let mut met = Vec::new();
     for case in large_joins::cases(false) {
-        assert!(case.a.len() <= 70_000 && case.b.len() <= 70_000);
-        assert!(case.index_places <= 5_000 && case.output_bytes <= 70_000);
-        let [a, b] = [&case.a, &case.b].map(|blob| report_of(blob, 5_000, 5_000));
+        assert!(case.a.len() <= 280_000 && case.b.len() <= 280_000);
+        assert!(case.index_places <= 20_000 && case.output_bytes <= 280_000);
+        let [a, b] = [&case.a, &case.b].map(|blob| report_of(blob, 20_000, 20_000));
         if let (Ok(first), Ok(second)) = (a, b) {
             let bytes = case.a.len() + case.b.len() - 25;
             let is_room = case.output_bytes as usize >= bytes;
@@ -122,16 +122,16 @@ fn limits_are_met_exactly() {
         met.iter()
             .any(|(types, bytes, is_room, number)| *is_room && test(*types, *bytes, *number))
     };
-    assert!(is_met(&|types, _, number| types == 4_096 && number == 0));
-    assert!(is_met(&|types, bytes, number| types == 4_097
-        && bytes <= 65_536
+    assert!(is_met(&|types, _, number| types == 16_384 && number == 0));
+    assert!(is_met(&|types, bytes, number| types == 16_385
+        && bytes <= 262_144
         && number == 18));
-    assert!(is_met(&|_, bytes, number| bytes == 65_536 && number == 0));
-    assert!(is_met(&|types, bytes, number| types <= 4_096
-        && bytes == 65_537
+    assert!(is_met(&|_, bytes, number| bytes == 262_144 && number == 0));
+    assert!(is_met(&|types, bytes, number| types <= 16_384
+        && bytes == 262_145
         && number == 19));
-    assert!(is_met(&|types, bytes, number| types == 4_096
-        && bytes == 65_536
+    assert!(is_met(&|types, bytes, number| types == 16_384
+        && bytes == 262_144
         && number == 0));
 }
 
@@ -139,7 +139,7 @@ fn limits_are_met_exactly() {
 fn groupings_give_the_same_bytes() {
     let small = edges_joins::triples().into_iter();
     for [a, b, c] in small.chain(large_joins::triples()) {
-        let seen: Vec<_> = grouped(&a, &b, &c, 4_097).iter().map(run).collect();
+        let seen: Vec<_> = grouped(&a, &b, &c, 16_385).iter().map(run).collect();
         assert!(seen.iter().all(|seen| seen.number == 0));
         assert_eq!(seen[2].output, seen[3].output);
         let count = [&a, &b, &c].map(|blob| gate(blob).expect("accepted"));
@@ -161,7 +161,7 @@ fn long_joins() {
     let mut met = Vec::new();
     for _ in 0..60 {
         let case = long::join(&mut r);
-        assert!(case.a.len() <= 65_536 && case.b.len() <= 65_536);
+        assert!(case.a.len() <= 262_144 && case.b.len() <= 262_144);
         assert_eq!(run(&case).number, due(&case).first().copied().unwrap_or(0));
         met.push(run(&case).number);
     }

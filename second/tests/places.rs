@@ -70,19 +70,19 @@ fn place_of_an_unknown_kind() {
     }
 }
 
-/// 24 + 12 times 4,096 with pointers alone; an INT among them is 4 bytes more.
+/// 24 + 12 times 16,384 with pointers alone; an INT among them is 4 bytes more.
 #[test]
 fn place_where_one_record_too_many_would_begin() {
-    assert_eq!(judged(&pointers(4_097)), refused(8, 4_097, 49_176));
-    assert_eq!(judged(&pointers(4_200)), refused(8, 4_097, 49_176));
+    assert_eq!(judged(&pointers(16_385)), refused(8, 16_385, 196_632));
+    assert_eq!(judged(&pointers(16_600)), refused(8, 16_385, 196_632));
     // One word is no head, but bytes that remain.
-    let mut words = pointers(4_096).type_words();
+    let mut words = pointers(16_384).type_words();
     words.push(0);
-    assert_eq!(gate(&blob_of(&words, &[0])), refused(8, 4_097, 49_176));
-    let mut m = pointers(4_095);
+    assert_eq!(gate(&blob_of(&words, &[0])), refused(8, 16_385, 196_632));
+    let mut m = pointers(16_383);
     m.int(4);
     m.ptr(0);
-    assert_eq!(judged(&m), refused(8, 4_097, 49_180));
+    assert_eq!(judged(&m), refused(8, 16_385, 196_636));
 }
 
 /// Type 5 at 104, behind the four above.

@@ -200,17 +200,17 @@ fn limits_of_a_join() {
     };
     let call = |a: &[u8], b: &[u8], bytes: usize| {
         let mut output = vec![165; bytes];
-        join(a, b, &mut [9; 4_097], &mut [9; 4_097], &mut output)
+        join(a, b, &mut [9; 16_385], &mut [9; 16_385], &mut output)
     };
-    let full = pointers(4_096);
+    let full = pointers(16_384);
     assert_eq!(call(&full, &pointers(1), 0), Err(JoinRefusal::TooManyTypes));
-    assert_eq!(call(&full, &pointers(0), 65_536), Ok(full.len()));
+    assert_eq!(call(&full, &pointers(0), 262_144), Ok(full.len()));
     let mut m = Make::new();
-    m.string(vec![b'a'; 65_536 - 24 - 2]);
-    assert_eq!(m.blob().len(), 65_536);
-    assert_eq!(call(&m.blob(), &pointers(0), 65_536), Ok(65_536));
+    m.string(vec![b'a'; 262_144 - 24 - 2]);
+    assert_eq!(m.blob().len(), 262_144);
+    assert_eq!(call(&m.blob(), &pointers(0), 262_144), Ok(262_144));
     assert_eq!(
-        call(&m.blob(), &pointers(0), 65_535),
+        call(&m.blob(), &pointers(0), 262_143),
         Err(JoinRefusal::OutputTooShort)
     );
     let mut one = Make::new();

@@ -4,6 +4,7 @@ use paper::Joined;
 use paper::Place;
 use paper::Report;
 use paper::Sized;
+use paper::TYPE_LIMIT;
 use paper::TypeNo;
 ghost use mathlib.Core.Path.{_≡_};
 ghost use Rattle.paper.specs.rules.Answer.{checkedAsPaper, inside, joinedAsPaper, report, reportAsPaper, reportAt, sizedAsPaper, value};
@@ -65,6 +66,9 @@ fn within(number: u32, r: Numbers) -> Numbers
     }
 }
 
+// The type that 8 names: the first past the limit.
+const FIRST_PAST: u32 = TYPE_LIMIT + 1;
+
 // A report of the gate.
 pub fn of_report(r: Report) -> Numbers
     ensures { λ n. ⌜ asPaper n ≡ reportAsPaper r ⌝ }
@@ -77,7 +81,7 @@ pub fn of_report(r: Report) -> Numbers
         Report::Strings => told(5, 0),
         Report::RecordCut(t, at) => placed(6, t, at),
         Report::UnknownKind(t, at) => placed(7, t, at),
-        Report::ManyTypes(at) => placed(8, TypeNo(4097), at),
+        Report::ManyTypes(at) => placed(8, TypeNo(FIRST_PAST), at),
         Report::SlicesShort => told(9, 0),
         Report::Head(t, at) => placed(10, t, at),
         Report::Named(t, at) => placed(11, t, at),

@@ -1,6 +1,7 @@
 // What is asked of one table, and its answer.
 use answers::Numbers;
 use answers::of_report;
+use files::READ_LIMIT;
 use files::Status;
 use files::end;
 use files::read_file;
@@ -20,6 +21,7 @@ use listing::show_before;
 use listing::show_named;
 use listing::show_one;
 use paper::Checked;
+use paper::FULL_PLACES;
 use paper::NameOff;
 use paper::TypeNo;
 use reports::put_report;
@@ -199,11 +201,11 @@ fn answer(
     }
 }
 
-// One byte more is read than a table may have, so that a file that is too large gets report 1.
+// The file is read, and asked of in slices of full size.
 pub fn ask_file(ask: Ask, file: &[u8], name: &[u8]) -> Status {
-    let mut blob = [0u8; 65537];
-    let mut index = [0u32; 4097];
-    let mut work = [0u32; 4097];
+    let mut blob = [0u8; READ_LIMIT];
+    let mut index = [0u32; FULL_PLACES];
+    let mut work = [0u32; FULL_PLACES];
     let read = read_file(file, &mut blob);
     if !read.is_read {
         return Status::Failed;

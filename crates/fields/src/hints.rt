@@ -3,6 +3,7 @@ use lines::Out;
 use lines::ROOM;
 use lines::put;
 use lines::put_with;
+use paper::BYTE_LIMIT;
 use paper::Place;
 use texts::line;
 use titles::put_many;
@@ -15,7 +16,7 @@ fn is_extension(blob: &[u8]) -> bool {
     if 32 < head {
         return false;
     }
-    if 65536 < functions {
+    if BYTE_LIMIT < functions as usize {
         return false;
     }
     if words::read(blob, Place(16)) != functions {

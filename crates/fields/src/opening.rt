@@ -4,6 +4,7 @@ use lines::Out;
 use lines::ROOM;
 use lines::put;
 use lines::put_with;
+use paper::BYTE_LIMIT;
 use paper::Place;
 use texts::line;
 use titles::put_many;
@@ -156,8 +157,8 @@ fn put_string_ends(buf: &mut [u8; ROOM], o: Out, blob: &[u8]) -> Out {
 }
 
 fn put_length(buf: &mut [u8; ROOM], o: Out, n: usize) -> Out {
-    if 65536 < n {
-        return put(buf, o, b"    the table has over 65536 bytes\n");
+    if BYTE_LIMIT < n {
+        return put(buf, o, b"    the table has over 262144 bytes\n");
     }
     let o = put(buf, o, b"    the table has ");
     put_many(buf, o, n as u64, b" byte\n", b" bytes\n")

@@ -5,6 +5,7 @@ mod saves; // a table that is written
 
 pub use ends::Status;
 pub use ends::end;
+pub use reads::READ_LIMIT;
 pub use reads::Read;
 pub use reads::fail;
 pub use reads::fail_text;

@@ -1,9 +1,13 @@
 // A table is read from a file, or from standard input where the name is a dash.
 use libc::STDERR_FILENO;
 use libc::STDIN_FILENO;
+use paper::BYTE_LIMIT;
 use quotes::file_text;
 ghost use Prim.Native.Nat.{_≤_};
 ghost use lib.ListN.{length};
+
+// As many bytes as are read of a file: one more than a table may have, so that a file that is too large gets report 1.
+pub const READ_LIMIT: usize = BYTE_LIMIT + 1;
 
 // What one read gives: so many bytes, 0 at the end; or that it failed.
 struct Got {

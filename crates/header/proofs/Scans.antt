@@ -23,6 +23,7 @@ use Rattle.paper.specs.declared.Report.{Report}
 use Rattle.paper.specs.rules.Answer.{Answer}
 use Rattle.paper.specs.rules.Gate.{naming, phase1}
 use Rattle.paper.specs.rules.Header.{orderOf, strLen, typeLen, stringsIn, headerReport}
+use Rattle.paper.specs.rules.Limits.{byteLimit}
 use Rattle.paper.specs.rules.Name.{untilZero, nameIn, nameless, nameAt, nameStart}
 use Rattle.paper.specs.rules.Choice.{isSome}
 use Rattle.paper.specs.rules.Word.{lowFirst, wordAt}
@@ -126,7 +127,7 @@ module _ (b : List ℕ) (off : ℕ) where
     unfolding nameStart
     named-inside = let sum = headerReport-facts b (named-header e) .sum in rw e (omega (arith, named-offset e))
 
-    pub named-short : length b ≤ 65536
+    pub named-short : length b ≤ byteLimit
     named-short = headerReport-facts b (named-header e) .short
 
     named-bytes : untilZero (drop (nameStart b off) b) ≡ nameAt b off

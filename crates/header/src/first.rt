@@ -1,4 +1,5 @@
 // Phase 1, reports 1 to 5: the header and the string section, of any bytes. A test for each report.
+use paper::BYTE_LIMIT;
 use paper::Place;
 use paper::Report;
 ghost use mathlib.Core.Path.{_≡_};
@@ -25,7 +26,7 @@ fn length_bad(b: &[u8]) -> bool
     if b.len() < 24 {
         return true;
     }
-    65536 < b.len()
+    BYTE_LIMIT < b.len()
 }
 
 // Report 2: magic, version and flags.

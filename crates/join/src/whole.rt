@@ -1,8 +1,10 @@
 // The join: both tables are checked and the limits asked before anything is written.
 use crate::blob::write;
 use gate::check;
+use paper::BYTE_LIMIT;
 use paper::Checked;
 use paper::Joined;
+use paper::TYPE_LIMIT;
 use scan::clear;
 ghost use lib.ListN.{length};
 ghost use Rattle.join.specs.Joins.{BothAccepted, JoinOf, LimitedOf};
@@ -12,11 +14,11 @@ fn join_accepted(a: &[u8], b: &[u8], n: u32, m: u32, out: &mut [u8]) -> Joined
     requires { ⌜ BothAccepted (now a) (now b) n m ⌝ }
     ensures { λ r. ⌜ LimitedOf r (now (a .entry)) (now (b .entry)) (now (out .entry)) (now (out .exit)) ⌝ }
 {
-    if 4096 < n + m {
+    if TYPE_LIMIT < n + m {
         return Joined::TooMany;
     }
     let len = a.len() + b.len() - 25;
-    if 65536 < len {
+    if BYTE_LIMIT < len {
         return Joined::TooLong;
     }
     if out.len() < len {

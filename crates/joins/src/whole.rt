@@ -2,6 +2,7 @@
 use crate::twins::put_twins;
 use answers::Numbers;
 use answers::of_report;
+use files::READ_LIMIT;
 use files::Status;
 use files::end;
 use files::read_file;
@@ -14,6 +15,8 @@ use lines::flush;
 use lines::put;
 use lines::put_file;
 use lines::put_with;
+use paper::BYTE_LIMIT;
+use paper::FULL_PLACES;
 use paper::Joined;
 use reports::put_report;
 use scan::Scanned;
@@ -79,8 +82,8 @@ fn refused(which: &[u8], file: &[u8], blob: &[u8], told: Numbers) -> Status {
 
 // Two tables that do not go together: reports 18, 19 and 20.
 fn apart(k: u32) -> Status {
-    let whys = b"report 18: together there are more than 4096 types\n\
-        report 19: the joined table would have over 65536 bytes\n\
+    let whys = b"report 18: together there are more than 16384 types\n\
+        report 19: the joined table would have over 262144 bytes\n\
         report 20: the output is shorter than the joined table\n";
     let mut buf = [0u8; ROOM];
     let o = put(&mut buf, lines::to(STDOUT_FILENO), b"join: refused, ");
@@ -119,8 +122,8 @@ fn note_twins(
     b: &[u8],
     b_index: &mut [u32],
 ) {
-    let a_n = count(a, a_index, 4097);
-    let b_n = count(b, b_index, 4097);
+    let a_n = count(a, a_index, FULL_PLACES);
+    let b_n = count(b, b_index, FULL_PLACES);
     let mut buf = [0u8; ROOM];
     let o = lines::to(STDERR_FILENO);
     let o = put_twins(
@@ -140,13 +143,13 @@ fn note_twins(
 
 // The tables are joined in slices of full size.
 fn join_tables(a_file: &[u8], a: &[u8], b_file: &[u8], b: &[u8], name: &[u8]) -> Status {
-    let mut index = [0u32; 4097];
-    let mut work = [0u32; 4097];
-    let mut joined = [0u8; 65536];
+    let mut index = [0u32; FULL_PLACES];
+    let mut work = [0u32; FULL_PLACES];
+    let mut joined = [0u8; BYTE_LIMIT];
     let answer = join::join(a, b, &mut index, &mut work, &mut joined);
     if let Joined::Whole(len) = answer {
         let joined = first_of(&joined, len as usize);
-        let n = count(joined, &mut index, 4097);
+        let n = count(joined, &mut index, FULL_PLACES);
         let status = saved(name, joined, n);
         if let Status::Done = status {
             note_twins(a_file, a, &mut index, b_file, b, &mut work);
@@ -157,8 +160,8 @@ fn join_tables(a_file: &[u8], a: &[u8], b_file: &[u8], b: &[u8], name: &[u8]) ->
 }
 
 pub fn join_files(a_file: &[u8], b_file: &[u8], name: &[u8]) -> Status {
-    let mut a = [0u8; 65537];
-    let mut b = [0u8; 65537];
+    let mut a = [0u8; READ_LIMIT];
+    let mut b = [0u8; READ_LIMIT];
     let a_read = read_file(a_file, &mut a);
     if !a_read.is_read {
         return Status::Failed;

@@ -7,11 +7,13 @@ use mathlib.Core.List.{List}
 use native.Mathlib.Omega.{arith}
 use lib.ListN.{length, getD, set, length-set}
 use Rattle.paper.specs.rules.Chain.{heldBy, walks}
+use Rattle.paper.specs.rules.Limits.{typeLimit}
 use Rattle.paper.specs.rules.Table.{Table, recordAt}
 use Rattle.links.specs.Holding.{heldFrom}
-use Rattle.links.specs.Search.{asRoot, done, markOf, Followable, AtRoot, OnWay, Moved, along, into, back, RingMet, RootDone, Clean}
+use Rattle.links.specs.Search.{asRoot, done, manyWords, markOf, Followable, AtRoot, OnWay, Moved, along, into, back, RingMet, RootDone, Clean}
 use Rattle.links.proofs.HeldTypes.{held-from-first, few-types, held-types, next-held, next-type, next-small}
 use Rattle.links.proofs.Searches.{Going, going-start, going-type, going-seen, going-along, going-into, going-ring, going-finished, going-back}
+use Rattle.links.proofs.Ways.{mark-fits}
 use Rattle.links.proofs.Weights.{weights, weights-entered, weights-left}
 
 -- what is left from a word of a type on
@@ -30,7 +32,7 @@ pub record Following (T : Table) (n size root : ℕ) (work : List ℕ) (t j : �
 
 -- how much it can still do
 abbrev pub toDo : ℕ → List ℕ → ℕ → ℕ
-toDo n work j = weights work n * 262145 + (262144 - j)
+toDo n work j = weights work n * (manyWords + 1) + (manyWords - j)
 
 pub following-start : {T : Table} {work : List ℕ} {n root : ℕ} → AtRoot T n root work → getD work root 0 ≡ 0
     → Following T n (length (set work root asRoot)) root (set work root asRoot) root 0
@@ -42,7 +44,7 @@ following-start {T} {work = work} {n} {root} r new =
     }
 
 module _ {T : Table} {work : List ℕ} {n size root t j : ℕ} (s : Following T n size root work t j) where
-  few : n ≤ 4096
+  few : n ≤ typeLimit
   few = few-types (s .ready)
 
   inside : (t : ℕ) → t ≤ n → t < length work
@@ -85,7 +87,7 @@ module _ {T : Table} {work : List ℕ} {n size root t j : ℕ} (s : Following T 
       let type = next-type (s .ready) t next in
       let here = following-type in
       let small = next-small (s .ready) t next in
-      let less = weights-entered work v (markOf t k) n (type .0) (type .1) (inside v (type .1)) new (omega arith) (omega (arith, few)) in
+      let less = weights-entered work v (markOf t k) n (type .0) (type .1) (inside v (type .1)) new (omega arith) (mark-fits {p = t} (omega (arith, few)) small) in
       rw (first, marked) (
         omega arith,
         record {

@@ -12,13 +12,14 @@ use lib.ListN.{length, drop}
 use Rattle.paper.specs.rules.Chain.{heldWord, heldIn, heldBy}
 use Rattle.paper.specs.rules.Gate.{overTypes, phase4}
 use Rattle.paper.specs.rules.Kind.{Role, names, refers, holds, number}
+use Rattle.paper.specs.rules.Limits.{typeLimit}
 use Rattle.paper.specs.rules.References.{refsOk, refBad}
 use Rattle.paper.specs.rules.Table.{Record, Table, count, recordAt, rolesOf, wordsOf}
 use Rattle.paper.proofs.gates.Gates.{overTypes-silent}
 use Rattle.paper.proofs.walks.Insides.{held-inside}
 use Rattle.links.specs.declared.held.Held.{Held}
 use Rattle.links.specs.Holding.{heldFrom, HeldIs, NextHeld}
-use Rattle.links.specs.Search.{Followable}
+use Rattle.links.specs.Search.{mostWords, manyWords, Followable}
 
 -- ── what is held from a word on is held ──
 
@@ -63,14 +64,14 @@ pub silent-refs : (T : Table) → overTypes phase4 T ≡ none → (t : ℕ) → 
 unfolding phase4 refBad
 silent-refs T e t low high = not-false (refsOk T (recordAt T t)) (overTypes-silent T phase4 e t low high .0)
 
-pub followable : (T : Table) {work : List ℕ} {n : ℕ} → n ≡ count T → n ≤ 4096 → ((t : ℕ) → length (wordsOf (recordAt T t)) ≤ 196611) → n < length work
+pub followable : (T : Table) {work : List ℕ} {n : ℕ} → n ≡ count T → n ≤ typeLimit → ((t : ℕ) → length (wordsOf (recordAt T t)) ≤ mostWords) → n < length work
     → overTypes phase4 T ≡ none
     → Followable T n work
 followable T counted few tails room e =
     record { counted = counted; few = few; tails = tails; refs = λ t low high. silent-refs T e t low (omega arith); room = room }
 
 module _ {T : Table} {work : List ℕ} {n : ℕ} (f : Followable T n work) where
-  pub few-types : n ≤ 4096
+  pub few-types : n ≤ typeLimit
   few-types = f .few
 
   pub held-types : (t u : ℕ) → List·Memᴰ u (heldBy T t) → (1 ≤ u) × (u ≤ n)
@@ -86,5 +87,5 @@ module _ {T : Table} {work : List ℕ} {n : ℕ} (f : Followable T n work) where
     pub next-type : (1 ≤ u) × (u ≤ n)
     next-type = held-types t u next-held
 
-    pub next-small : k ≤ 196611
+    pub next-small : k < manyWords
     next-small = omega (arith, next .inside, f .tails t)

@@ -23,7 +23,7 @@ use Rattle.views.proofs.Shows.{tableBy-count, startBy-record}
 use Rattle.views.specs.Shown.{tableBy, startBy}
 use Rattle.views.specs.declared.View.{View}
 use Rattle.links.specs.Links.{linkedAsPaper, linksSay, LinksOf}
-use Rattle.links.specs.Search.{Unsearched, ringAsPaper}
+use Rattle.links.specs.Search.{mostWords, Unsearched, ringAsPaper}
 use Rattle.links.specs.declared.chains.Ring.{Ring}
 use Rattle.links.specs.declared.whole.Linked.{Linked}
 use Rattle.links.specs.declared.whole.Linked.the-variants.{Good, Reference, Endless}
@@ -46,13 +46,13 @@ over-all T e = ap (λ (m : ℕ). firstOf (placeAt T) (phase4 T) m 1) e
 -- ── both ──
 
 -- no record that an index shows has many words
-pub shown-few : (base b index : List ℕ) (v : View) (t : ℕ) → length (wordsOf (recordAt (tableBy base b index v) t)) ≤ 196611
+pub shown-few : (base b index : List ℕ) (v : View) (t : ℕ) → length (wordsOf (recordAt (tableBy base b index v) t)) ≤ mostWords
 shown-few base b index v t =
     let s = drop (startBy base b index v t) b in
     let same = ap (λ (r : Record). length (wordsOf r)) (startBy-record base b index v t) in
     omega (arith, same, length-recordIn lowFirst s, tailLength-few (wordAt lowFirst s 4))
 
-pub searchable : (base b index : List ℕ) (v : View) {work : List ℕ} → (size : ℕ) → work ≡ zeros size → v .n ≤ 4096 → v .n < size → {r : Linked}
+pub searchable : (base b index : List ℕ) (v : View) {work : List ℕ} → (size : ℕ) → work ≡ zeros size → v .n ≤ typeLimit → v .n < size → {r : Linked}
     → linkedAsPaper (tableBy base b index v) r ≡ overTypes phase4 (tableBy base b index v) → r ≡ Good → Unsearched (tableBy base b index v) (v .n) work
 searchable base b index v size e few room says is =
     let T = tableBy base b index v in

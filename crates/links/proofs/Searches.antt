@@ -9,10 +9,11 @@ use native.Mathlib.Omega.{arith}
 use lib.ListN.{length, getD, set}
 use lib.Seq.{getD-set-same, getD-set-other}
 use Rattle.paper.specs.rules.Chain.{walks}
+use Rattle.paper.specs.rules.Limits.{typeLimit}
 use Rattle.links.specs.Search.{done, asRoot, manyWords, markOf, Clean}
 use Rattle.links.proofs.Ways.{getD-set, ends-step, ring-walks, Way, way-type, way-marked, way-all-marked, way-kept, way-onward, way-root}
 
--- at most 4,096 types, each leads to some of them, and those that are left from a word on are some of those
+-- at most as many types as the limit, each leads to some of them, and those that are left from a word on are some of those
 module _ (held : ℕ → List ℕ) (rest : ℕ → ℕ → List ℕ) (n : ℕ) where
   -- a search from a root that stands at word j of type t
   pub record Going (work : List ℕ) (root t j : ℕ) : Type 0 where
@@ -44,7 +45,7 @@ module _ (held : ℕ → List ℕ) (rest : ℕ → ℕ → List ℕ) (n : ℕ) w
 
   -- ── a step ──
 
-  module _ (few : n ≤ 4096) (inside : (t u : ℕ) → List·Memᴰ u (held t) → (1 ≤ u) × (u ≤ n))
+  module _ (few : n ≤ typeLimit) (inside : (t u : ℕ) → List·Memᴰ u (held t) → (1 ≤ u) × (u ≤ n))
       {work : List ℕ} {root t j : ℕ} (g : Going work root t j) where
     pub going-type : (1 ≤ t) × (t ≤ n)
     going-type = way-type held rest n work root t (g .parents) (g .way)

@@ -11,8 +11,15 @@ use lib.Dec.{eqb}
 use lib.ListN.{length, getD, set}
 use lib.Seq.{getD-set-same, getD-set-other}
 use Rattle.paper.specs.rules.Chain.{walks, Chain}
+use Rattle.paper.specs.rules.Limits.{typeLimit}
 use Rattle.paper.proofs.walks.Endless.{any-holds, chain-walks, walks-chain}
 use Rattle.links.specs.Search.{done, asRoot, manyWords, markOf}
+
+-- ── marks ──
+
+-- the mark of a type on the way fits a place, below that of a type that is done: 1 + 16,384 * 196,612 + 196,611 is below 2^32 - 1
+pub mark-fits : {p k : ℕ} → p ≤ typeLimit → k < manyWords → markOf p k < done
+mark-fits low small = omega arith
 
 -- ── a place set, and the others ──
 
@@ -74,13 +81,14 @@ module _ (held : ℕ → List ℕ) (rest : ℕ → ℕ → List ℕ) (n : ℕ) w
   way-type work root t (p ∷ ps) w = w .0
 
   -- the mark of a type on the way is that of none that is new or done
-  module _ (few : n ≤ 4096) where
+  module _ (few : n ≤ typeLimit) where
     pub way-marked : (work : List ℕ) (root t : ℕ) (ps : List ℕ) → Way work root t ps → (1 ≤ getD work t 0) × (getD work t 0 < done)
     way-marked work root t [] w = let e = w .2 in (omega arith, omega arith)
     way-marked work root t (p ∷ ps) w =
         let e = w .1 .1 .marked in
         let small = w .1 .1 .small in
         let type = way-type work root p ps (w .3) in
+        let fits = mark-fits {p = p} {k = w .1 .0} (omega arith) small in
         (omega arith, omega arith)
 
     pub way-all-marked : (work : List ℕ) (root t : ℕ) (ps : List ℕ) → Way work root t ps → (x : ℕ) → List·Memᴰ x (t ∷ ps) → 1 ≤ getD work x 0

@@ -16,6 +16,7 @@ use Rattle.paper.specs.rules.Answer.{Answer, reportAt}
 use Rattle.paper.specs.rules.Chain.{heldBy, walks}
 use Rattle.paper.specs.rules.Choice.{Rule, _when_}
 use Rattle.paper.specs.rules.Gate.{zeros}
+use Rattle.paper.specs.rules.Limits.{typeLimit}
 use Rattle.paper.specs.rules.References.{refsOk}
 use Rattle.paper.specs.rules.Table.{Record, Table, count, recordAt, wordsOf}
 use Rattle.paper.specs.rules.Walk.{placeAt}
@@ -30,9 +31,13 @@ done = 4294967295
 abbrev pub asRoot : ℕ
 asRoot = 1
 
--- more words than any record has
+-- the most words that a record has: three of its head, three that stand once, and three for each of 65,535 entries
+abbrev pub mostWords : ℕ
+mostWords = 196611
+
+-- and one more, so that a mark tells the type from the word
 abbrev pub manyWords : ℕ
-manyWords = 262144
+manyWords = mostWords + 1
 
 -- on the way: entered from p, whose words are to be looked at from k on
 abbrev pub markOf : ℕ → ℕ → ℕ
@@ -43,8 +48,8 @@ markOf p k = 1 + p * manyWords + k
 -- a table of few types whose references are good, and a place in the work slice for each
 pub record Followable (T : Table) (n : ℕ) (work : List ℕ) : Type 0 where
   pub counted : n ≡ count T
-  pub few : n ≤ 4096
-  pub tails : (t : ℕ) → length (wordsOf (recordAt T t)) ≤ 196611
+  pub few : n ≤ typeLimit
+  pub tails : (t : ℕ) → length (wordsOf (recordAt T t)) ≤ mostWords
   pub refs : (t : ℕ) → 1 ≤ t → t ≤ n → refsOk T (recordAt T t) ≡ true
   pub room : n < length work
 

@@ -1,6 +1,7 @@
 // Both phases: a walk of n steps means a ring only where no reference leaves the table, so phase 5 stands behind phase 4.
 use crate::chains::Ring;
 use crate::rings::rings;
+use paper::TYPE_LIMIT;
 use paper::TypeNo;
 use refs::refs_ok;
 use scan::clear;
@@ -40,7 +41,7 @@ fn both<'a>(base: &'a [u8], b: &'a [u8], index: &[u32], view: View, work: &mut [
     ensures { λ r. ⌜ linkedAsPaper (tableBy (now (base .entry)) (now (b .entry)) (now (index .entry)) view) r ≡ linksSay (tableBy (now (base .entry)) (now (b .entry)) (now (index .entry)) view) (view .n) (length (now (work .entry))) ⌝ }
 {
     let n = view.n;
-    if 4096 < n {
+    if TYPE_LIMIT < n {
         return Linked::Good;
     }
     if work.len() <= n as usize {

@@ -5,6 +5,7 @@ use lines::Out;
 use lines::ROOM;
 use lines::marked;
 use lines::put;
+use paper::BYTE_LIMIT;
 use rows::info_of;
 use rows::tail_words;
 use titles::put_many;
@@ -20,7 +21,7 @@ fn walk(blob: &[u8], index: &mut [u32], n: u32) -> u32 {
         let k = (t as usize) + 1;
         if r.len() < 12 {
             end = t;
-        } else if 65536 < place {
+        } else if BYTE_LIMIT < place {
             end = t;
         } else if index.len() <= k {
             end = t;

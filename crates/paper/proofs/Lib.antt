@@ -7,4 +7,5 @@ pub mod joins
 pub mod Demands
 pub mod Outcomes
 pub mod Questions
+pub mod Figures
 pub mod Bench

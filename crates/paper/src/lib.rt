@@ -1,6 +1,13 @@
 // The paper's three kinds of number, and every answer that an entry point can give.
 // What each case is in the paper's numbers stands in specs/Answer.antt.
 
+// The limits, as specs/rules/Limits.antt has them: the types and the bytes of a table, and the places of a slice of full size.
+pub const TYPE_LIMIT: u32 = 16384;
+
+pub const BYTE_LIMIT: usize = 262144;
+
+pub const FULL_PLACES: usize = 16385;
+
 // The number of a type: 0 is void, the records are numbered from 1.
 pub struct TypeNo(pub u32);
 

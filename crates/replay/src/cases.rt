@@ -5,6 +5,13 @@ ghost use mathlib.Core.Path.{_≡_};
 ghost use Rattle.paper.specs.rules.Word.{lowFirst, wordAt};
 ghost use Rattle.replay.specs.Case.{headOf, seenOf, openingOf, sameSeen};
 
+// What a case may lend: places in an index or a work slice, bytes in a, b and the output, and the places that the bytes of b stand for.
+pub(crate) const PLACES: usize = 20000;
+
+pub(crate) const BYTES: usize = 280000;
+
+pub(crate) const GIVEN: usize = 70000;
+
 // The op, the places and bytes that are lent, the two numbers that are passed, and the lengths of a and b.
 pub(crate) struct Head {
     pub op: u32,

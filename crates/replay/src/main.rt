@@ -6,6 +6,7 @@ mod ops; // a function for each op
 mod given; // the places that bytes stand for
 mod tally; // what becomes of a case, and the count
 
+use cases::BYTES;
 use cases::Head;
 use cases::HeadRead;
 use cases::Opening;
@@ -106,8 +107,8 @@ fn replay(total: u32, a: &mut [u8], b: &mut [u8]) -> Tally
 
 // The bytes of a case are read into buffers of the largest size that it may have.
 fn replay_all(total: u32) -> Tally {
-    let mut a = [0u8; 70000];
-    let mut b = [0u8; 70000];
+    let mut a = [0u8; BYTES];
+    let mut b = [0u8; BYTES];
     replay(total, &mut a, &mut b)
 }
 

@@ -1,6 +1,9 @@
 // Each op: the call, its answer in the paper's numbers, and the sums of what was lent to it. An op has the arrays that it lends from, cuts them to
 // what a case lends, and makes the call; of what a call is lent and does not touch only the sum is made.
+use crate::cases::BYTES;
+use crate::cases::GIVEN;
 use crate::cases::Head;
+use crate::cases::PLACES;
 use crate::cases::Seen;
 use crate::given::places;
 use answers::Numbers;
@@ -88,8 +91,8 @@ fn check_in(h: Head, a: &[u8], index: &mut [u32], work: &mut [u32]) -> Ran
 fn check(h: Head, a: &[u8]) -> Ran
     ensures { λ r. ⌜ RanAs r (checkSeen (now (a .entry)) (h .index) (h .work) (lentBytes (h .output))) ⌝ }
 {
-    let mut index = [0u32; 5000];
-    let mut work = [0u32; 5000];
+    let mut index = [0u32; PLACES];
+    let mut work = [0u32; PLACES];
     check_in(h, a, &mut index, &mut work)
 }
 
@@ -121,7 +124,7 @@ fn size_in(h: Head, a: &[u8], b: &[u8], given: &mut [u32]) -> Ran
 fn size(h: Head, a: &[u8], b: &[u8]) -> Ran
     ensures { λ r. ⌜ RanAs r (sizeSeen (h .x) (now (a .entry)) (words lowFirst (now (b .entry))) (h .index) (h .work) (h .output)) ⌝ }
 {
-    let mut given = [0u32; 17500];
+    let mut given = [0u32; GIVEN];
     size_in(h, a, b, &mut given)
 }
 
@@ -192,9 +195,9 @@ fn join_in(
 fn join(h: Head, a: &[u8], b: &[u8]) -> Ran
     ensures { λ r. ⌜ RanAs r (joinSeen (now (a .entry)) (now (b .entry)) (h .index) (h .work) (lentBytes (h .output))) ⌝ }
 {
-    let mut index = [0u32; 5000];
-    let mut work = [0u32; 5000];
-    let mut output = [0u8; 70000];
+    let mut index = [0u32; PLACES];
+    let mut work = [0u32; PLACES];
+    let mut output = [0u8; BYTES];
     join_in(h, a, b, &mut index, &mut work, &mut output)
 }
 

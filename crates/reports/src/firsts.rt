@@ -2,6 +2,8 @@
 // is asked again. A rule that some entries break is broken by more of them too, so halving finds the entry.
 use links::Linked;
 use links::links;
+use paper::BYTE_LIMIT;
+use paper::FULL_PLACES;
 use paper::Place;
 use paper::TypeNo;
 use rows::entry_words;
@@ -12,9 +14,6 @@ use views::View;
 use views::record_of;
 use views::strings_of;
 use words::lay;
-
-// The bytes that a table has at most.
-const BYTES: usize = 65536;
 
 // An info word with another number of entries.
 pub(crate) fn cut_info(info: u32, entries: u32) -> u32 {
@@ -30,7 +29,14 @@ fn is_endless(said: Linked, t: u32) -> bool {
 }
 
 // The type breaks the rule of the report.
-fn is_broken(b: &[u8], index: &[u32], work: &mut [u32; 4097], n: u32, t: u32, number: u32) -> bool {
+fn is_broken(
+    b: &[u8],
+    index: &[u32],
+    work: &mut [u32; FULL_PLACES],
+    n: u32,
+    t: u32,
+    number: u32,
+) -> bool {
     let none = &b[..0];
     let view = View { n };
     let r = record_of(none, b, index, view, TypeNo(t));
@@ -45,10 +51,10 @@ fn is_broken(b: &[u8], index: &[u32], work: &mut [u32; 4097], n: u32, t: u32, nu
 
 // The same, with so many entries in the record whose info word stands at a place.
 fn is_cut_broken(
-    cut: &mut [u8; BYTES],
+    cut: &mut [u8; BYTE_LIMIT],
     len: usize,
     index: &[u32],
-    work: &mut [u32; 4097],
+    work: &mut [u32; FULL_PLACES],
     n: u32,
     t: u32,
     number: u32,
@@ -59,7 +65,32 @@ fn is_cut_broken(
     is_broken(first_of(cut, len), index, work, n, t, number)
 }
 
-// The first entry, from 1, of the record at a place with which a type breaks the rule; 0 where it breaks it without any.
+// The first entry, from 1, with which the copy breaks the rule, by halving; 0 where it breaks it without any. A function of its own: what a loop does is proved without the arrays written out.
+fn halved(
+    cut: &mut [u8; BYTE_LIMIT],
+    len: usize,
+    index: &[u32],
+    work: &mut [u32; FULL_PLACES],
+    n: u32,
+    t: u32,
+    number: u32,
+    at: Place,
+    info: u32,
+) -> u32 {
+    let mut low: u32 = 0;
+    let mut high = vlen_of(info);
+    while low < high {
+        let k = low + (high - low) / 2;
+        if is_cut_broken(cut, len, index, work, n, t, number, at, cut_info(info, k)) {
+            high = k;
+        } else {
+            low = k + 1;
+        }
+    }
+    high
+}
+
+// The same of a table and the record at a place: the table is copied.
 pub(crate) fn first_entry(
     blob: &[u8],
     index: &[u32],
@@ -73,29 +104,9 @@ pub(crate) fn first_entry(
     if entry_words(kind_of(info)) == 0 {
         return 0;
     }
-    let mut cut = [0u8; BYTES];
-    let mut work = [0u32; 4097];
+    let mut cut = [0u8; BYTE_LIMIT];
+    let mut work = [0u32; FULL_PLACES];
     lay(&mut cut, 0, blob);
     let len = blob.len();
-    let mut low: u32 = 0;
-    let mut high = vlen_of(info);
-    while low < high {
-        let k = low + (high - low) / 2;
-        if is_cut_broken(
-            &mut cut,
-            len,
-            index,
-            &mut work,
-            n,
-            t,
-            number,
-            at,
-            cut_info(info, k),
-        ) {
-            high = k;
-        } else {
-            low = k + 1;
-        }
-    }
-    high
+    halved(&mut cut, len, index, &mut work, n, t, number, at, info)
 }

@@ -12,6 +12,7 @@ use lines::Out;
 use lines::ROOM;
 use lines::put;
 use lines::put_with;
+use paper::FULL_PLACES;
 use rulings::put_rule;
 use scan::Scanned;
 use texts::line;
@@ -20,14 +21,14 @@ use words::rest_from;
 
 fn put_meaning(buf: &mut [u8; ROOM], o: Out, number: u32) -> Out {
     let meanings = b"\n\
-        the table has under 24 bytes or over 65536\n\
+        the table has under 24 bytes or over 262144\n\
         the first four bytes are not 9F EB 01 00 (magic, version 1, flags 0)\n\
         the header's length is not 24\n\
         the sections of types and strings do not fill the table one after the other\n\
         the strings are empty, or their first or last byte is not zero\n\
         the record does not fit the type section\n\
         there is no such kind\n\
-        there are more than 4096 types\n\
+        there are more than 16384 types\n\
         too few places were lent\n\
         a word of the record's head is not allowed\n\
         a name is not allowed\n\
@@ -77,8 +78,8 @@ fn put_broken(
 
 // A report from 10 to 15 leaves no index; phases 1 and 2, which the table has passed, make it again.
 fn put_judged(buf: &mut [u8; ROOM], o: Out, blob: &[u8], told: Numbers) -> Out {
-    let mut index = [0u32; 4097];
-    match scan::scan(blob, &mut index, 4097) {
+    let mut index = [0u32; FULL_PLACES];
+    match scan::scan(blob, &mut index, FULL_PLACES) {
         Scanned::Counted(n) => put_broken(buf, o, blob, &index, n, told),
         Scanned::Refused(_) => o,
     }

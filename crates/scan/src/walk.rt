@@ -1,6 +1,7 @@
 // Phase 2, reports 6 to 8: the records of the type section are walked and counted.
 use paper::Place;
 use paper::Report;
+use paper::TYPE_LIMIT;
 use paper::TypeNo;
 use rows::is_known;
 use rows::kind_of;
@@ -52,7 +53,7 @@ pub(crate) fn walk(b: &[u8], len: u32) -> Walked
     let mut at: u32 = 24;
     let mut count: u32 = 0;
     while at < end {
-        if count == 4096 {
+        if count == TYPE_LIMIT {
             return Walked::Stopped(Report::ManyTypes(Place(at)));
         }
         count += 1;

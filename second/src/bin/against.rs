@@ -1,8 +1,9 @@
 //! Archives against each other: `against OLD.so NEW.so AGAIN.so`. Check and
-//! join of the tables of docs/SPEED.md through each, by turns in this process;
+//! join of the shapes of docs/SPEED.md through each, by turns in this process;
 //! the third is the old one once more, so that the noise is seen.
 
-use second::timing::{figure, lent, medians, subjects};
+use second::generate::heavy::{NESTED, SHAPES};
+use second::timing::{example, figure, lent, medians, shaped, Subject};
 use std::ffi::{c_char, c_int, c_void, CString};
 
 type Check = extern "C" fn(*const u8, usize, *mut u32, usize, *mut u32, usize, *mut u32, usize);
@@ -27,6 +28,16 @@ extern "C" {
 }
 
 const RTLD_NOW: c_int = 2;
+
+/// The first byte limit: an archive from before it was raised takes no more.
+const BYTES: usize = 65_536;
+
+fn subjects() -> Vec<Subject> {
+    let mut found = vec![example()];
+    found.extend([BYTES, BYTES / 2, BYTES / 4].map(|bytes| shaped(&NESTED, bytes)));
+    found.extend(SHAPES.iter().map(|shape| shaped(shape, BYTES)));
+    found
+}
 
 struct Archive {
     check: Check,
@@ -93,7 +104,7 @@ fn main() {
     );
     println!("|---|---|---|---|---|---|");
     for s in subjects() {
-        let (mut k, mut l, mut m) = (lent(), lent(), lent());
+        let [mut k, mut l, mut m] = [0; 3].map(|_| lent(BYTES));
         let [o, n, a] = medians([
             &mut || old.check(&s.blob, &mut k),
             &mut || new.check(&s.blob, &mut l),

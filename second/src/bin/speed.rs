@@ -1,13 +1,21 @@
 //! The figures of docs/SPEED.md: check, join and size through the archive,
 //! beside this implementation and one pass that only sums the bytes. Prints
-//! three tables; every figure is the median of many runs in this process.
+//! three tables; each shape is in them at the byte limit and at a quarter of
+//! it, so that growth is seen.
 
 use second::archive;
 use second::chain::by_value;
 use second::check::judge;
+use second::generate::heavy::{NESTED, SHAPES};
+use second::limits::BYTE_LIMIT;
 use second::table::{Kind, Table};
-use second::timing::{figure, grouped, lent, medians, subjects, Subject, PLACES};
+use second::timing::{
+    example, figure, grouped, lent, medians, runs_in_words, shaped, Lent, Subject,
+};
 use std::hint::black_box;
+
+const WHOLE: usize = BYTE_LIMIT as usize;
+const QUARTER: usize = WHOLE / 4;
 
 /// A table to time, as both implementations read it: they must accept it, with
 /// the same count.
@@ -18,19 +26,31 @@ struct Read {
 }
 
 fn main() {
-    let subjects: Vec<Read> = subjects().into_iter().map(read).collect();
+    let shapes = [&NESTED].into_iter().chain(&SHAPES);
+    let lengths = shapes.flat_map(|shape| [WHOLE, QUARTER].map(|bytes| shaped(shape, bytes)));
+    let subjects: Vec<Read> = [example()].into_iter().chain(lengths).map(read).collect();
+    println!("{}\n", runs_in_words());
     print_checks(&subjects);
     print_joins(&subjects);
     print_sizes(&subjects);
 }
 
 fn read(of: Subject) -> Read {
-    let table = judge(&of.blob, PLACES, PLACES).expect(of.title);
-    let mut index = vec![0; PLACES];
-    let mut answer = [0; 4];
-    archive::check(&of.blob, &mut index, &mut vec![0; PLACES], &mut answer);
-    assert_eq!(answer, [0, 0, table.count(), 0], "{}", of.title);
-    Read { of, table, index }
+    let mut l = lent_for(&of);
+    let table = judge(&of.blob, l.index.len(), l.work.len()).expect(of.title);
+    archive::check(&of.blob, &mut l.index, &mut l.work, &mut l.answer);
+    assert_eq!(l.answer, [0, 0, table.count(), 0], "{}", of.title);
+    Read {
+        of,
+        table,
+        index: l.index,
+    }
+}
+
+/// A quarter of full size for a quarter of the bytes or less: both u32 slices
+/// are cleared in the time of a call.
+fn lent_for(of: &Subject) -> Lent {
+    lent(of.blob.len().max(QUARTER))
 }
 
 /// One pass that only sums the bytes.
@@ -44,7 +64,7 @@ fn print_checks(subjects: &[Read]) {
     println!("| Table | Types | Bytes | µs | ns a type | ns a byte | to `second`'s check | to the sum of the bytes |");
     println!("|---|---|---|---|---|---|---|---|");
     for s in subjects {
-        let (mut l, mut m) = (lent(), lent());
+        let (mut l, mut m) = (lent_for(&s.of), lent_for(&s.of));
         let times = medians([
             &mut || archive::check(&s.of.blob, &mut l.index, &mut l.work, &mut l.answer),
             &mut || {
@@ -64,11 +84,11 @@ fn print_joins(subjects: &[Read]) {
     println!("|---|---|---|---|---|---|---|---|");
     for s in subjects {
         let (a, b) = &s.of.pair;
-        let (mut l, mut m) = (lent(), lent());
+        let (mut l, mut m) = (lent_for(&s.of), lent_for(&s.of));
         let length =
             second::join(a, b, &mut l.index, &mut l.work, &mut l.out).expect(s.of.pair_title);
         let joined = l.out[..length].to_vec();
-        let table = judge(&joined, PLACES, PLACES).expect(s.of.pair_title);
+        let table = judge(&joined, l.index.len(), l.work.len()).expect(s.of.pair_title);
         let times = medians([
             &mut || archive::join(a, b, &mut l.index, &mut l.work, &mut l.out, &mut l.answer),
             &mut || {

@@ -3,6 +3,7 @@
 use crate::generate::random::Random;
 use crate::generate::{damage_bytes, damage_layout, damage_references, damage_words};
 use crate::generate::{fits, large, valid, Scale};
+use crate::limits::FULL_PLACES;
 use crate::make::{blob_of, put_word, Make};
 use crate::table::word;
 use crate::vectors::{run, Case, CHECK};
@@ -70,7 +71,7 @@ pub fn aimed(r: &mut Random, scale: Scale, aim: u32) -> Aimed {
     if aim == 8 {
         return Aimed {
             blob: large::around_type_limit(r),
-            places: 4_097,
+            places: FULL_PLACES,
         };
     }
     if aim == LARGE {

@@ -6,6 +6,7 @@ use crate::generate::grow::grow;
 use crate::generate::pieces::*;
 use crate::generate::random::Random;
 use crate::generate::valid::shuffle;
+use crate::limits::TYPE_LIMIT;
 use crate::make::Make;
 use crate::reference::{is_plain, references};
 use crate::table::{Kind, ALL_KINDS};
@@ -34,7 +35,7 @@ fn somewhere(r: &mut Random, m: &mut Make) -> u32 {
         0 => 0,
         1 => m.count(),
         2 => m.count() + 1,
-        3 => r.pick(&[m.count() + 2, 4_097, 1 << 31, u32::MAX]),
+        3 => r.pick(&[m.count() + 2, TYPE_LIMIT + 1, 1 << 31, u32::MAX]),
         4 => {
             let kind = r.pick(&[Kind::Func, Kind::Var, Kind::Datasec, Kind::DeclTag]);
             some_of(r, m, kind)

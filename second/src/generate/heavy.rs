@@ -64,7 +64,7 @@ pub const SHAPES: [Shape; 9] = [
 ];
 
 /// An INT, then by threes a struct of the one before through two qualifiers:
-/// 4,000 types in 65,536 bytes.
+/// 4,000 types for each 65,536 bytes.
 fn nested(bytes: usize) -> Make {
     let mut m = Make::new();
     let name = m.string("m");

@@ -3,8 +3,9 @@
 use crate::generate::check_cases::{aim, aimed, slices, Aimed, ACCEPTED, WILD};
 use crate::generate::random::Random;
 use crate::generate::{fits, large, valid, Scale};
+use crate::limits::{BYTE_LIMIT, FULL_PLACES, TYPE_LIMIT};
 use crate::make::Make;
-use crate::vectors::{run, Case, JOIN};
+use crate::vectors::{run, Case, JOIN, MOST_BYTES};
 
 pub fn case(r: &mut Random, scale: Scale) -> Case {
     let ground = r.pick(&[0, 0, 0, 0, 0, 16, 16, 17, 17, 18, 19, 20]);
@@ -87,18 +88,18 @@ fn lend(r: &mut Random, a: Vec<u8>, b: Vec<u8>, index: u32, work: u32, ground: u
         op: JOIN,
         index_places: index,
         work_places: work,
-        output_bytes: output_bytes.min(70_000),
+        output_bytes: output_bytes.min(MOST_BYTES),
         x: 0,
         a,
         b,
     }
 }
 
-/// Pairs around 4,096 types or around 65,536 bytes together.
+/// Pairs around the type limit or around the byte limit together.
 fn large_pair(r: &mut Random, ground: u32) -> Case {
     let (a, b) = if ground == 18 {
-        let first = r.pick(&[1, 100, 2_048, 4_000, 4_096]);
-        let together = r.pick(&[4_096, 4_097, 4_097, 4_098, 4_100]);
+        let first = r.pick(&[1, 100, TYPE_LIMIT / 2, 16_000, TYPE_LIMIT]);
+        let together = TYPE_LIMIT + r.pick(&[0, 1, 1, 2, 4]);
         (
             large::pointers(first).blob(),
             large::pointers(together - first).blob(),
@@ -106,10 +107,10 @@ fn large_pair(r: &mut Random, ground: u32) -> Case {
     } else {
         let a = valid::table(r, Scale::Small).blob();
         let b = valid::table(r, Scale::Small);
-        let together = r.pick(&[65_536, 65_537, 65_537, 65_538, 65_540]);
-        let length = (together + 25 - a.len()).min(65_536);
+        let together = BYTE_LIMIT as usize + r.pick(&[0, 1, 1, 2, 4]);
+        let length = (together + 25 - a.len()).min(BYTE_LIMIT as usize);
         (a, large::padded(&b, length))
     };
     let output = r.pick(&[0, 19, 19, 19, 20]);
-    lend(r, a, b, 4_097, 4_097, output)
+    lend(r, a, b, FULL_PLACES, FULL_PLACES, output)
 }

@@ -1,6 +1,7 @@
 //! Large tables for the limits of types and bytes.
 
 use crate::generate::random::Random;
+use crate::limits::{BYTE_LIMIT, TYPE_LIMIT};
 use crate::make::{blob_of, Make};
 use crate::table::Kind;
 
@@ -13,9 +14,10 @@ pub fn pointers(count: u32) -> Make {
     m
 }
 
-/// Around 4,096 types, with or without a piece of one more.
+/// Around the type limit, with or without a piece of one more.
 pub fn around_type_limit(r: &mut Random) -> Vec<u8> {
-    let m = pointers(r.pick(&[4_095, 4_096, 4_096, 4_096, 4_097]));
+    let most = TYPE_LIMIT;
+    let m = pointers(r.pick(&[most - 1, most, most, most, most + 1]));
     let mut words = m.type_words();
     words.extend(vec![r.word(); r.pick(&[0, 0, 1, 1, 2, 3])]);
     blob_of(&words, &m.strings)
@@ -29,16 +31,16 @@ pub fn padded(m: &Make, bytes: usize) -> Vec<u8> {
     m.blob()
 }
 
-/// Around 65,536 bytes.
+/// Around the byte limit.
 pub fn around_byte_limit(r: &mut Random, m: &Make) -> Vec<u8> {
-    let bytes = r.pick(&[65_535, 65_536, 65_537, 65_600]);
-    padded(m, bytes)
+    let bytes = r.pick(&[BYTE_LIMIT - 1, BYTE_LIMIT, BYTE_LIMIT + 1, BYTE_LIMIT + 64]);
+    padded(m, bytes as usize)
 }
 
 /// A long chain that ends in a size, in void or in a ring, be it of pointers.
 pub fn chain(r: &mut Random) -> Make {
     let mut m = Make::new();
-    let count = r.pick(&[1_000, 4_000, 4_095, 4_096]);
+    let count = r.pick(&[1_000, 16_000, TYPE_LIMIT - 1, TYPE_LIMIT]);
     for number in 1..count {
         m.constant(number + 1);
     }
@@ -56,7 +58,7 @@ pub fn chain(r: &mut Random) -> Make {
 pub fn deep_arrays(r: &mut Random) -> Make {
     let mut m = Make::new();
     let index = m.int(1);
-    let levels = r.between(100, 2_000);
+    let levels = r.between(100, 8_000);
     let zero = r.one_in(2).then(|| r.below(levels));
     let mut element = if r.one_in(4) {
         m.structure(0, false, &[])
@@ -76,7 +78,7 @@ pub fn many_members(r: &mut Random) -> Make {
     let mut m = Make::new();
     let name = m.string("m");
     let of = m.int(1);
-    let count = r.between(2_000, 5_400);
+    let count = r.between(8_000, 21_600);
     let mut members: Vec<[u32; 3]> = (0..count).map(|k| [name, of, 8 * k]).collect();
     if r.one_in(2) {
         let late = r.between(count / 2, count - 1) as usize;
@@ -93,7 +95,7 @@ pub fn many_entries(r: &mut Random) -> Make {
     let name = m.string("v");
     let of = m.int(4);
     let var = m.var(name, of);
-    let count = r.between(2_000, 5_000);
+    let count = r.between(8_000, 20_000);
     let entries: Vec<[u32; 3]> = (0..count).map(|k| [var, 4 * k, 4]).collect();
     m.section(name, 4 * count - r.below(2), &entries);
     m
@@ -107,7 +109,7 @@ pub fn table(r: &mut Random) -> Make {
         2 => many_members(r),
         3 => many_entries(r),
         _ => {
-            let mut m = pointers(r.between(4_000, 4_096));
+            let mut m = pointers(r.between(16_000, TYPE_LIMIT));
             let last = m.count();
             m.at(last).set_kind_number(Kind::Const as u32);
             m

@@ -3,38 +3,36 @@
 
 use crate::check::check;
 use crate::generate::large::{padded, pointers};
+use crate::limits::{BYTE_LIMIT, FULL_PLACES, TYPE_LIMIT};
 use crate::make::{info, Make};
 use crate::table::Kind;
 use crate::vectors::{bytes_of, Case, CHECK, NAME, SIZE};
-
-/// The most places that a table can need.
-const PLACES: u32 = 4_097;
 
 /// All of them: each table is checked, the sizes of its first and last types
 /// are asked where it is accepted, and its names at both ends. Thinned, the
 /// tables at the two limits are checked.
 pub fn cases(thin: bool) -> Vec<Case> {
     let tables = [
-        pointers(4_096).blob(),
-        pointers(4_097).blob(),
-        of_bytes(65_536),
-        of_bytes(65_537),
+        pointers(TYPE_LIMIT).blob(),
+        pointers(TYPE_LIMIT + 1).blob(),
+        of_bytes(BYTE_LIMIT),
+        of_bytes(BYTE_LIMIT + 1),
         full(),
-        chain_up(4_000).blob(),
-        chain_down(4_000).blob(),
-        nest(1_400).blob(),
-        ring_behind(4_000).blob(),
-        ring_in_nest(1_400).blob(),
-        pointers_up(4_000).blob(),
-        pointers_down(4_000).blob(),
-        pointer_ring(4_096).blob(),
-        pointer_ring_behind(4_000).blob(),
-        entries(5_000, 20_000).blob(),
-        entries(5_000, 19_999).blob(),
-        parameters(8_000, 8_000, 7_999).blob(),
-        parameters(8_000, 7_999, 7_999).blob(),
-        parameters(8_000, 1, 7_999).blob(),
-        parameters(8_000, 8_000, 8_000).blob(),
+        chain_up(16_000).blob(),
+        chain_down(16_000).blob(),
+        nest(5_600).blob(),
+        ring_behind(16_000).blob(),
+        ring_in_nest(5_600).blob(),
+        pointers_up(16_000).blob(),
+        pointers_down(16_000).blob(),
+        pointer_ring(TYPE_LIMIT).blob(),
+        pointer_ring_behind(16_000).blob(),
+        entries(20_000, 80_000).blob(),
+        entries(20_000, 79_999).blob(),
+        parameters(32_000, 32_000, 31_999).blob(),
+        parameters(32_000, 31_999, 31_999).blob(),
+        parameters(32_000, 1, 31_999).blob(),
+        parameters(32_000, 32_000, 32_000).blob(),
         held_by_constant().blob(),
         arrays_of_arrays().blob(),
         products().blob(),
@@ -48,8 +46,8 @@ pub fn cases(thin: bool) -> Vec<Case> {
 fn checked(blob: &[u8]) -> Case {
     Case {
         op: CHECK,
-        index_places: PLACES,
-        work_places: PLACES,
+        index_places: FULL_PLACES,
+        work_places: FULL_PLACES,
         a: blob.to_vec(),
         ..Case::default()
     }
@@ -58,7 +56,7 @@ fn checked(blob: &[u8]) -> Case {
 /// The questions that a table is asked.
 fn asked(blob: &[u8]) -> Vec<Case> {
     let mut found = vec![checked(blob)];
-    let mut index = vec![0; PLACES as usize];
+    let mut index = vec![0; FULL_PLACES as usize];
     let mut work = index.clone();
     if let Ok(count) = check(blob, &mut index, &mut work) {
         let b = bytes_of(&index[..=count as usize]);
@@ -83,19 +81,19 @@ fn asked(blob: &[u8]) -> Vec<Case> {
 }
 
 /// One INT, and strings up to so many bytes.
-pub fn of_bytes(bytes: usize) -> Vec<u8> {
+pub fn of_bytes(bytes: u32) -> Vec<u8> {
     let mut m = Make::new();
     m.int(4);
-    padded(&m, bytes)
+    padded(&m, bytes as usize)
 }
 
-/// 65,536 bytes, nearly all of them types: 4,094 INTs.
+/// As many bytes as may be, nearly all of them types: INTs, of 16 bytes each.
 pub fn full() -> Vec<u8> {
     let mut m = Make::new();
-    for _ in 0..4_094 {
+    for _ in 0..(BYTE_LIMIT - 25) / 16 {
         m.int(4);
     }
-    padded(&m, 65_536)
+    padded(&m, BYTE_LIMIT as usize)
 }
 
 /// So many typedefs, each of the next; the last is of an INT.

@@ -5,12 +5,9 @@ use crate::generate::large::{padded, pointers};
 use crate::generate::large_fixed::{
     chain_down, chain_up, entries, full, nest, of_bytes, parameters, pointers_down, pointers_up,
 };
+use crate::limits::{BYTE_LIMIT, FULL_PLACES, TYPE_LIMIT};
 use crate::make::Make;
-use crate::vectors::Case;
-
-/// The most places that a table can need, and the longest joined table.
-const PLACES: u32 = 4_097;
-const BYTES: u32 = 65_536;
+use crate::vectors::{Case, MOST_BYTES, MOST_PLACES};
 
 /// All of them. Thinned, the joins at the two limits and one past each.
 pub fn cases(thin: bool) -> Vec<Case> {
@@ -25,69 +22,70 @@ pub fn cases(thin: bool) -> Vec<Case> {
     long_tables(&mut found);
     examples(&mut found);
     for [a, b, c] in triples() {
-        found.extend(grouped(&a, &b, &c, PLACES));
+        found.extend(grouped(&a, &b, &c, FULL_PLACES));
     }
     found
 }
 
-/// Report 8 inside, 4,096 types together and one more, 65,536 bytes and one
-/// more, and an output that is one byte too short for them.
+/// Report 8 inside, as many types together as may be and one more, as many
+/// bytes and one more, and an output that is one byte too short for them.
 fn limits() -> Vec<Case> {
-    let [none, one, most, over] = [0, 1, 4_096, 4_097].map(|count| pointers(count).blob());
-    let (first, second, longer) = (long(30_000), long(35_561), long(35_562));
+    let [none, one] = [0, 1].map(|count| pointers(count).blob());
+    let [less, most, over] =
+        [TYPE_LIMIT - 1, TYPE_LIMIT, TYPE_LIMIT + 1].map(|count| pointers(count).blob());
+    // a join has 25 bytes fewer than its two tables
+    let rest = BYTE_LIMIT + 25 - 120_000;
+    let (first, second, longer) = (of_bytes(120_000), of_bytes(rest), of_bytes(rest + 1));
     vec![
-        call(&over, &none, PLACES, 70_000),
-        call(&none, &over, PLACES, 70_000),
-        call(&one, &pointers(4_095).blob(), PLACES, BYTES),
-        call(&most, &one, PLACES, BYTES),
-        call(&first, &second, PLACES, BYTES),
-        call(&first, &second, PLACES, BYTES - 1),
-        call(&first, &longer, PLACES, 70_000),
+        call(&over, &none, FULL_PLACES, MOST_BYTES),
+        call(&none, &over, FULL_PLACES, MOST_BYTES),
+        call(&one, &less, FULL_PLACES, BYTE_LIMIT),
+        call(&most, &one, FULL_PLACES, BYTE_LIMIT),
+        call(&first, &second, FULL_PLACES, BYTE_LIMIT),
+        call(&first, &second, FULL_PLACES, BYTE_LIMIT - 1),
+        call(&first, &longer, FULL_PLACES, MOST_BYTES),
     ]
 }
 
 /// Report 8 inside 16 and 17, before whatever else is due.
 fn too_many_inside(found: &mut Vec<Case>) {
-    let (many, good, bad) = (pointers(4_097).blob(), pointers(4_096).blob(), refused(15));
+    let [good, many] = [TYPE_LIMIT, TYPE_LIMIT + 1].map(|count| pointers(count).blob());
+    let bad = refused(15);
     for (a, b) in [(&many, &good), (&good, &many), (&many, &bad), (&bad, &many)] {
-        for output_bytes in [0, 70_000] {
-            found.push(call(a, b, PLACES, output_bytes));
+        for output_bytes in [0, MOST_BYTES] {
+            found.push(call(a, b, FULL_PLACES, output_bytes));
         }
     }
 }
 
-/// So many types together: 4,096 are joined, 4,097 are 18.
+/// So many types together: at the limit they are joined, one more are 18.
 fn around_type_limit(found: &mut Vec<Case>) {
-    for first in [0, 1, 100, 2_048, 4_095, 4_096] {
-        for together in [4_095, 4_096, 4_097] {
-            if together < first || together - first > 4_096 {
+    let most = TYPE_LIMIT;
+    for first in [0, 1, 100, most / 2, most - 1, most] {
+        for together in [most - 1, most, most + 1] {
+            if together < first || together - first > most {
                 continue;
             }
             let (a, b) = (pointers(first).blob(), pointers(together - first).blob());
             let places = 1 + first.max(together - first);
             found.push(call(&a, &b, places, length(&a, &b)));
-            found.push(call(&a, &b, 5_000, 70_000));
+            found.push(call(&a, &b, MOST_PLACES, MOST_BYTES));
         }
     }
 }
 
-/// A table of so many bytes, one type among them.
-fn long(bytes: u32) -> Vec<u8> {
-    of_bytes(bytes as usize)
-}
-
-/// Joined lengths of 65,535 and 65,536 are joined where the output reaches,
-/// and 20 where it does not; 65,537 is 19 with any output.
+/// Joined lengths up to the limit are joined where the output reaches, and 20
+/// where it does not; one byte more is 19 with any output.
 fn around_byte_limit(found: &mut Vec<Case>) {
-    for first in [25, 60, 30_000, BYTES - 1, BYTES] {
-        for together in [BYTES - 1, BYTES, BYTES + 1] {
+    for first in [25, 60, 120_000, BYTE_LIMIT - 1, BYTE_LIMIT] {
+        for together in [BYTE_LIMIT - 1, BYTE_LIMIT, BYTE_LIMIT + 1] {
             let rest = (together + 25 - first) as usize;
-            if rest < 25 || rest > BYTES as usize {
+            if rest < 25 || rest > BYTE_LIMIT as usize {
                 continue;
             }
             let a = padded(&Make::new(), first as usize);
             let b = padded(&Make::new(), rest);
-            for output_bytes in [0, together - 1, together, together + 1, 70_000] {
+            for output_bytes in [0, together - 1, together, together + 1, MOST_BYTES] {
                 found.push(call(&a, &b, 1, output_bytes));
             }
         }
@@ -96,26 +94,27 @@ fn around_byte_limit(found: &mut Vec<Case>) {
 
 /// Two grounds at once: the one that the paper lists first speaks.
 fn ground_before_ground(found: &mut Vec<Case>) {
-    let many = padded(&pointers(2_049), 33_000);
+    let half = TYPE_LIMIT / 2;
+    let many = padded(&pointers(half + 1), 132_000);
     let bad = refused(15);
     // 18 and 19 are due, with an output that would do and with none
-    found.push(call(&many, &many, PLACES, 70_000));
-    found.push(call(&many, &many, PLACES, 0));
+    found.push(call(&many, &many, FULL_PLACES, MOST_BYTES));
+    found.push(call(&many, &many, FULL_PLACES, 0));
     // 18 and 20
-    let few = pointers(2_048).blob();
-    found.push(call(&few, &pointers(2_049).blob(), PLACES, 0));
+    let few = pointers(half).blob();
+    found.push(call(&few, &pointers(half + 1).blob(), FULL_PLACES, 0));
     // 19 and 20
-    found.push(call(&long(40_000), &long(40_000), PLACES, 0));
+    found.push(call(&of_bytes(140_000), &of_bytes(140_000), FULL_PLACES, 0));
     // 17 and, were the second not refused, 18 and 19
-    let mut broken = pointers(4_096);
-    broken.at(4_096).third = 4_097;
-    found.push(call(&many, &padded(&broken, 60_000), PLACES, 0));
-    found.push(call(&full(), &bad, PLACES, 0));
+    let mut broken = pointers(TYPE_LIMIT);
+    broken.at(TYPE_LIMIT).third = TYPE_LIMIT + 1;
+    found.push(call(&many, &padded(&broken, 240_000), FULL_PLACES, 0));
+    found.push(call(&full(), &bad, FULL_PLACES, 0));
     // 16 and 17, and every other ground
-    found.push(call(&padded(&broken, 60_000), &bad, PLACES, 0));
+    found.push(call(&padded(&broken, 240_000), &bad, FULL_PLACES, 0));
     // 9 inside: places for the first, one too few for the second
-    found.push(call(&few, &pointers(2_049).blob(), 2_049, 0));
-    found.push(call(&few, &pointers(2_049).blob(), 2_048, 0));
+    found.push(call(&few, &pointers(half + 1).blob(), half + 1, 0));
+    found.push(call(&few, &pointers(half + 1).blob(), half, 0));
 }
 
 /// Chains, nests, sections and prototypes behind each other; a long table
@@ -123,26 +122,26 @@ fn ground_before_ground(found: &mut Vec<Case>) {
 fn long_tables(found: &mut Vec<Case>) {
     let e = Make::new().blob();
     let tables = [
-        chain_up(2_000).blob(),
-        chain_down(2_000).blob(),
-        nest(800).blob(),
-        pointers_up(2_000).blob(),
-        pointers_down(2_000).blob(),
-        entries(2_500, 10_000).blob(),
-        parameters(3_000, 3_000, 2_999).blob(),
-        padded(&entries(2_000, 8_000), 32_780),
+        chain_up(8_000).blob(),
+        chain_down(8_000).blob(),
+        nest(3_200).blob(),
+        pointers_up(8_000).blob(),
+        pointers_down(8_000).blob(),
+        entries(10_000, 40_000).blob(),
+        parameters(12_000, 12_000, 11_999).blob(),
+        padded(&entries(8_000, 32_000), 131_084),
     ];
     for a in &tables {
         for b in &tables {
-            found.push(call(a, b, 2_002, length(a, b)));
+            found.push(call(a, b, 8_002, length(a, b)));
         }
-        found.push(call(&e, a, 2_002, length(&e, a) + 9));
-        found.push(call(a, &e, 2_002, length(a, &e) - 1));
+        found.push(call(&e, a, 8_002, length(&e, a) + 9));
+        found.push(call(a, &e, 8_002, length(a, &e) - 1));
     }
-    for whole in [full(), long(BYTES)] {
-        found.push(call(&whole, &e, PLACES, BYTES));
-        found.push(call(&e, &whole, PLACES, BYTES));
-        found.push(call(&whole, &whole, PLACES, 70_000));
+    for whole in [full(), of_bytes(BYTE_LIMIT)] {
+        found.push(call(&whole, &e, FULL_PLACES, BYTE_LIMIT));
+        found.push(call(&e, &whole, FULL_PLACES, BYTE_LIMIT));
+        found.push(call(&whole, &whole, FULL_PLACES, MOST_BYTES));
     }
 }
 
@@ -163,13 +162,15 @@ fn examples(found: &mut Vec<Case>) {
     }
 }
 
-/// Three tables: those of example/, and three that reach 4,096 types and
-/// 65,536 bytes together.
+/// Three tables: those of example/, and three that reach both limits together.
 pub fn triples() -> Vec<[Vec<u8>; 3]> {
     let (a, b, c) = (
-        padded(&chain_up(1_000), 20_000),
-        padded(&pointers(2_000), 25_000),
-        padded(&chain_down(1_094), 20_586),
+        padded(&chain_up(4_000), 80_000),
+        padded(&pointers(8_000), 100_000),
+        padded(
+            &chain_down(TYPE_LIMIT - 12_002),
+            BYTE_LIMIT as usize + 50 - 180_000,
+        ),
     );
     vec![example_tables(), [a, b, c]]
 }

@@ -8,9 +8,12 @@ use crate::generate::pieces::{kind_of, table_of};
 use crate::generate::random::Random;
 use crate::generate::{damage_bytes, valid, Scale};
 use crate::join::raised;
+use crate::limits::{BYTE_LIMIT, FULL_PLACES, TYPE_LIMIT};
 use crate::make::{Make, Raw};
 use crate::table::Kind;
-use crate::vectors::{Case, CHECK};
+use crate::vectors::{Case, CHECK, MOST_BYTES, MOST_PLACES};
+
+const BYTES: usize = BYTE_LIMIT as usize;
 
 /// An accepted table of at most so many bytes, and nearly as many.
 pub fn table(r: &mut Random, bytes: usize) -> Make {
@@ -49,10 +52,34 @@ fn put_behind(m: &mut Make, part: &Make) {
     m.strings.extend(&part.strings[1..]);
 }
 
+/// A table of any length; some have as many types or bytes as may be.
+fn of_any_length(r: &mut Random) -> Make {
+    let filled = r.below(8);
+    // Pointers up to the type limit fit behind so many bytes.
+    let most = if filled == 0 { 150_000 } else { BYTE_LIMIT };
+    let bytes = r.between(10_000, most) as usize;
+    let mut m = table(r, bytes);
+    match filled {
+        0 => {
+            let missing = TYPE_LIMIT - m.count();
+            (0..missing).for_each(|_| add_pointer(r, &mut m));
+        }
+        1 => m.strings.extend(vec![0; BYTES - m.blob().len()]),
+        _ => (),
+    }
+    m
+}
+
+/// A pointer to void, or to a pointer in front of it.
+fn add_pointer(r: &mut Random, m: &mut Make) {
+    let last = m.count();
+    let is_pointer = kind_of(m, last) == Some(Kind::Ptr);
+    m.ptr(if is_pointer && r.one_in(2) { last } else { 0 });
+}
+
 /// A check of a long table, accepted or with one damage.
 pub fn check(r: &mut Random) -> Case {
-    let bytes = r.between(10_000, 65_536) as usize;
-    let m = table(r, bytes);
+    let m = of_any_length(r);
     // Damage may add types; then one place more than types is report 9.
     let places = m.count() + r.pick(&[1, 40]);
     let a = if r.one_in(2) { m.blob() } else { damaged(r, m) };
@@ -87,23 +114,23 @@ pub fn join(r: &mut Random) -> Case {
     match r.pick(&[0, 0, 0, 0, 0, 0, 9, 16, 17, 18, 19, 20]) {
         9 => with_places(r, 0),
         16 => {
-            let (a, b) = pair(r, 65_536);
+            let (a, b) = pair(r, BYTES);
             let a = damaged(r, a);
             lend(r, a, b.blob(), 0)
         }
         17 => {
-            let (a, b) = pair(r, 65_536);
+            let (a, b) = pair(r, BYTES);
             let b = damaged(r, b);
             lend(r, a.blob(), b, 0)
         }
         18 => around_type_limit(r),
         19 => {
-            let together = r.pick(&[65_536, 65_537, 65_537, 65_538, 70_000]);
+            let together = BYTES + r.pick(&[0, 1, 1, 2, 5_000]);
             around_byte_limit(r, together, 0)
         }
         20 => {
             let short = r.pick(&[1, 1, 2, 1_000]);
-            around_byte_limit(r, 65_536, short)
+            around_byte_limit(r, BYTES, short)
         }
         _ => with_places(r, 1),
     }
@@ -111,7 +138,7 @@ pub fn join(r: &mut Random) -> Case {
 
 /// Places for all types of the larger table and so many more: 1 is enough.
 fn with_places(r: &mut Random, more: u32) -> Case {
-    let together = r.between(30_000, 65_536) as usize;
+    let together = r.between(30_000, BYTE_LIMIT) as usize;
     let (a, b) = pair(r, together);
     let places = a.count().max(b.count()) + more;
     Case {
@@ -128,26 +155,23 @@ fn pair(r: &mut Random, together: usize) -> (Make, Make) {
     (a, b)
 }
 
-/// 4,096 types together, or a few more: pointers fill up what is missing.
+/// As many types together as may be, or a few more: pointers fill up what is missing.
 fn around_type_limit(r: &mut Random) -> Case {
-    let together = r.pick(&[4_095, 4_096, 4_096, 4_097, 4_097, 4_098]);
-    let (mut a, mut b) = pair(r, 12_000);
+    let together = TYPE_LIMIT - 1 + r.pick(&[0, 1, 1, 2, 2, 3]);
+    let (mut a, mut b) = pair(r, 48_000);
     let missing = together - a.count() - b.count();
     let first = r.below(missing);
     for number in 0..missing {
-        let m = if number < first { &mut a } else { &mut b };
-        let last = m.count();
-        let is_pointer = kind_of(m, last) == Some(Kind::Ptr);
-        m.ptr(if is_pointer && r.one_in(2) { last } else { 0 });
+        add_pointer(r, if number < first { &mut a } else { &mut b });
     }
     lend(r, a.blob(), b.blob(), 0)
 }
 
 /// Strings fill up to this joined length; the output is so much shorter.
 fn around_byte_limit(r: &mut Random, together: usize, short: u32) -> Case {
-    let (a, b) = pair(r, 65_536);
+    let (a, b) = pair(r, BYTES);
     let rest = together + 25 - a.blob().len();
-    lend(r, a.blob(), padded(&b, rest.min(65_536)), short)
+    lend(r, a.blob(), padded(&b, rest.min(BYTES)), short)
 }
 
 /// Full slices, and an output of the joined length, longer, or shorter.
@@ -157,6 +181,6 @@ fn lend(r: &mut Random, a: Vec<u8>, b: Vec<u8>, short: u32) -> Case {
         0 => joined + r.pick(&[0, 0, 1, 100]),
         _ => joined.saturating_sub(short),
     };
-    let places = r.pick(&[4_097, 4_097, 5_000]);
-    call(&a, &b, places, output_bytes.min(70_000))
+    let places = r.pick(&[FULL_PLACES, FULL_PLACES, MOST_PLACES]);
+    call(&a, &b, places, output_bytes.min(MOST_BYTES))
 }

@@ -41,26 +41,41 @@ pub const SORTS: [fn(&Record) -> Vec<u32>; 2] = [by_value, along_chain];
 
 /// The smallest type from which a walk of either sort has n steps.
 ///
-/// Round k holds the types with a walk of k steps. Each round is made from
-/// the one before alone, and no round holds a type its forerunner lacks (cut
-/// the last step off a walk). So once a round changes nothing, none after it
-/// will; and with n types that happens by round n, since every round before
-/// it loses at least one type. What stays are the types that can reach a
-/// ring.
+/// A walk of n steps comes to a type again, so these are the types that can
+/// reach a ring. Types without a step that leads on are struck out until none
+/// is left; from what stays one can always go on.
 pub fn report_14(table: &Table) -> Option<u32> {
     smallest(table, |steps| {
-        let mut walks = vec![true; steps.len()];
-        loop {
-            let next = one_step_more(steps, &walks);
-            if next == walks {
-                return walks;
+        let led_from = turned_round(steps);
+        // How many steps of each type lead to types that are not struck out.
+        let mut open: Vec<usize> = steps.iter().map(Vec::len).collect();
+        let mut ended: Vec<usize> = (0..steps.len()).filter(|at| open[*at] == 0).collect();
+        while let Some(at) = ended.pop() {
+            for from in &led_from[at] {
+                open[*from] -= 1;
+                if open[*from] == 0 {
+                    ended.push(*from);
+                }
             }
-            walks = next;
         }
+        open.iter().map(|steps| *steps > 0).collect()
     })
 }
 
-/// The same in the paper's own words: n rounds, whatever they change.
+/// For each type, where the steps to it start; one that two steps lead from
+/// is there twice.
+fn turned_round(steps: &[Vec<u32>]) -> Vec<Vec<usize>> {
+    let mut led_from = vec![Vec::new(); steps.len()];
+    for (from, ends) in steps.iter().enumerate() {
+        for end in ends {
+            led_from[*end as usize - 1].push(from);
+        }
+    }
+    led_from
+}
+
+/// The same in the paper's own words: round k holds the types with a walk of k
+/// steps, and there are n rounds.
 pub fn report_14_by_the_letter(table: &Table) -> Option<u32> {
     smallest(table, |steps| {
         let mut walks = vec![true; steps.len()];

@@ -1,7 +1,8 @@
 //! Phase 1: the header and the two sections, reports 1 to 5.
 
+use crate::limits::BYTE_LIMIT;
 use crate::report::Report;
-use crate::table::{word, HEADER_BYTES, MOST_BYTES};
+use crate::table::{word, HEADER_BYTES};
 
 /// Lengths of the two sections of a blob that passed phase 1.
 #[derive(Clone, Copy, PartialEq, Eq, Debug)]
@@ -32,7 +33,7 @@ pub fn phase_1(blob: &[u8]) -> Result<Sections, Report> {
 }
 
 fn report_1(blob: &[u8]) -> bool {
-    blob.len() < HEADER_BYTES || blob.len() > MOST_BYTES
+    blob.len() < HEADER_BYTES || blob.len() > BYTE_LIMIT as usize
 }
 
 fn report_2(blob: &[u8]) -> bool {

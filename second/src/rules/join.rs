@@ -1,10 +1,11 @@
 //! Joining two tables.
 
 use crate::check::judge;
+use crate::limits::{BYTE_LIMIT, TYPE_LIMIT};
 use crate::names::asked_of_entry;
 use crate::reference::references;
 use crate::report::Report;
-use crate::table::{Record, Table, HEADER_BYTES, HEAD_BYTES, MOST_BYTES, MOST_TYPES};
+use crate::table::{Record, Table, HEADER_BYTES, HEAD_BYTES};
 
 /// Why a join was refused, reports 16 to 20.
 #[derive(Clone, Copy, PartialEq, Eq, Debug)]
@@ -65,11 +66,11 @@ fn try_join(
     // Each table is checked on its own with the lent slices.
     let first = judge(first, index_places, work_places).map_err(JoinRefusal::First)?;
     let second = judge(second, index_places, work_places).map_err(JoinRefusal::Second)?;
-    if first.records.len() + second.records.len() > MOST_TYPES {
+    if first.count() + second.count() > TYPE_LIMIT {
         return Err(JoinRefusal::TooManyTypes);
     }
     let joined = joined_blob(&first, &second);
-    if joined.len() > MOST_BYTES {
+    if joined.len() > BYTE_LIMIT as usize {
         return Err(JoinRefusal::TooLong);
     }
     if output_bytes < joined.len() {

@@ -7,6 +7,7 @@ pub mod head;
 pub mod header;
 pub mod join;
 pub mod layout;
+pub mod limits;
 pub mod members;
 pub mod name_at;
 pub mod names;

@@ -27,14 +27,14 @@ impl Report {
 /// One line in words for each number an answer can carry.
 pub fn meaning(number: u32) -> &'static str {
     match number {
-        1 => "the file is under 24 bytes or over 65,536",
+        1 => "the file is under 24 bytes or over 262,144",
         2 => "the first four bytes are not 9F EB 01 00",
         3 => "the header length is not 24",
         4 => "the section places and lengths do not add up to the file",
         5 => "the string section is empty or does not begin and end with a zero byte",
         6 => "a record does not fit the type section",
         7 => "a record has an unknown kind",
-        8 => "there are more than 4,096 records",
+        8 => "there are more than 16,384 records",
         9 => "the index or the work slice has too few places",
         10 => "a record's head breaks a rule",
         11 => "a name breaks a rule",
@@ -44,8 +44,8 @@ pub fn meaning(number: u32) -> &'static str {
         15 => "a layout rule is broken",
         16 => "the first table is refused",
         17 => "the second table is refused",
-        18 => "over 4,096 types together",
-        19 => "the joined length is over 65,536",
+        18 => "over 16,384 types together",
+        19 => "the joined length is over 262,144",
         20 => "the output is too short",
         21 => "the index leads outside what can be read",
         22 => "more records would be read than the index has places",

@@ -2,8 +2,6 @@
 
 /// The 24 bytes before the type section.
 pub const HEADER_BYTES: usize = 24;
-pub const MOST_BYTES: usize = 65_536;
-pub const MOST_TYPES: usize = 4_096;
 pub const HEAD_BYTES: usize = 12;
 
 /// The 32-bit word at a byte place, low byte first.

@@ -1,9 +1,10 @@
 //! Phase 2: the walk over the type section, reports 6 to 9.
 
 use crate::header::Sections;
+use crate::limits::TYPE_LIMIT;
 use crate::report::Report;
 use crate::table::{kind_number_of, vlen_of, word, Kind, Record, Table};
-use crate::table::{HEADER_BYTES, HEAD_BYTES, MOST_TYPES};
+use crate::table::{HEADER_BYTES, HEAD_BYTES};
 
 /// Walks the records one after the other and stops at the first fault.
 pub fn phase_2(blob: &[u8], sections: Sections) -> Result<Table, Report> {
@@ -14,7 +15,7 @@ pub fn phase_2(blob: &[u8], sections: Sections) -> Result<Table, Report> {
         // Report 8 comes before anything is read of the bytes that remain. Its
         // place is where the record too many would begin.
         if report_8(&records) {
-            return Err(Report::new(8, 4_097, place as u32));
+            return Err(Report::new(8, TYPE_LIMIT + 1, place as u32));
         }
         let record = read_record(blob, place, end, records.len() as u32 + 1)?;
         place += HEAD_BYTES + 4 * record.tail.len();
@@ -24,9 +25,9 @@ pub fn phase_2(blob: &[u8], sections: Sections) -> Result<Table, Report> {
     Ok(Table { records, strings })
 }
 
-/// Asked where bytes remain: have 4,096 records been read already?
+/// Asked where bytes remain: is the limit of records reached already?
 fn report_8(records: &[Record]) -> bool {
-    records.len() == MOST_TYPES
+    records.len() == TYPE_LIMIT as usize
 }
 
 /// Reads the record at a place: 6 for a head or tail that doesn't fit, 7 for

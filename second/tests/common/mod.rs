@@ -1,13 +1,14 @@
 //! Short calls for the tests.
 #![allow(dead_code)]
 
+use second::limits::{BYTE_LIMIT, FULL_PLACES};
 use second::make::Make;
 use second::{Report, SizeAnswer};
 
 /// Checks with the most places a table can need.
 pub fn gate(blob: &[u8]) -> Result<u32, Report> {
-    let mut index = vec![u32::MAX; 4_097];
-    let mut work = vec![u32::MAX; 4_097];
+    let mut index = vec![u32::MAX; FULL_PLACES as usize];
+    let mut work = vec![u32::MAX; FULL_PLACES as usize];
     let answer = second::check(blob, &mut index, &mut work);
     assert!(work.iter().all(|place| *place == 0));
     assert!(answer.is_ok() || index.iter().all(|place| *place == 0));
@@ -32,9 +33,9 @@ pub fn size_in(m: &Make, type_number: u32) -> SizeAnswer {
 }
 
 pub fn joined(a: &[u8], b: &[u8]) -> Vec<u8> {
-    let mut index = vec![0; 4_097];
-    let mut work = vec![0; 4_097];
-    let mut output = vec![165; 65_536];
+    let mut index = vec![0; FULL_PLACES as usize];
+    let mut work = vec![0; FULL_PLACES as usize];
+    let mut output = vec![165; BYTE_LIMIT as usize];
     let length = second::join(a, b, &mut index, &mut work, &mut output).expect("joined");
     output.truncate(length);
     output

@@ -43,7 +43,7 @@ module _ (b : List ℕ) where
   unfoldable pub stringsIn : List ℕ
   stringsIn = drop (headerLength + typeLen) b
 
-  -- 1: "under 24 bytes or over 65,536"
+  -- 1: "under 24 bytes or over" the limit
   unfoldable pub lengthBad : Bool
   lengthBad = ltb (length b) headerLength || ltb byteLimit (length b)
 

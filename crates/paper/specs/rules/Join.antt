@@ -32,7 +32,7 @@ refusedInside number (some a) = some (inside number a)
 unfoldable pub joinedBytes : List ℕ → List ℕ → List ℕ
 joinedBytes a b = bytesOf (orderOf a) (joinTables (tableOf a) (tableOf b))
 
--- 18, 19, 20: "over 4,096 types together; joined length over 65,536; output shorter than that length; in that order"
+-- 18, 19, 20: types together over the limit; "joined length over" the limit; "output shorter than that length; in that order"
 abbrev pub limitRules : List ℕ → List ℕ → ℕ → List Rule
 limitRules a b room =
     18 when ltb typeLimit (count (tableOf a) + count (tableOf b))

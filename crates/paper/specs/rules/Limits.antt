@@ -1,15 +1,15 @@
--- The paper's limits, each once.
+-- The paper's limits, each once, as order 5 has raised them.
 use Prim.Native.Nat.{ℕ, _+_}
 
--- report 1: "over 65,536" bytes
+-- report 1: over 262,144 bytes
 abbrev pub byteLimit : ℕ
-byteLimit = 65536
+byteLimit = 262144
 
--- report 8: "bytes remain after record 4,096"
+-- report 8: bytes remain after record 16,384
 abbrev pub typeLimit : ℕ
-typeLimit = 4096
+typeLimit = 16384
 
--- "Full size is 4,097 places and 65,536 bytes: the type limit and one more, and the byte limit"
+-- "Full size": 16,385 places and 262,144 bytes, "the type limit and one more, and the byte limit"
 abbrev pub fullPlaces : ℕ
 fullPlaces = typeLimit + 1
 

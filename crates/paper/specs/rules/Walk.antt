@@ -33,7 +33,7 @@ walkRecord rest k p n i t ws =
     (stopped 7 k p)
 
 -- the walk from record k on, which stands at place p, over the words that are left, where so many records more may stand
--- 8: "bytes remain after record 4,096 (before 6 and 7)"; 6: the 12-byte head does not fit
+-- 8: "bytes remain after record" 16,384 "(before 6 and 7)"; 6: the 12-byte head does not fit
 abbrev pub walkFrom : ℕ → ℕ → ℕ → List ℕ → Walked
 walkFrom zero k p [] = records []
 walkFrom zero k p (n ∷ ws) = stopped 8 k p

@@ -17,7 +17,7 @@ use Rattle.paper.specs.terms.Where.{StandsAt}
 
 -- what is wrong, by its number, with record t, which the words that are left begin with, where so many records may stand
 pub data Fault (limit number t : ℕ) (left : List ℕ) : Type 0 where
-  -- "bytes remain after record 4,096 (before 6 and 7)"
+  -- "bytes remain after record" 16,384 "(before 6 and 7)"
   many : number ≡ 8 → t ≡ limit + 1 → Fault limit number t left
   -- "a record's 12-byte head .. doesn't fit the type section"
   head-cut : number ≡ 6 → t ≤ limit → length left < 3 → Fault limit number t left

@@ -7,6 +7,7 @@ use denote.Ref.{now}
 use mathlib.Core.List.{List}
 use lib.ListN.{length, drop, length-drop}
 use Rattle.paper.proofs.bytes.Bytes.{part-rest}
+use Rattle.paper.specs.rules.Limits.{byteLimit}
 use Rattle.paper.specs.rules.Name.{nameStart}
 use Rattle.header.specs.Part.{Ending}
 use Rattle.header.proofs.Headers.{tells}
@@ -22,7 +23,7 @@ begins c = nameStart-some _ _ (tells (c .before .before .nameless .ensures) (c .
 inside : (c : tie.After-read) → let a = c .before .before .before .before .args in 24 + c .read .result + a .at .0 < length (now (a .b))
 inside c = rw (begins c) (named-inside _ _ (tells (c .before .before .nameless .ensures) (c .before .if1 .left)))
 
-short : (c : tie.After-read) → length (now (c .before .before .before .before .args .b)) ≤ 65536
+short : (c : tie.After-read) → length (now (c .before .before .before .before .args .b)) ≤ byteLimit
 short c = named-short _ (c .before .before .before .before .args .at .0) (tells (c .before .before .nameless .ensures) (c .before .if1 .left))
 
 -- the scan from there ends where the name does

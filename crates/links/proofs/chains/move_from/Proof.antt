@@ -9,6 +9,7 @@ use Rattle.views.specs.Shown.{tableBy}
 use Rattle.links.specs.Holding.{heldFrom, NextHeld}
 use Rattle.links.specs.Search.{along, into, back}
 use Rattle.links.proofs.HeldTypes.{told, next-type, next-small, few-types}
+use Rattle.links.proofs.Ways.{mark-fits}
 use borrow.Author.Needs.{needs}
 use Rattle.links.proofs.chains.move_from.Statement.{statement}
 use Rattle.links.proofs.chains.move_from.Tie as tie
@@ -92,7 +93,8 @@ add-work-2 : tie.Need-add-work-2
 add-work-2 c =
     let f = c .before .before .before .before .before .before in
     let a = f .before .before .before .before .before .before .before .before .before in
-    omega (arith, next-small (a .pre .0) (a .args .t .0) (found f), few-types (a .pre .0), a .pre .1 .high)
+    let small = next-small (a .pre .0) (a .args .t .0) (found f) in
+    omega (arith, mark-fits {p = a .args .t .0} (omega (arith, few-types (a .pre .0), a .pre .1 .high)) small)
 
 mul-work-3 : tie.Need-mul-work-3
 mul-work-3 c = search needs
