@@ -1,15 +1,4 @@
 // The arguments: which verb, of which files and numbers; and how the status is told.
-use crate::wrongs::NO_OFFSET;
-use crate::wrongs::NO_OUT;
-use crate::wrongs::NO_TYPE;
-use crate::wrongs::NO_TYPE_NAME;
-use crate::wrongs::TOO_FEW;
-use crate::wrongs::TOO_MANY;
-use crate::wrongs::TWO_DASHES;
-use crate::wrongs::UNKNOWN;
-use crate::wrongs::help;
-use crate::wrongs::no_words;
-use crate::wrongs::wrong_at;
 use asks::Ask;
 use asks::ask_file;
 use files::Status;
@@ -18,6 +7,17 @@ use joins::join_files;
 use texts::Number;
 use texts::first_of;
 use texts::parse;
+use wrongs::NO_OFFSET;
+use wrongs::NO_OUT;
+use wrongs::NO_TYPE;
+use wrongs::NO_TYPE_NAME;
+use wrongs::TOO_FEW;
+use wrongs::TOO_MANY;
+use wrongs::TWO_DASHES;
+use wrongs::UNKNOWN;
+use wrongs::help;
+use wrongs::no_words;
+use wrongs::wrong_at;
 
 enum Verb {
     Check,

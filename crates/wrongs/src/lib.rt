@@ -10,21 +10,21 @@ use texts::first_of;
 use texts::line;
 
 // Which line of the reasons.
-pub(crate) const UNKNOWN: u32 = 0;
+pub const UNKNOWN: u32 = 0;
 
-pub(crate) const TOO_FEW: u32 = 1;
+pub const TOO_FEW: u32 = 1;
 
-pub(crate) const TOO_MANY: u32 = 2;
+pub const TOO_MANY: u32 = 2;
 
-pub(crate) const NO_TYPE: u32 = 3;
+pub const NO_TYPE: u32 = 3;
 
-pub(crate) const NO_OFFSET: u32 = 4;
+pub const NO_OFFSET: u32 = 4;
 
-pub(crate) const NO_OUT: u32 = 5;
+pub const NO_OUT: u32 = 5;
 
-pub(crate) const TWO_DASHES: u32 = 6;
+pub const TWO_DASHES: u32 = 6;
 
-pub(crate) const NO_TYPE_NAME: u32 = 7;
+pub const NO_TYPE_NAME: u32 = 7;
 
 fn usage(fd: i32) -> bool {
     io::write_all(
@@ -41,7 +41,7 @@ Status: 0 accepted or done, 1 refused, 2 a wrong call, or a file that cannot be 
     )
 }
 
-pub(crate) fn help() -> Status {
+pub fn help() -> Status {
     if usage(STDOUT_FILENO) {
         return Status::Done;
     }
@@ -69,7 +69,7 @@ fn put_wrong(word: &[u8], why: u32) {
 }
 
 // The argument of this number is wrong.
-pub(crate) fn wrong_at(i: usize, why: u32) -> Status {
+pub fn wrong_at(i: usize, why: u32) -> Status {
     let mut s = [0u8; 4096];
     let n = os::arg(i, &mut s);
     put_wrong(first_of(&s, n), why);
@@ -78,7 +78,7 @@ pub(crate) fn wrong_at(i: usize, why: u32) -> Status {
 }
 
 // The call has no words.
-pub(crate) fn no_words() -> Status {
+pub fn no_words() -> Status {
     io::write_all(STDERR_FILENO, b"scrieve: there is no verb\n");
     usage(STDERR_FILENO);
     Status::Failed
