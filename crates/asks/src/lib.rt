@@ -15,7 +15,6 @@ use lines::put_file;
 use lines::put_name;
 use lines::put_whole;
 use lines::put_with;
-use listing::put_size;
 use listing::show_all;
 use listing::show_before;
 use listing::show_named;
@@ -26,6 +25,7 @@ use paper::NameOff;
 use paper::TypeNo;
 use reports::put_report;
 use texts::first_of;
+use titles::put_size;
 use titles::put_type;
 
 // Everything, one type, those of a name, a type's size, or the name at an offset.

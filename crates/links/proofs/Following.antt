@@ -87,7 +87,8 @@ module _ {T : Table} {work : List ℕ} {n size root t j : ℕ} (s : Following T 
       let type = next-type (s .ready) t next in
       let here = following-type in
       let small = next-small (s .ready) t next in
-      let less = weights-entered work v (markOf t k) n (type .0) (type .1) (inside v (type .1)) new (omega arith) (mark-fits {p = t} (omega (arith, few)) small) in
+      let fits = mark-fits {p = t} (omega (arith, few)) small in
+      let less = weights-entered work v (markOf t k) n (type .0) (type .1) (inside v (type .1)) new (omega arith) fits in
       rw (first, marked) (
         omega arith,
         record {

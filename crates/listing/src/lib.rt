@@ -4,7 +4,6 @@ mod show; // the lines of a type
 mod tables; // which types, and how much
 
 pub use faults::show_before;
-pub use show::put_size;
 pub use tables::Named;
 pub use tables::show_all;
 pub use tables::show_named;

@@ -15,7 +15,6 @@ use lines::put;
 use lines::put_start;
 use lines::put_with;
 use paper::Place;
-use paper::Sized;
 use paper::TypeNo;
 use rows::entry_words;
 use rows::flag_of;
@@ -28,18 +27,8 @@ use texts::line;
 use titles::put_based;
 use titles::put_many;
 use titles::put_numbers;
+use titles::put_size;
 use titles::put_type;
-
-// A type's size. Of an accepted table it is always known.
-pub fn put_size(buf: &mut [u8; ROOM], o: Out, s: Sized) -> Out {
-    match s {
-        Sized::Exact(n) => { put_with(buf, o, b"size ", n as u64) }
-        Sized::NoSize => put(buf, o, b"no size"),
-        Sized::Overflow => put(buf, o, b"over 4294967295"),
-        Sized::Lost => put(buf, o, b"size not known"),
-        Sized::TooFar => put(buf, o, b"size not known"),
-    }
-}
 
 // An ARRAY: count, element and index.
 fn put_array(buf: &mut [u8; ROOM], o: Out, blob: &[u8], index: &[u32], r: &[u8]) -> Out {

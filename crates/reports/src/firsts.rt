@@ -41,8 +41,8 @@ fn is_broken(
     let view = View { n };
     let r = record_of(none, b, index, view, TypeNo(t));
     match number {
-        11 => !rules::names_ok(r, strings_of(none, b, index, view)),
-        12 => !rules::tail_ok(r),
+        11 => !naming::names_ok(r, strings_of(none, b, index, view)),
+        12 => !tails::tail_ok(r),
         13 => !refs::refs_ok(none, b, index, view, r),
         14 => is_endless(links(none, b, index, view, work), t),
         _ => !layout::layout_ok(none, b, index, view, TypeNo(t)),

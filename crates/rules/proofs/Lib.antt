@@ -1,5 +1,1 @@
-pub mod HeadSteps
-pub mod NameRoles
-pub mod Parameters
-pub mod TailKinds
 pub mod Dues

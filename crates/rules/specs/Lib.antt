@@ -1,2 +1,1 @@
 pub mod Phase
-pub mod Parts

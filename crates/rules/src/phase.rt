@@ -1,7 +1,7 @@
 // Phase 3 of one record: the smallest of reports 10, 11 and 12 that is due.
-use crate::heads::head_ok;
-use crate::names::names_ok;
-use crate::tails::tail_ok;
+use heads::head_ok;
+use naming::names_ok;
+use tails::tail_ok;
 ghost use mathlib.Core.Path.{_≡_};
 ghost use Rattle.paper.specs.rules.Choice.{firstDue};
 ghost use Rattle.paper.specs.terms.Reading.{recordIn};

@@ -5,12 +5,12 @@ use lines::Out;
 use lines::ROOM;
 use lines::put;
 use lines::put_with;
-use listing::put_size;
 use paper::Place;
 use paper::TypeNo;
 use rows::info_of;
 use rows::kind_of;
 use titles::put_record;
+use titles::put_size;
 use views::View;
 use views::record_of;
 

@@ -1,0 +1,84 @@
+-- Laws of one word by the code of its role: a name that its rule allows, or no name.
+-- Assumes nothing.
+use Prim.Native.Nat.{ℕ, zero, suc, _<_, _≤_}
+use mathlib.Core.Path.{_≡_, refl, sym, ap, _∙_}
+use mathlib.Core.Bool.{Bool, true, false, not, _&&_}
+use mathlib.Core.Logic.{⊎-elim}
+use mathlib.Core.List.{List, [], _∷_}
+use native.Mathlib.Omega.{arith}
+use borrow.Author.Tests.{lt-ltb, le-ltb, not-true, not-false}
+use lib.ListN.{length}
+use Rattle.paper.specs.rules.Kind.{Role, names, refers, holds, number, voidOrPlain, plain, anInt, aProto, aVar, taggable}
+use Rattle.paper.specs.rules.Name.{nameIn}
+use Rattle.paper.specs.rules.Names.{nameFits, nameOk, nameWordOk}
+use Rattle.paper.proofs.basics.Choices.{every-getD}
+use Rattle.rows.proofs.RoleCodes.{between-in, between-out}
+use Rattle.kindrows.specs.Codes.{roleOf, isNameCode}
+use Rattle.naming.specs.RuleOf.{nameRuleOf}
+
+-- a code of 1 to 6 is that of a name
+role-names : (role : ℕ) → (role ≡ 0 → ⊥) → role ≤ 6 → roleOf role ≡ names (nameRuleOf role)
+role-names zero n h = absurd (n refl)
+role-names (suc zero) n h = refl
+role-names (suc (suc zero)) n h = refl
+role-names (suc (suc (suc zero))) n h = refl
+role-names (suc (suc (suc (suc zero)))) n h = refl
+role-names (suc (suc (suc (suc (suc zero))))) n h = refl
+role-names (suc (suc (suc (suc (suc (suc zero)))))) n h = refl
+role-names (suc (suc (suc (suc (suc (suc (suc role))))))) n h = absurd (omega arith)
+
+-- a code behind the last rule but one stands for the last
+pub nameRuleOf-other : (n : ℕ) → (n ≡ 1 → ⊥) → (n ≡ 2 → ⊥) → (n ≡ 3 → ⊥) → (n ≡ 4 → ⊥) → (n ≡ 5 → ⊥) → nameRuleOf 6 ≡ nameRuleOf n
+nameRuleOf-other zero a b c d e = refl
+nameRuleOf-other (suc zero) a b c d e = absurd (a refl)
+nameRuleOf-other (suc (suc zero)) a b c d e = absurd (b refl)
+nameRuleOf-other (suc (suc (suc zero))) a b c d e = absurd (c refl)
+nameRuleOf-other (suc (suc (suc (suc zero)))) a b c d e = absurd (d refl)
+nameRuleOf-other (suc (suc (suc (suc (suc zero))))) a b c d e = absurd (e refl)
+nameRuleOf-other (suc (suc (suc (suc (suc (suc n)))))) a b c d e = refl
+
+module _ (strings : List ℕ) where
+  -- a word of a reference passes, and one past all codes
+  word-behind : (role w : ℕ) → 6 < role → true ≡ nameWordOk strings (roleOf role) w
+  word-behind zero w h = absurd (omega arith)
+  word-behind (suc zero) w h = absurd (omega arith)
+  word-behind (suc (suc zero)) w h = absurd (omega arith)
+  word-behind (suc (suc (suc zero))) w h = absurd (omega arith)
+  word-behind (suc (suc (suc (suc zero)))) w h = absurd (omega arith)
+  word-behind (suc (suc (suc (suc (suc zero))))) w h = absurd (omega arith)
+  word-behind (suc (suc (suc (suc (suc (suc zero)))))) w h = absurd (omega arith)
+  word-behind (suc (suc (suc (suc (suc (suc (suc n))))))) w h =
+      sym
+      (every-getD (λ (ρ : Role). nameWordOk strings ρ w)
+      (refers voidOrPlain ∷ refers plain ∷ refers anInt ∷ refers aProto ∷ refers aVar ∷ refers taggable
+      ∷ holds voidOrPlain ∷ holds plain ∷ holds anInt ∷ holds aProto ∷ holds aVar ∷ holds taggable ∷ [])
+      number refl refl n)
+
+  word-number : (role w : ℕ) → role < 1 → true ≡ nameWordOk strings (roleOf role) w
+  word-number zero w h = refl
+  word-number (suc n) w h = absurd (omega arith)
+
+  -- any other word passes
+  pub word-other : (role w : ℕ) {z : Bool} → z ≡ isNameCode role → not z ≡ true → true ≡ nameWordOk strings (roleOf role) w
+  word-other role w {z} asked e = ⊎-elim (λ h. word-number role w h) (λ h. word-behind role w h) (between-out 1 6 role (sym asked ∙ not-true z e))
+
+  module _ (role w : ℕ) {z : Bool} (asked : z ≡ isNameCode role) (e : not z ≡ false) where
+    at : (1 ≤ role) × (role ≤ 6)
+    at = between-in 1 6 role (sym asked ∙ not-false z e)
+
+    named : roleOf role ≡ names (nameRuleOf role)
+    named = role-names role (λ n. omega (arith, at)) (at .1)
+
+    -- "Each offset is below the string length"
+    pub word-outside : length strings ≤ w → false ≡ nameWordOk strings (roleOf role) w
+    unfolding nameOk
+    word-outside h =
+        sym (ap (λ (t : Bool). t && nameFits (nameRuleOf role) w (nameIn strings w)) (le-ltb w (length strings) h))
+        ∙ sym (ap (λ (ρ : Role). nameWordOk strings ρ w) named)
+
+    pub word-inside : w < length strings → {r : Bool} → r ≡ nameFits (nameRuleOf role) w (nameIn strings w) → r ≡ nameWordOk strings (roleOf role) w
+    unfolding nameOk
+    word-inside h e =
+        e
+        ∙ sym (ap (λ (t : Bool). t && nameFits (nameRuleOf role) w (nameIn strings w)) (lt-ltb w (length strings) h))
+        ∙ sym (ap (λ (ρ : Role). nameWordOk strings ρ w) named)

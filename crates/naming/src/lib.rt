@@ -1,0 +1,145 @@
+// Report 11: "a name breaks the list". A record's words are gone over three at a time, each by its role.
+use idents::Spelt;
+use idents::identifier;
+use idents::section_name;
+use paper::NameOff;
+use paper::Place;
+use rows::entry_role;
+use rows::entry_words;
+use rows::is_name;
+use rows::kind_of;
+use rows::name_role;
+use rows::once_role;
+use rows::once_words;
+use rows::only_numbers;
+use rows::third_role;
+use rows::vlen_of;
+ghost use mathlib.Core.Path.{_≡_};
+ghost use mathlib.Core.List.{[], _∷_};
+ghost use Prim.Native.Nat.{_<_, _≤_};
+ghost use lib.ListN.{length};
+ghost use Rattle.paper.specs.rules.Choice.{times};
+ghost use Rattle.paper.specs.rules.Kind.{rowOf};
+ghost use Rattle.paper.specs.rules.Name.{isIdentifier, nameIn};
+ghost use Rattle.paper.specs.rules.Names.{nameFits, nameWordOk, namesOk};
+ghost use Rattle.paper.specs.terms.Reading.{recordIn, roled, tailRoled};
+ghost use Rattle.paper.specs.rules.Word.{lowFirst, wordAt};
+ghost use Rattle.kindrows.specs.Codes.{roleOf};
+ghost use Rattle.naming.specs.RuleOf.{nameRuleOf};
+
+// The name at an offset is an identifier, however long.
+fn is_identifier(strings: &[u8], at: NameOff) -> bool
+    ensures { λ r. ⌜ r ≡ isIdentifier (nameIn (now (strings .entry)) (at .0)) ⌝ }
+{
+    match identifier(strings, at) {
+        Spelt::Bytes(_) => true,
+        Spelt::Not => false,
+    }
+}
+
+// What a name's rule asks of an offset and the name that stands there.
+fn fits(strings: &[u8], rule: u32, at: NameOff) -> bool
+    requires { ⌜ at .0 < length (now strings) ⌝ }
+    ensures { λ r. ⌜ r ≡ nameFits (nameRuleOf rule) (at .0) (nameIn (now (strings .entry)) (at .0)) ⌝ }
+{
+    let from = at.0 as usize;
+    match rule {
+        1 => from == 0,
+        2 => true,
+        3 => from == 0 || is_identifier(strings, at),
+        4 => is_identifier(strings, at),
+        5 => strings[from] != 0,
+        _ => section_name(strings, at),
+    }
+}
+
+// The word at a place is of a role that is no name, or a name that its rule allows.
+fn word_ok(bytes: &[u8], strings: &[u8], at: Place, role: u32) -> bool
+    ensures { λ r. ⌜ r ≡ nameWordOk (now (strings .entry)) (roleOf role) (wordAt lowFirst (now (bytes .entry)) (at .0)) ⌝ }
+{
+    if !is_name(role) {
+        return true;
+    }
+    let off = words::read(bytes, at);
+    if strings.len() <= off as usize {
+        return false;
+    }
+    fits(strings, role, NameOff(off))
+}
+
+// Three words from a place on.
+fn three_ok(bytes: &[u8], strings: &[u8], at: Place, r0: u32, r1: u32, r2: u32) -> bool
+    requires { ⌜ at .0 < 1000000 ⌝ }
+    ensures { λ r. ⌜ r ≡ roled lowFirst (nameWordOk (now (strings .entry))) (now (bytes .entry)) (at .0) (roleOf r0 ∷ roleOf r1 ∷ roleOf r2 ∷ []) ⌝ }
+{
+    let p = at.0;
+    if !word_ok(bytes, strings, at, r0) {
+        return false;
+    }
+    if !word_ok(bytes, strings, Place(p + 4), r1) {
+        return false;
+    }
+    word_ok(bytes, strings, Place(p + 8), r2)
+}
+
+// So many entries from a place on. The words that an entry does not have are plain numbers to `three_ok`.
+fn entries_ok(bytes: &[u8], strings: &[u8], at: Place, kind: u32, n: u32) -> bool
+    requires { ⌜ (at .0 ≤ 24) × (n < 65536) ⌝ }
+    ensures { λ r. ⌜ r ≡ roled lowFirst (nameWordOk (now (strings .entry))) (now (bytes .entry)) (at .0) (times n (rowOf kind .each)) ⌝ }
+{
+    let step = 4 * entry_words(kind);
+    let r0 = entry_role(kind, 0);
+    let r1 = entry_role(kind, 1);
+    let r2 = entry_role(kind, 2);
+    let mut p = at.0;
+    let mut left = n;
+    while 0 < left {
+        if !three_ok(bytes, strings, Place(p), r0, r1, r2) {
+            return false;
+        }
+        p += step;
+        left -= 1;
+    }
+    true
+}
+
+// The names of a tail, behind the head. Most kinds have none there, which one look at the row tells.
+fn tail_names_ok(bytes: &[u8], strings: &[u8], info: u32) -> bool
+    ensures { λ r. ⌜ r ≡ tailRoled lowFirst (nameWordOk (now (strings .entry))) (now (bytes .entry)) info ⌝ }
+{
+    let kind = kind_of(info);
+    if only_numbers(kind) {
+        return true;
+    }
+    if !three_ok(
+        bytes,
+        strings,
+        Place(12),
+        once_role(kind, 0),
+        once_role(kind, 1),
+        once_role(kind, 2),
+    ) {
+        return false;
+    }
+    let from = 12 + 4 * once_words(kind);
+    entries_ok(bytes, strings, Place(from), kind, vlen_of(info))
+}
+
+// Every name of the record keeps to the list.
+pub fn names_ok(bytes: &[u8], strings: &[u8]) -> bool
+    ensures { λ r. ⌜ r ≡ namesOk (now (strings .entry)) (recordIn lowFirst (now (bytes .entry))) ⌝ }
+{
+    let info = words::read(bytes, Place(4));
+    let kind = kind_of(info);
+    if !three_ok(
+        bytes,
+        strings,
+        Place(0),
+        name_role(kind),
+        0,
+        third_role(kind),
+    ) {
+        return false;
+    }
+    tail_names_ok(bytes, strings, info)
+}
