@@ -1,10 +1,10 @@
 -- The rows of the kinds as numbers: what each column of the code's table says.
 use Prim.Native.Nat.{ℕ, _+_, _-_, _*_, _%_}
-use mathlib.Core.Bool.{Bool, true, false, cond, _&&_}
+use mathlib.Core.Bool.{Bool, cond, _&&_}
 use mathlib.Core.List.{List, [], _∷_}
 use lib.Dec.{leb}
 use lib.ListN.{length, getD}
-use Rattle.paper.specs.rules.Choice.{every, same}
+use Rattle.paper.specs.rules.Choice.{same}
 use Rattle.paper.specs.rules.Kind.{NameRule, offset0, anyName, offset0OrIdentifier, identifier, nonEmpty, sectionName}
 use Rattle.paper.specs.rules.Kind.{RefRule, voidOrPlain, plain, anInt, aProto, aVar, taggable, Role, names, refers, holds, number}
 use Rattle.paper.specs.rules.Kind.{Values, free, oneOf, SizeRule, eight, sizeWord, countTimes, referent, noSize, Row}
@@ -130,13 +130,3 @@ tailCode r =
     ∷ length (r .each)
     ∷ roleAt (r .each) 0 ∷ roleAt (r .each) 1 ∷ roleAt (r .each) 2
     ∷ [])
-
-abbrev pub isNumber : Role → Bool
-isNumber number = true
-isNumber (names rule) = false
-isNumber (refers rule) = false
-isNumber (holds rule) = false
-
--- no word of a tail is a name or a reference
-abbrev pub onlyNumbers : Row → Bool
-onlyNumbers r = every isNumber (r .once) && every isNumber (r .each)

@@ -38,9 +38,9 @@ most-accepted order T g words strings few short =
       bytes-fit = strings;
       section-fits = omega arith;
       strings-fit = omega arith;
-      types-fit = few;
+      types-fit = omega arith;
     } in
-    good-accepted order T g fits short 16385 16385 (omega arith) (omega arith)
+    good-accepted order T g fits (omega arith) 16385 16385 (omega arith) (omega arith)
 
 either-true : (x : Bool) {y : Bool} → y ≡ true → x || y ≡ true
 either-true true e = refl
@@ -50,7 +50,7 @@ module _ (b : List ℕ) (places work : ℕ) where
   longest : 262144 < length b → phase1 b ≡ some (report 1 0)
   unfolding phase1 headerReport lengthBad
   longest h =
-      let bad : lengthBad b ≡ true = either-true (ltb (length b) headerLength) (lt-ltb byteLimit (length b) h) in
+      let bad : lengthBad b ≡ true = either-true (ltb (length b) headerLength) (lt-ltb byteLimit (length b) (omega arith)) in
       ap (λ (x : Bool). naming 0 (firstDue (1 when x
       ∷ 2 when openingBad b
       ∷ 3 when headerLengthBad b

@@ -14,7 +14,8 @@ use Rattle.paper.specs.rules.Table.{kindIn, vlenIn, everyWord}
 use Rattle.paper.specs.rules.Word.{Order, wordAt}
 use Rattle.paper.proofs.basics.Choices.{and-left, and-nothing, and-right}
 use Rattle.paper.proofs.bytes.Reading.{roled-append, everyWord-recordIn}
-use Rattle.kindrows.specs.Codes.{nameCode, roleCode, roleOf, roleAt, isNumber, onlyNumbers}
+use Rattle.kindrows.specs.Codes.{nameCode, roleCode, roleOf, roleAt}
+use Rattle.rows.specs.Numbers.{isNumber, onlyNumbers}
 use Rattle.rows.proofs.RoleCodes.{roleOf-nameCode, roleOf-roleCode}
 
 -- ── plain numbers ──

@@ -8,7 +8,8 @@ ghost use mathlib.Core.Path.{_≡_};
 ghost use lib.ListN.{length};
 ghost use Rattle.paper.specs.rules.Kind.{rowOf};
 ghost use Rattle.paper.specs.rules.Table.{tailLength};
-ghost use Rattle.kindrows.specs.Codes.{isHeldCode, isNameCode, isRefCode, nameCode, onlyNumbers, roleAt, roleCode, ruleCode, sizeCode};
+ghost use Rattle.rows.specs.Numbers.{onlyNumbers};
+ghost use Rattle.kindrows.specs.Codes.{isHeldCode, isNameCode, isRefCode, nameCode, roleAt, roleCode, ruleCode, sizeCode};
 
 // The role of a head's third word.
 pub fn third_role(kind: u32) -> u32

@@ -6,7 +6,8 @@ use mathlib.Core.Path.{refl, ap, _∙_}
 use native.Mathlib.Omega.{arith}
 use lib.Dec.{eqb}
 use Rattle.paper.specs.rules.Kind.{Row, rows}
-use Rattle.kindrows.specs.Codes.{tailCode, onlyNumbers}
+use Rattle.kindrows.specs.Codes.{tailCode}
+use Rattle.rows.specs.Numbers.{onlyNumbers}
 use Rattle.kindrows.proofs.Columns.{rowOf-agree}
 use borrow.Author.Needs.{needs}
 use Rattle.rows.proofs.roles.only_numbers.Statement.{statement}
