@@ -28,8 +28,8 @@ enum Move {
 // The mark of a type of which nothing is left. 0 is the mark of one not seen, 1 that of a root on its way.
 const DONE: u32 = 4294967295;
 
-// Any other mark is 1 + WORDS * the type that led here + the number of the word behind the reference. A record has fewer words, and just
-// so many fewer that the mark of the last type fits 32 bits.
+// Any other mark is 1 + WORDS * the type that led here + the number of the word behind the reference. No record has so many words, and a
+// factor of 2^18 would be too large: the mark of type 16,384 would pass 32 bits.
 const WORDS: u32 = 196612;
 
 // One step, from word j of type t on.
