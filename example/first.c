@@ -67,11 +67,13 @@ static int join(const struct table *a, const struct table *b, struct table *out)
 	return answer[SCRIEVE_NUMBER] == 0;
 }
 
-/* a word of a type's record: 0 its name, 1 its info */
+/* a word of a type's record: 0 its name, 1 its info. An accepted table begins 9F EB, with the low byte of its words first, or EB 9F */
 static uint32_t word(const struct table *t, uint32_t type, uint32_t at)
 {
 	const uint8_t *b = t->blob + t->index[type] + 4 * at;
 
+	if (t->blob[0] == 0xEB)
+		return (uint32_t)b[0] << 24 | (uint32_t)b[1] << 16 | (uint32_t)b[2] << 8 | (uint32_t)b[3];
 	return (uint32_t)b[0] | (uint32_t)b[1] << 8 | (uint32_t)b[2] << 16 | (uint32_t)b[3] << 24;
 }
 

@@ -17,6 +17,8 @@
  * - The stack is no part of the proof. No function calls itself; the frames of the deepest call add up to under 1,024 bytes in the
  *   archive's code for x86-64.
  * - `type` and `offset` are a type number and an offset into the string section. Type 0 is void; records are numbered from 1.
+ * - A blob is little-endian or big-endian, whatever the processor is: one that begins EB 9F has its words high byte first, any other low
+ *   byte first. What stands in index, work and answer are the processor's own numbers.
  *
  * The answer
  * Four numbers go into the first places of `answer`: number, inner, t, p. With fewer than four places only the first of them are
@@ -28,7 +30,7 @@
  *   scrieve_size   0 exact, 1 no size, 2 over 32 bits,   0                   0                             the exact size, else 0
  *                  21, 22
  *   scrieve_name   0 a name, 1 none                      0                   where it begins in the blob   its length in bytes
- *   scrieve_join   0 joined, or 16 to 20                 for 16 and 17 the   the type of the report        the joined length, or the place
+ *   scrieve_join   0 joined, or 16 to 20, or 24          for 16 and 17 the   the type of the report        the joined length, or the place
  *                                                        report inside       inside, else 0                of the report inside, else 0
  *
  * A report's place is where in the blob the record of its type begins, in bytes from the blob's first: for 8, where record 16,385 would
@@ -43,9 +45,9 @@
 #include <stddef.h>
 #include <stdint.h>
 
-/* Which interface this is. It rises where a number, an argument or what is left in a slice changes its meaning. In 2 the change requests
- * 1, 2, 5, 6, 9, 11 and 12 have landed (docs/orders). */
-#define SCRIEVE_VERSION 2
+/* Which interface this is. It rises where a number, an argument or what is left in a slice changes its meaning. In 3 the change requests
+ * 1, 2, 4, 5, 6, 9, 11 and 12 have landed (docs/orders). */
+#define SCRIEVE_VERSION 3
 
 /* Full size: with so many places in index and work, and so many bytes of output, no table is refused for want of room. */
 #define SCRIEVE_FULL_PLACES 16385
@@ -58,12 +60,12 @@
 #define SCRIEVE_T 2
 #define SCRIEVE_P 3
 
-/* The reports, and 0 where there is none: `number` of every function, and `inner` of a join. A check gives 1 to 15, a join 16 to 20, the size
- * question 21 and 22. */
+/* The reports, and 0 where there is none: `number` of every function, and `inner` of a join. A check gives 1 to 15, a join 16 to 20 and 24, the
+ * size question 21 and 22. There is no 23. */
 enum scrieve_report {
 	SCRIEVE_REPORT_NONE = 0,           /* accepted, joined, an exact size, a name */
 	SCRIEVE_REPORT_LENGTH = 1,         /* under 24 bytes or over 262,144 */
-	SCRIEVE_REPORT_MAGIC = 2,          /* the first four bytes are not 9F EB 01 00 */
+	SCRIEVE_REPORT_MAGIC = 2,          /* the first four bytes are neither 9F EB 01 00 nor EB 9F 01 00 */
 	SCRIEVE_REPORT_HEADER = 3,         /* the header length is not 24 */
 	SCRIEVE_REPORT_SECTIONS = 4,       /* the sections do not add up to the blob */
 	SCRIEVE_REPORT_STRINGS = 5,        /* strings empty, or not from zero byte to zero byte */
@@ -83,7 +85,8 @@ enum scrieve_report {
 	SCRIEVE_REPORT_JOINED_LENGTH = 19, /* the joined length is over 262,144 */
 	SCRIEVE_REPORT_OUTPUT = 20,        /* the output is shorter than the joined length */
 	SCRIEVE_REPORT_INDEX = 21,         /* the index leads outside what can be read */
-	SCRIEVE_REPORT_READS = 22          /* more records would be read than the index has places */
+	SCRIEVE_REPORT_READS = 22,         /* more records would be read than the index has places */
+	SCRIEVE_REPORT_ORDERS = 24         /* the tables have different byte orders; asked after 17 and before 18 */
 };
 
 /* What else `number` of the size question can be, and of the name question. */
@@ -120,7 +123,8 @@ void scrieve_size(const uint8_t *blob, size_t blob_length, const uint32_t *index
  *            not below the string length. A name of no bytes is a name (0), at the place where its zero byte stands. */
 void scrieve_name(const uint8_t *blob, size_t blob_length, uint32_t offset, uint32_t *answer, size_t answer_places);
 
-/* Joins two blobs: the first's types, then the second's with type numbers and name offsets raised.
+/* Joins two blobs of one byte order, which the joined one has too: the first's types, then the second's with type numbers and name offsets
+ * raised.
  *   a, b     the two tables' bytes, read only
  *   index    places, count of types + 1 of the larger table or more. All 0 afterwards, joined or refused.
  *   work     as index

@@ -11,7 +11,7 @@ static inline const char *scrieve_report_words(uint32_t number)
 	static const char *const words[] = {
 		"no report",
 		"the table has under 24 bytes or over 262144",
-		"the first four bytes are not 9F EB 01 00 (magic, version 1, flags 0)",
+		"the first four bytes are neither 9F EB 01 00 nor EB 9F 01 00 (magic, version 1, flags 0)",
 		"the header's length is not 24",
 		"the sections of types and strings do not fill the table one after the other",
 		"the strings are empty, or their first or last byte is not zero",
@@ -31,10 +31,13 @@ static inline const char *scrieve_report_words(uint32_t number)
 		"the joined table would have over 262144 bytes",
 		"the output is shorter than the joined table",
 		"the index leads outside what can be read",
-		"more records would be read than the index has places"
+		"more records would be read than the index has places",
+		"there is no such report",
+		"the tables have different byte orders: one is little-endian, the other big-endian"
 	};
 
-	return number < sizeof words / sizeof *words ? words[number] : "there is no such report";
+	/* 23 is no report: its line is that of every number that is none */
+	return words[number < sizeof words / sizeof *words ? number : 23];
 }
 
 #endif

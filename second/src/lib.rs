@@ -18,8 +18,8 @@ pub mod timing;
 pub mod vectors;
 
 pub use rules::{
-    chain, check, head, header, join, layout, limits, members, name_at, names, reference, report,
-    size, table, tail, walk,
+    chain, check, head, header, join, layout, limits, members, name_at, names, order, reference,
+    report, size, table, tail, walk,
 };
 
 pub use check::check;

@@ -8,11 +8,12 @@
 //!
 //! With `--edges` the first three put the fixed cases of every rule's edges in
 //! front; without a count, those are all, and with `--part NAME` one part of
-//! them. `--large` puts the fixed large tables
-//! before them, `--names` every byte at every place of a name. With `--thin`
-//! fewer of the edges and the large are crossed with each other.
-//! A seed's cases are mostly small, with some at the limits; with `--small` no
-//! limit is reached, with `--long` checks and joins are of long tables only.
+//! them, with `--part NAME-turned` the same in the other byte order. `--large`
+//! puts the fixed large tables before them, `--names` every byte at every place
+//! of a name. With `--thin` fewer of the edges and the large are crossed with
+//! each other. A seed's cases are of both orders and mostly small, with some at
+//! the limits; with `--small` no limit is reached, with `--long` checks and
+//! joins are of long tables only.
 
 use second::census::Census;
 use second::changed::changed;
@@ -30,7 +31,7 @@ second census  --seed S --cases N [--ops 1,2,3,4] [--small|--long]
 second check FILE
 second changed FILE
 (--edges: the fixed cases of every rule's edges in front, and nothing else without --cases;
---part NAME: one part of them; --each: each case in a list of its own;
+--part NAME: one part of them, NAME-turned: in the other byte order; --each: each case in a list of its own;
 --large: the fixed large tables before them; --thin: fewer of both crossed with each other;
 --names: every byte at every place of a name before the edges;
 --small: no limit is reached; --long: checks and joins of long tables only)";

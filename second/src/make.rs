@@ -1,6 +1,7 @@
 //! A builder of tables, word by word, for the tests and the generator. It
 //! keeps no rule of the paper by itself, so it can build refused tables too.
 
+use crate::order::Order;
 use crate::table::{Kind, HEADER_BYTES};
 
 /// A record before it is written.
@@ -184,10 +185,11 @@ impl Make {
     }
 }
 
-/// A blob of a type section and a string section behind a good header.
+/// A blob of a type section and a string section behind a good header. What is
+/// made is little-endian; `generate::turn` makes the other order of it.
 pub fn blob_of(words: &[u32], strings: &[u8]) -> Vec<u8> {
     let type_len = 4 * words.len() as u32;
-    let mut blob = vec![0x9F, 0xEB, 0x01, 0x00];
+    let mut blob = Order::Little.opening().to_vec();
     let header = [
         HEADER_BYTES as u32,
         0,
@@ -196,13 +198,19 @@ pub fn blob_of(words: &[u32], strings: &[u8]) -> Vec<u8> {
         strings.len() as u32,
     ];
     for word in header.iter().chain(words) {
-        blob.extend(word.to_le_bytes());
+        blob.extend(Order::Little.bytes(*word));
     }
     blob.extend(strings);
     blob
 }
 
-/// Overwrites the word at a byte place of a blob.
+/// The word at a byte place of a blob, in its own order.
+pub fn word_at(blob: &[u8], place: usize) -> u32 {
+    Order::of(blob).word(blob, place)
+}
+
+/// Overwrites that word.
 pub fn put_word(blob: &mut [u8], place: usize, word: u32) {
-    blob[place..place + 4].copy_from_slice(&word.to_le_bytes());
+    let four = Order::of(blob).bytes(word);
+    blob[place..place + 4].copy_from_slice(&four);
 }

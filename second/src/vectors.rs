@@ -121,7 +121,7 @@ fn run_join(case: &Case) -> Seen {
 pub fn places(bytes: &[u8]) -> Vec<u32> {
     bytes
         .chunks_exact(4)
-        .map(|four| crate::table::word(four, 0))
+        .map(|four| u32::from_le_bytes([four[0], four[1], four[2], four[3]]))
         .collect()
 }
 

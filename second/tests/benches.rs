@@ -190,7 +190,7 @@ fn slip_component_is_no_type_number() {
     // though type 1 exists.
     assert_eq!(gate(&m.blob()), Ok(3));
     let blob = joined(&m.blob(), &m.blob());
-    assert_eq!(second::table::word(&blob, blob.len() - 5 - 4), 0);
+    assert_eq!(second::make::word_at(&blob, blob.len() - 5 - 4), 0);
     m.at(3).tail[0] = 1;
     assert_eq!(gate(&m.blob()), refused(15, 3, 64));
 }

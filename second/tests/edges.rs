@@ -16,7 +16,7 @@ fn every_wrong_definition_has_cases_to_tell_it() {
     let all = in_parts(false);
     let there: HashSet<(&str, u32)> = all
         .iter()
-        .map(|(part, case)| (*part, run(case).number))
+        .map(|(part, case)| (part.as_str(), run(case).number))
         .collect();
     let mut lines = 0;
     for line in include_str!("../wrong.txt").lines() {

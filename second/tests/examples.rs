@@ -4,7 +4,8 @@ mod common;
 
 use common::{gate, joined};
 use second::limits::FULL_PLACES;
-use second::{size, SizeAnswer};
+use second::order::Order;
+use second::{name, size, SizeAnswer};
 
 const TABLES: [&str; 4] = [
     "blade.btf",
@@ -39,6 +40,7 @@ fn accepted() {
     assert_eq!(gate(&example("supplier_a.btf")), Ok(37));
     assert_eq!(gate(&example("supplier_b.btf")), Ok(33));
     assert_eq!(gate(&example("reading.btf")), Ok(8));
+    assert_eq!(gate(&example("old_controller.btf")), Ok(27));
 }
 
 /// What C says of them: a pointer, two structs named blade, the teeth; a
@@ -56,6 +58,33 @@ fn sized() {
         b,
         [Exact(2), Exact(64), Exact(8), NoSize, Exact(16), Exact(16)]
     );
+}
+
+/// The compiler's table for a big-endian target: a pointer, the struct, its
+/// enum, its union, an array, what is returned, a function, two variables.
+#[test]
+fn the_old_controller_is_big_endian() {
+    use SizeAnswer::{Exact, NoSize};
+    let old = example("old_controller.btf");
+    assert_eq!(Order::of(&old), Order::Big);
+    assert_eq!(
+        sizes(&old, &[1, 3, 10, 11, 16, 19, 20, 23, 25]),
+        [
+            Exact(8),
+            Exact(32),
+            Exact(4),
+            Exact(2),
+            Exact(8),
+            Exact(4),
+            NoSize,
+            Exact(32),
+            Exact(2)
+        ]
+    );
+    // The unsigned speed and the signed lean beside it.
+    assert_eq!(name(&old, 19), (&b"speed"[..], false));
+    assert_eq!(name(&old, 25), (&b"lean"[..], false));
+    assert_eq!(gate(&joined(&old, &old)), Ok(54));
 }
 
 #[test]
@@ -93,6 +122,8 @@ fn the_tool_agrees() {
     }
     let [x, y, z, _] = TABLES.map(example);
     text += &line("three.btf", &joined(&joined(&x, &y), &z));
+    let high = "old_controller.btf";
+    text += &line(high, &example(high));
     let said = file("tests/tables.stdout");
     assert_eq!(String::from_utf8(said).expect("text"), text);
 }

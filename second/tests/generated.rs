@@ -11,6 +11,7 @@ use second::generate::random::Random;
 use second::generate::{cases, damage_references, valid, Scale, Wanted};
 use second::table::{Kind, Record, Table, ALL_KINDS};
 use second::vectors::{file, run, sum, CHECK, JOIN};
+use std::collections::HashSet;
 
 fn wanted(seed: u64, cases: usize) -> Wanted {
     Wanted {
@@ -120,7 +121,7 @@ fn every_answer_occurs() {
     let mut asked: Vec<(u32, u32)> = (0..=15).map(|number| (1, number)).collect();
     asked.extend([0, 1, 2, 21, 22].map(|number| (2, number)));
     asked.extend([(3, 0), (3, 1), (4, 0)]);
-    asked.extend((16..=20).map(|number| (4, number)));
+    asked.extend([16, 17, 18, 19, 20, 24].map(|number| (4, number)));
     for pair in asked {
         let count = numbers.iter().filter(|seen| **seen == pair).count();
         assert!(count >= 10, "{pair:?}: {count}");
@@ -173,6 +174,7 @@ fn thinned_edges_are_edges_and_have_every_report_but_8() {
     edges.thin = true;
     let few = cases(&edges);
     assert!(few.len() < all.len());
+    let all: HashSet<_> = all.iter().collect();
     assert!(few.iter().all(|case| all.contains(case)));
     for number in (0..=15).filter(|number| *number != 8) {
         assert!(
@@ -184,6 +186,7 @@ fn thinned_edges_are_edges_and_have_every_report_but_8() {
 
 /// By hand: 53 bytes begin an identifier, 63 go on, and a zero byte behind the
 /// first leaves an identifier of the bytes before it, if those are at most 127.
+/// Each is there in both orders.
 #[test]
 fn every_byte_at_every_place_of_a_name() {
     let names = Wanted {
@@ -191,9 +194,9 @@ fn every_byte_at_every_place_of_a_name() {
         ..wanted(0, 0)
     };
     let all = cases(&names);
-    assert_eq!(all.len(), 256 * (1 + 2 + 3 + 126 + 127 + 128 + 129));
+    assert_eq!(all.len(), 2 * 256 * (1 + 2 + 3 + 126 + 127 + 128 + 129));
     let with = |number: u32| all.iter().filter(|case| run(case).number == number).count();
-    let accepted = 5 * 53 + 64 * (1 + 2 + 125 + 126) + 127 + 127;
+    let accepted = 2 * (5 * 53 + 64 * (1 + 2 + 125 + 126) + 127 + 127);
     assert_eq!((with(0), with(11)), (accepted, all.len() - accepted));
 }
 

@@ -6,6 +6,7 @@ use common::*;
 use second::generate::edges_joins::{grouped, refused as table_with, second_tables, SMALL_REPORTS};
 use second::generate::random::Random;
 use second::generate::{edges, edges_joins, large_joins, long};
+use second::order::Order;
 use second::vectors::{run, Case, JOIN};
 use second::Report;
 
@@ -20,13 +21,16 @@ fn report_of(blob: &[u8], places: u32, work: u32) -> Result<u32, Report> {
     second::check(blob, &mut index, &mut work)
 }
 
-/// The grounds that are due, each by itself, in the paper's order.
+/// The grounds that are due, each by itself, in the paper's order. A refused
+/// table has an order too, by its first two bytes.
 fn due(case: &Case) -> Vec<u32> {
     let [a, b] =
         [&case.a, &case.b].map(|blob| report_of(blob, case.index_places, case.work_places));
+    let orders_differ = Order::of(&case.a) != Order::of(&case.b);
     let mut found = Vec::new();
     match (a, b) {
         (Ok(first), Ok(second)) => {
+            found.extend(orders_differ.then_some(24));
             let bytes = case.a.len() + case.b.len() - 25;
             found.extend((first + second > 16_384).then_some(18));
             found.extend((bytes > 262_144).then_some(19));
@@ -35,6 +39,7 @@ fn due(case: &Case) -> Vec<u32> {
         (a, b) => {
             found.extend(a.is_err().then_some(16));
             found.extend(b.is_err().then_some(17));
+            found.extend(orders_differ.then_some(24));
         }
     }
     found
@@ -64,6 +69,14 @@ fn first_ground_speaks() {
         vec![18, 20],
         vec![19, 20],
         vec![18, 19, 20],
+        vec![24],
+        vec![16, 24],
+        vec![17, 24],
+        vec![16, 17, 24],
+        vec![24, 18],
+        vec![24, 19],
+        vec![24, 20],
+        vec![24, 18, 19, 20],
     ] {
         assert!(met.contains(&due), "{due:?}");
     }
@@ -99,9 +112,9 @@ fn every_report_inside_16_and_17() {
 fn thinned_limits() {
     let seen: Vec<_> = large_joins::cases(true).iter().map(run).collect();
     let numbers: Vec<u32> = seen.iter().map(|seen| seen.number).collect();
-    assert_eq!(numbers, [16, 17, 0, 18, 0, 20, 19]);
+    assert_eq!(numbers, [16, 17, 0, 18, 0, 20, 19, 0, 18, 19, 24]);
     assert_eq!([seen[0].inner, seen[1].inner], [8, 8]);
-    assert_eq!(seen[4].p, 262_144);
+    assert_eq!([seen[4].p, seen[7].p], [262_144; 2]);
 }
 
 /// 16,384 types and 262,144 bytes are joined, one more of either is refused.
@@ -112,6 +125,9 @@ fn limits_are_met_exactly() {
         assert!(case.a.len() <= 280_000 && case.b.len() <= 280_000);
         assert!(case.index_places <= 20_000 && case.output_bytes <= 280_000);
         let [a, b] = [&case.a, &case.b].map(|blob| report_of(blob, 20_000, 20_000));
+        if Order::of(&case.a) != Order::of(&case.b) {
+            continue;
+        }
         if let (Ok(first), Ok(second)) = (a, b) {
             let bytes = case.a.len() + case.b.len() - 25;
             let is_room = case.output_bytes as usize >= bytes;
@@ -166,7 +182,7 @@ fn long_joins() {
         met.push(run(&case).number);
     }
     assert!(met.iter().filter(|number| **number == 0).count() >= 30);
-    for number in 16..=20 {
+    for number in [16, 17, 18, 19, 20, 24] {
         assert!(met.contains(&number), "{number}");
     }
     for _ in 0..20 {

@@ -22,6 +22,8 @@ fn byte_limit() {
     assert_eq!(of_bytes(262_144).len(), 262_144);
     assert_eq!(gate(&of_bytes(262_144)), Ok(1));
     assert_eq!(gate(&of_bytes(262_145)), refused(1, 0, 0));
+    assert_eq!(at_both_limits().len(), 262_144);
+    assert_eq!(gate(&at_both_limits()), Ok(16_384));
     assert_eq!(full().len(), 262_144);
     assert_eq!(gate(&full()), Ok(16_382));
 }
@@ -124,11 +126,12 @@ fn cases_keep_the_limits_of_a_file() {
             .filter(|case| case.op == op && run(case).number == number)
             .count()
     };
-    assert_eq!(answers(CHECK, 0), 12);
-    assert_eq!(answers(CHECK, 1), 1);
-    assert_eq!(answers(CHECK, 8), 1);
-    assert_eq!(answers(CHECK, 14), 5);
-    assert_eq!(answers(CHECK, 15), 4);
+    // each in both orders
+    assert_eq!(answers(CHECK, 0), 2 * 13);
+    assert_eq!(answers(CHECK, 1), 2);
+    assert_eq!(answers(CHECK, 8), 2);
+    assert_eq!(answers(CHECK, 14), 2 * 5);
+    assert_eq!(answers(CHECK, 15), 2 * 4);
     // no size: a prototype, its function and its tag
     assert_eq!(answers(SIZE, 1), 3);
 }

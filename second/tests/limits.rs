@@ -7,6 +7,7 @@ use second::generate::large::pointers;
 use second::generate::large_fixed::{self, of_bytes};
 use second::generate::large_joins;
 use second::limits::{BYTE_LIMIT, FULL_PLACES, TYPE_LIMIT};
+use second::order::Order;
 use second::report::meaning;
 use second::vectors::{run, CHECK, JOIN, MOST_BYTES, MOST_PLACES};
 
@@ -41,29 +42,41 @@ fn beyond_the_first_limits() {
 }
 
 /// What the file of vectors that is kept has at the limits and one past them:
-/// op, bytes of a, and of the answer its number, t and p.
+/// op, order and bytes of a, and of the answer its number, t and p.
 #[test]
 fn limits_among_the_thinned() {
     let thin = large_fixed::cases(true).into_iter();
-    let seen: Vec<[u32; 5]> = thin
+    let seen: Vec<(Order, [u32; 5])> = thin
         .chain(large_joins::cases(true))
         .map(|case| {
             let seen = run(&case);
             let bytes = case.a.len() as u32;
-            [case.op, bytes, seen.number, seen.t, seen.p]
+            let numbers = [case.op, bytes, seen.number, seen.t, seen.p];
+            (Order::of(&case.a), numbers)
         })
         .collect();
+    use Order::{Big, Little};
     for wanted in [
-        [CHECK, 196_633, 0, 16_384, 0],
-        [CHECK, 196_645, 8, 16_385, 196_632],
-        [CHECK, 262_144, 0, 1, 0],
-        [CHECK, 262_145, 1, 0, 0],
+        (Little, [CHECK, 196_633, 0, 16_384, 0]),
+        (Little, [CHECK, 196_645, 8, 16_385, 196_632]),
+        (Little, [CHECK, 262_144, 0, 1, 0]),
+        (Little, [CHECK, 262_145, 1, 0, 0]),
         // one type and 16,383, then 16,384 and one
-        [JOIN, 37, 0, 0, 196_633],
-        [JOIN, 196_633, 18, 0, 0],
+        (Little, [JOIN, 37, 0, 0, 196_633]),
+        (Little, [JOIN, 196_633, 18, 0, 0]),
         // with 142,169 bytes, then with one more
-        [JOIN, 120_000, 0, 0, 262_144],
-        [JOIN, 120_000, 19, 0, 0],
+        (Little, [JOIN, 120_000, 0, 0, 262_144]),
+        (Little, [JOIN, 120_000, 19, 0, 0]),
+        // the same, with both limits in one table
+        (Big, [CHECK, 262_144, 0, 16_384, 0]),
+        (Big, [CHECK, 262_145, 1, 0, 0]),
+        (Big, [JOIN, 196_645, 16, 16_385, 196_632]),
+        (Big, [JOIN, 120_000, 0, 0, 262_144]),
+        (Big, [JOIN, 196_633, 18, 0, 0]),
+        (Big, [JOIN, 120_000, 19, 0, 0]),
+        // the second table is of the other order
+        (Little, [JOIN, 25, 17, 16_385, 196_632]),
+        (Little, [JOIN, 120_000, 24, 0, 0]),
     ] {
         assert!(seen.contains(&wanted), "{wanted:?}");
     }

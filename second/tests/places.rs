@@ -6,8 +6,8 @@ use common::*;
 use second::generate::edges_joins::{call, refused as table_with};
 use second::generate::large::pointers;
 use second::generate::{cases, Scale, Wanted};
-use second::make::{blob_of, Make};
-use second::table::{word, Kind};
+use second::make::{blob_of, word_at, Make};
+use second::table::Kind;
 use second::vectors::{run, CHECK, JOIN};
 use second::{check, join, JoinRefusal, Report};
 
@@ -180,7 +180,7 @@ fn the_place_is_p_in_a_vector() {
 fn place_of(blob: &[u8], type_number: u32) -> u32 {
     let mut place = 24;
     for _ in 1..type_number {
-        let info = word(blob, place as usize + 4);
+        let info = word_at(blob, place as usize + 4);
         let vlen = info & 0xFFFF;
         place += match (info >> 24) & 31 {
             1 | 14 | 17 => 16,
@@ -221,7 +221,7 @@ fn generated_places_are_those_of_the_named_types() {
             continue;
         }
         assert_eq!(seen.p, place_of(blob, seen.t));
-        assert!(seen.p % 4 == 0 && seen.p < 24 + word(blob, 12));
+        assert!(seen.p % 4 == 0 && seen.p < 24 + word_at(blob, 12));
         behind_others[report as usize] += u32::from(seen.p > 24);
     }
     for report in [6, 7, 10, 11, 12, 13, 14, 15] {

@@ -71,7 +71,7 @@ fn a_join_raises_an_offset_to_an_empty_string() {
     let empty = m.string("");
     m.bare(Kind::Float, empty, 4, &[]);
     let blob = joined(&m.blob(), &m.blob());
-    assert_eq!(second::table::word(&blob, 36), 2);
+    assert_eq!(second::make::word_at(&blob, 36), 2);
     assert_eq!(blob[48..], [0, 0, 0]);
 }
 

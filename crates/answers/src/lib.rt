@@ -123,6 +123,7 @@ pub fn of_joined(j: Joined) -> Numbers
         Joined::Whole(n) => valued(n),
         Joined::FirstRefused(r) => within(16, of_report(r)),
         Joined::SecondRefused(r) => within(17, of_report(r)),
+        Joined::OrdersDiffer => told(24, 0),
         Joined::TooMany => told(18, 0),
         Joined::TooLong => told(19, 0),
         Joined::OutputShort => told(20, 0),

@@ -22,9 +22,11 @@ use listing::show_one;
 use paper::Checked;
 use paper::FULL_PLACES;
 use paper::NameOff;
+use paper::Order;
 use paper::TypeNo;
 use reports::put_report;
 use texts::first_of;
+use titles::put_many;
 use titles::put_size;
 use titles::put_type;
 
@@ -96,13 +98,26 @@ fn named(file: &[u8], blob: &[u8], index: &[u32], n: u32, name: &[u8]) -> Status
     end(&mut buf, o, Status::Done)
 }
 
-fn put_accepted(buf: &mut [u8; ROOM], o: Out, file: &[u8], n: u32) -> Out {
-    let o = put_file(buf, o, file);
-    let o = put_with(buf, o, b": accepted, ", n as u64);
-    if n == 1 {
-        return put(buf, o, b" type\n");
+// The byte order of a table's words.
+fn put_order(buf: &mut [u8; ROOM], o: Out, blob: &[u8]) -> Out {
+    match words::order_of(blob) {
+        Order::LowFirst => put(buf, o, b"little-endian\n"),
+        Order::HighFirst => put(buf, o, b"big-endian\n"),
     }
-    put(buf, o, b" types\n")
+}
+
+fn put_accepted(buf: &mut [u8; ROOM], o: Out, file: &[u8], blob: &[u8], n: u32) -> Out {
+    let o = put_file(buf, o, file);
+    let o = put(buf, o, b": accepted, ");
+    let o = put_many(buf, o, n as u64, b" type, ", b" types, ");
+    put_order(buf, o, blob)
+}
+
+// Every type, below a line that tells the byte order.
+fn put_table(buf: &mut [u8; ROOM], o: Out, blob: &[u8], index: &[u32], n: u32) -> Out {
+    let o = put(buf, o, b"byte order: ");
+    let o = put_order(buf, o, blob);
+    show_all(buf, o, blob, index, n)
 }
 
 fn put_sized(buf: &mut [u8; ROOM], o: Out, blob: &[u8], index: &[u32], t: u32) -> Out {
@@ -127,8 +142,8 @@ fn put_answer(
     n: u32,
 ) -> Out {
     match ask {
-        Ask::Check => put_accepted(buf, o, file, n),
-        Ask::All => show_all(buf, o, blob, index, n),
+        Ask::Check => put_accepted(buf, o, file, blob, n),
+        Ask::All => put_table(buf, o, blob, index, n),
         Ask::One(t) => show_one(buf, o, blob, index, t),
         Ask::Named => o,
         Ask::Size(t) => put_sized(buf, o, blob, index, t),

@@ -4,9 +4,10 @@ use mathlib.Core.Bool.{cond}
 use mathlib.Core.List.{List}
 use lib.Dec.{ltb}
 use lib.ListN.{length, getD, drop}
+use Rattle.paper.specs.rules.Header.{orderOf}
 use Rattle.paper.specs.rules.Span.{isAlias}
 use Rattle.paper.specs.rules.Table.{kindIn}
-use Rattle.paper.specs.rules.Word.{lowFirst, wordAt}
+use Rattle.paper.specs.rules.Word.{wordAt}
 
 -- a type that has no place in the index begins where the blob ends
 unfoldable pub placeIn : List ℕ → List ℕ → ℕ → ℕ
@@ -14,7 +15,7 @@ placeIn blob index t = cond (ltb t (length index)) (getD index t 0) (length blob
 
 -- a word of a type's record
 unfoldable pub wordIn : List ℕ → List ℕ → ℕ → ℕ → ℕ
-wordIn blob index t p = wordAt lowFirst (drop (placeIn blob index t) blob) p
+wordIn blob index t p = wordAt (orderOf blob) (drop (placeIn blob index t) blob) p
 
 -- "Follow TYPEDEF, qualifiers and TYPE_TAG to a base", so many steps at most
 unfoldable pub baseIn : List ℕ → List ℕ → ℕ → ℕ → ℕ

@@ -1,4 +1,5 @@
 // Where a record and its entries stand, by the index that a check has left, and the number of a type's base.
+use paper::Order;
 use paper::Place;
 use rows::info_of;
 use rows::is_alias;
@@ -8,7 +9,7 @@ use words::rest_from;
 ghost use mathlib.Core.Path.{_≡_};
 ghost use Prim.Native.Nat.{_+_, _*_};
 ghost use lib.ListN.{length};
-ghost use Rattle.paper.specs.rules.Word.{lowFirst, wordAt};
+ghost use Rattle.paper.specs.rules.Word.{wordAt};
 ghost use Rattle.words.specs.Rest.{RestOf};
 ghost use Rattle.bases.specs.Based.{baseIn, placeIn};
 
@@ -31,10 +32,10 @@ pub fn record_of<'a>(blob: &'a [u8], index: &[u32], t: u32) -> &'a [u8]
 }
 
 // The tail's first word: what an INT, a VAR and a DECL_TAG have, and an ARRAY's element.
-pub fn fourth_of(r: &[u8]) -> u32
-    ensures { λ w. ⌜ w ≡ wordAt lowFirst (now (r .entry)) 12 ⌝ }
+pub fn fourth_of(order: Order, r: &[u8]) -> u32
+    ensures { λ w. ⌜ w ≡ wordAt order (now (r .entry)) 12 ⌝ }
 {
-    words::read(r, Place(12))
+    words::read(order, r, Place(12))
 }
 
 // The bytes from an entry of three words on.
@@ -58,11 +59,12 @@ pub fn base_of(blob: &[u8], index: &[u32], t: u32) -> u32
     let mut at = t;
     let mut left = index.len();
     while 0 < left {
+        let order = words::order_of(blob);
         let r = record_of(blob, index, at);
-        if !is_alias(kind_of(info_of(r))) {
+        if !is_alias(kind_of(info_of(order, r))) {
             return at;
         }
-        at = third_of(r);
+        at = third_of(order, r);
         left -= 1;
     }
     at

@@ -52,9 +52,10 @@ fn whole_bits(s: Sized) -> u64 {
 
 // "With kind_flag 0 an INT base member spans its width from bit offset + INT offset; other bases span 8 times size".
 fn plain_span(blob: &[u8], index: &[u32], t: u32, offset: u32) -> Span {
+    let order = words::order_of(blob);
     let base = record_of(blob, index, base_of(blob, index, t));
-    if kind_of(info_of(base)) == INT {
-        let w = fourth_of(base);
+    if kind_of(info_of(order, base)) == INT {
+        let w = fourth_of(order, base);
         return Span {
             from: (offset as u64) + ((w / 65536 % 256) as u64),
             width: (w % 256) as u64,
@@ -99,14 +100,15 @@ fn plus(a: u64, b: u64) -> u64 {
 
 // The bits of a member of a record that begins at a bit of the record that is shown.
 fn bits_of(blob: &[u8], index: &[u32], r: &[u8], i: u32, start: u64) -> Span {
+    let order = words::order_of(blob);
     let e = long_entry(r, i);
-    let t = words::read(e, Place(4));
+    let t = words::read(order, e, Place(4));
     let own = span_of(
         blob,
         index,
-        flag_of(info_of(r)),
+        flag_of(info_of(order, r)),
         t,
-        words::read(e, Place(8)),
+        words::read(order, e, Place(8)),
     );
     Span {
         from: plus(start, own.from),
@@ -116,12 +118,13 @@ fn bits_of(blob: &[u8], index: &[u32], r: &[u8], i: u32, start: u64) -> Span {
 
 // The struct or union that a member without a name holds; 0 where there is none.
 fn held_by(blob: &[u8], index: &[u32], e: &[u8]) -> u32 {
-    let name = name_of(e);
+    let order = words::order_of(blob);
+    let name = name_of(order, e);
     if name.0 != 0 {
         return 0;
     }
-    let t = base_of(blob, index, words::read(e, Place(4)));
-    let kind = kind_of(info_of(record_of(blob, index, t)));
+    let t = base_of(blob, index, words::read(order, e, Place(4)));
+    let kind = kind_of(info_of(order, record_of(blob, index, t)));
     match kind {
         STRUCT | UNION => t,
         _ => 0,
@@ -152,7 +155,8 @@ fn put_line(
     let o = put_indent(buf, o, depth);
     let o = put_entry_name(buf, o, blob, e);
     let o = put(buf, o, b": ");
-    let o = put_based(buf, o, blob, index, words::read(e, Place(4)));
+    let t = words::read(words::order_of(blob), e, Place(4));
+    let o = put_based(buf, o, blob, index, t);
     let o = put(buf, o, b", ");
     let o = put_many(buf, o, bits.width, b" bit", b" bits");
     let o = put_with(buf, o, b" from bit ", bits.from);
@@ -203,7 +207,7 @@ fn put_below(
         let d = depth - 1;
         let r = record_of(blob, index, types[d]);
         let i = nexts[d];
-        if vlen_of(info_of(r)) <= i {
+        if vlen_of(info_of(words::order_of(blob), r)) <= i {
             depth = d;
         } else if left == 0 {
             o = put_more(buf, o, depth);

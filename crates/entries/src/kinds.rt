@@ -15,6 +15,7 @@ use lines::put;
 use lines::put_start;
 use lines::put_wide;
 use lines::put_with;
+use paper::Order;
 use paper::Place;
 use rows::flag_of;
 use rows::info_of;
@@ -57,15 +58,15 @@ fn put_value(buf: &mut [u8; ROOM], o: Out, blob: &[u8], flag: u32, e: &[u8], n: 
 }
 
 // The number of an ENUM64's value: the low word, then the high one.
-fn wide_value(e: &[u8]) -> u64 {
-    let low = words::read(e, Place(4));
-    let high = words::read(e, Place(8));
+fn wide_value(order: Order, e: &[u8]) -> u64 {
+    let low = words::read(order, e, Place(4));
+    let high = words::read(order, e, Place(8));
     (low as u64) + (high as u64) * 4294967296
 }
 
 // A parameter: name and type; the last may stand for any number of others.
 fn put_parameter(buf: &mut [u8; ROOM], o: Out, blob: &[u8], index: &[u32], e: &[u8]) -> Out {
-    let t = words::read(e, Place(4));
+    let t = words::read(words::order_of(blob), e, Place(4));
     let o = put_start(buf, o);
     if t == 0 {
         return put(buf, o, b"    ...\n");
@@ -78,26 +79,39 @@ fn put_parameter(buf: &mut [u8; ROOM], o: Out, blob: &[u8], index: &[u32], e: &[
 
 // A section's entry: variable, size and place.
 fn put_placed(buf: &mut [u8; ROOM], o: Out, blob: &[u8], index: &[u32], e: &[u8]) -> Out {
+    let order = words::order_of(blob);
     let o = put_start(buf, o);
     let o = put(buf, o, b"    ");
-    let o = put_type(buf, o, blob, index, words::read(e, Place(0)));
+    let o = put_type(buf, o, blob, index, words::read(order, e, Place(0)));
     let o = put(buf, o, b": ");
-    let o = put_many(buf, o, words::read(e, Place(8)) as u64, b" byte", b" bytes");
-    let o = put_with(buf, o, b" from byte ", words::read(e, Place(4)) as u64);
+    let o = put_many(
+        buf,
+        o,
+        words::read(order, e, Place(8)) as u64,
+        b" byte",
+        b" bytes",
+    );
+    let o = put_with(
+        buf,
+        o,
+        b" from byte ",
+        words::read(order, e, Place(4)) as u64,
+    );
     put(buf, o, b"\n")
 }
 
 // A value of an enum, of either width.
 fn put_number_of(buf: &mut [u8; ROOM], o: Out, blob: &[u8], r: &[u8], i: u32) -> Out {
-    let info = info_of(r);
+    let order = words::order_of(blob);
+    let info = info_of(order, r);
     let flag = flag_of(info);
     if kind_of(info) == ENUM {
         let e = short_entry(r, i);
-        let n = widened(flag, words::read(e, Place(4)));
+        let n = widened(flag, words::read(order, e, Place(4)));
         return put_value(buf, o, blob, flag, e, n);
     }
     let e = long_entry(r, i);
-    let n = wide_value(e);
+    let n = wide_value(order, e);
     put_value(buf, o, blob, flag, e, n)
 }
 
@@ -111,7 +125,7 @@ pub fn put_entry(
     i: u32,
 ) -> Listed {
     let o = l.o;
-    match kind_of(info_of(r)) {
+    match kind_of(info_of(words::order_of(blob), r)) {
         STRUCT | UNION => put_member(buf, l, blob, index, r, i),
         ENUM | ENUM64 => with(l, put_number_of(buf, o, blob, r, i)),
         FUNC_PROTO => with(l, put_parameter(buf, o, blob, index, short_entry(r, i))),

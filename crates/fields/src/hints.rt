@@ -4,6 +4,7 @@ use lines::ROOM;
 use lines::put;
 use lines::put_with;
 use paper::BYTE_LIMIT;
+use paper::Order;
 use paper::Place;
 use texts::line;
 use titles::put_many;
@@ -11,40 +12,37 @@ use titles::put_many;
 // The parts of a .BTF.ext section begin with the length of their records, 8 bytes for functions and 16 for lines; its header is
 // otherwise one of a table, or has two words more.
 fn is_extension(blob: &[u8]) -> bool {
-    let head = words::read(blob, Place(4));
-    let functions = words::read(blob, Place(12));
+    let head = words::blob_word(blob, Place(4));
+    let functions = words::blob_word(blob, Place(12));
     if 32 < head {
         return false;
     }
     if BYTE_LIMIT < functions as usize {
         return false;
     }
-    if words::read(blob, Place(16)) != functions {
+    if words::blob_word(blob, Place(16)) != functions {
         return false;
     }
     let lines = head + functions;
-    words::read(blob, Place(head)) == 8 && words::read(blob, Place(lines)) == 16
+    words::blob_word(blob, Place(head)) == 8 && words::blob_word(blob, Place(lines)) == 16
 }
 
 // Which line of the hints; 0 for none.
 fn hint_of(blob: &[u8], number: u32) -> u32 {
-    let w = words::read(blob, Place(0));
+    let w = words::read(Order::LowFirst, blob, Place(0));
     if number <= 2 && w == 1179403647 {
         return 1; // 7F 45 4C 46
     }
-    if number == 2 && w % 65536 == 40939 {
-        return 2; // EB 9F
-    }
     if 3 <= number && is_extension(blob) {
-        return 3;
+        return 2;
     }
     0
 }
 
 // The bytes that the header asks for, where there are others.
 fn put_sum(buf: &mut [u8; ROOM], o: Out, blob: &[u8]) -> Out {
-    let types = words::read(blob, Place(12)) as u64;
-    let strings = words::read(blob, Place(20)) as u64;
+    let types = words::blob_word(blob, Place(12)) as u64;
+    let strings = words::blob_word(blob, Place(20)) as u64;
     let asked = 24 + types + strings;
     let there = blob.len() as u64;
     if asked == there {
@@ -76,7 +74,6 @@ fn put_sum(buf: &mut [u8; ROOM], o: Out, blob: &[u8]) -> Out {
 pub fn put_hint(buf: &mut [u8; ROOM], o: Out, blob: &[u8], number: u32) -> Out {
     let hints = b"\n\
         this is an ELF file: objcopy --dump-section .BTF=TABLE FILE takes its table out (llvm-objcopy for a BPF object)\n\
-        this table has the other byte order (EB 9F, the high byte of a word first), which is not read\n\
         this is a .BTF.ext section, and no table of types: that is the section .BTF\n";
     let k = hint_of(blob, number);
     if k != 0 {

@@ -5,6 +5,7 @@ use lines::ROOM;
 use lines::put;
 use lines::put_with;
 use paper::BYTE_LIMIT;
+use paper::Order;
 use paper::Place;
 use texts::line;
 use titles::put_many;
@@ -24,9 +25,9 @@ fn wide_byte(b: u8) -> u64 {
 }
 
 // The number of a field of one byte or of four. The magic's two are shown as they stand.
-fn put_value(buf: &mut [u8; ROOM], o: Out, s: &[u8], n: usize) -> Out {
+fn put_value(buf: &mut [u8; ROOM], o: Out, order: Order, s: &[u8], n: usize) -> Out {
     if n == 4 {
-        return put_with(buf, o, b" ", words::read(s, Place(0)) as u64);
+        return put_with(buf, o, b" ", words::read(order, s, Place(0)) as u64);
     }
     if n == 1 && 0 < s.len() {
         return put_with(buf, o, b" ", wide_byte(s[0]));
@@ -35,7 +36,14 @@ fn put_value(buf: &mut [u8; ROOM], o: Out, s: &[u8], n: usize) -> Out {
 }
 
 // The name of a field of so many bytes, and its number unless the table ends inside it.
-fn put_field_name(buf: &mut [u8; ROOM], o: Out, s: &[u8], n: usize, name: &[u8]) -> Out {
+fn put_field_name(
+    buf: &mut [u8; ROOM],
+    o: Out,
+    order: Order,
+    s: &[u8],
+    n: usize,
+    name: &[u8],
+) -> Out {
     if s.len() < n {
         let o = put_gap(buf, o, s.len());
         let o = put(buf, o, name);
@@ -43,7 +51,7 @@ fn put_field_name(buf: &mut [u8; ROOM], o: Out, s: &[u8], n: usize, name: &[u8])
     }
     let o = put_gap(buf, o, n);
     let o = put(buf, o, name);
-    let o = put_value(buf, o, s, n);
+    let o = put_value(buf, o, order, s, n);
     put(buf, o, b"\n")
 }
 
@@ -62,13 +70,14 @@ fn put_field(
         return o;
     }
     let o = put_bytes(buf, o, is_meant, blob, at, n);
-    put_field_name(buf, o, s, n, name)
+    put_field_name(buf, o, words::order_of(blob), s, n, name)
 }
 
 // The first four bytes; for report 2 those are marked that are not as they must be.
 fn put_opening(buf: &mut [u8; ROOM], o: Out, blob: &[u8], number: u32) -> Out {
-    let w = words::read(blob, Place(0));
-    let is_magic = w % 65536 == 60319; // 9F EB
+    let w = words::read(Order::LowFirst, blob, Place(0));
+    let magic = w % 65536;
+    let is_magic = magic == 60319 || magic == 40939; // 9F EB, EB 9F
     let is_first = w / 65536 % 256 == 1;
     let o = put_field(buf, o, number == 2 && !is_magic, blob, 0, 2, b"magic");
     let o = put_field(buf, o, number == 2 && !is_first, blob, 2, 1, b"version");
@@ -79,10 +88,10 @@ fn put_opening(buf: &mut [u8; ROOM], o: Out, blob: &[u8], number: u32) -> Out {
 // the sum is wrong, a line says so.
 fn put_sections(buf: &mut [u8; ROOM], o: Out, blob: &[u8], number: u32) -> Out {
     let is_four = number == 4;
-    let from = words::read(blob, Place(8));
-    let types = words::read(blob, Place(12));
-    let behind = words::read(blob, Place(16));
-    let strings = words::read(blob, Place(20));
+    let from = words::blob_word(blob, Place(8));
+    let types = words::blob_word(blob, Place(12));
+    let behind = words::blob_word(blob, Place(16));
+    let strings = words::blob_word(blob, Place(20));
     let o = put_field(
         buf,
         o,
@@ -128,8 +137,8 @@ fn is_zero(s: &[u8], at: usize) -> bool {
 
 // The first and the last byte of the strings, as far as they are there.
 fn put_string_ends(buf: &mut [u8; ROOM], o: Out, blob: &[u8]) -> Out {
-    let from = 24 + words::read(blob, Place(12)) as usize;
-    let n = words::read(blob, Place(20)) as usize;
+    let from = 24 + words::blob_word(blob, Place(12)) as usize;
+    let n = words::blob_word(blob, Place(20)) as usize;
     if n == 0 {
         return o;
     }

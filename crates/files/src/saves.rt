@@ -1,6 +1,7 @@
 // A table is written under another name beside its own, and renamed when all of it is on the disk: whatever fails, what
 // stood under its name before stands there still.
 use crate::reads::fail;
+use paper::Order;
 use paper::Place;
 use texts::first_of;
 use words::lay;
@@ -9,7 +10,7 @@ use words::lay;
 fn random() -> u32 {
     let mut s = [0u8; 4];
     libc::getentropy(&mut s);
-    words::read(&s, Place(0))
+    words::read(Order::LowFirst, &s, Place(0))
 }
 
 // A piece behind the first bytes, where there is room for it; where it ends is answered.

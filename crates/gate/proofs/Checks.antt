@@ -57,13 +57,13 @@ module _ (T : Table) where
         go (some a) y z = refl
 
 -- the same of the answers in code, of the table that the index shows
-module _ {b index work : List ℕ} (base : List ℕ) {v : View} (j : Judgeable b index (v .n) work) (s₃ : Said)
+module _ {b index work : List ℕ} (base : List ℕ) {v : View} (j : Judgeable b index v work) (s₃ : Said)
     (e₃ : saidAsPaper s₃ ≡ overShown phase3 base b index v) where
   abbrev T : Table
   T = tableOf b
 
   third-here : saidAsPaper s₃ ≡ overTypes phase3 T
-  third-here = e₃ ∙ stands-phase (j .standing) base v refl phase3
+  third-here = e₃ ∙ stands-phase (j .standing) base v refl (j .ordered) phase3
 
   pub judge-third : {r : Report} → s₃ ≡ Says r → saidAsPaper s₃ ≡ tableReport T
   judge-third p = ap saidAsPaper p ∙ sym (said-third T (sym third-here ∙ ap saidAsPaper p))
@@ -73,7 +73,7 @@ module _ {b index work : List ℕ} (base : List ℕ) {v : View} (j : Judgeable b
     linked : {x : Linked} → w ≡ x → tableReport T ≡ orElse (linkedAsPaper T x) (overTypes phase6 T)
     linked {x} q =
         let says : linkedAsPaper T w ≡ orElse (overTypes phase4 T) (overTypes phase5 T) =
-        subst (λ (S : Table). linkedAsPaper S w ≡ orElse (overTypes phase4 S) (overTypes phase5 S)) (stands-shows (j .standing) base v refl)
+        subst (λ (S : Table). linkedAsPaper S w ≡ orElse (overTypes phase4 S) (overTypes phase5 S)) (stands-shows (j .standing) base v refl (j .ordered))
         (e₄ ∙ links-say (tableBy base b index v) (v .n) (length work) few (j .room)) in
         said-links T (sym third-here ∙ ap saidAsPaper n₃) (linkedAsPaper T x) (sym says ∙ ap (linkedAsPaper T) q)
 
@@ -84,9 +84,9 @@ module _ {b index work : List ℕ} (base : List ℕ) {v : View} (j : Judgeable b
     judge-endless {t} q at = ap (λ (p : ℕ). some (reportAt 14 (t .0) p)) (at ∙ stands-place (j .standing) v refl (t .0)) ∙ sym (linked q)
 
     pub judge-sixth : w ≡ Good → {o : Option Answer} → o ≡ overShown phase6 base b index v → o ≡ tableReport T
-    judge-sixth q e = e ∙ stands-phase (j .standing) base v refl phase6 ∙ sym (linked q)
+    judge-sixth q e = e ∙ stands-phase (j .standing) base v refl (j .ordered) phase6 ∙ sym (linked q)
 
-pub judge-few : {b index work : List ℕ} {n : ℕ} → Judgeable b index n work → n ≤ typeLimit
+pub judge-few : {b index work : List ℕ} {v : View} → Judgeable b index v work → v .n ≤ typeLimit
 judge-few j = omega (arith, j .standing .counted, j .standing .readable .section .few-found)
 
 -- ── with phases 1 and 2 before them ──

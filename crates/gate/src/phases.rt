@@ -24,7 +24,9 @@ fn heads_at<'a>(base: &'a [u8], b: &'a [u8], index: &[u32], view: View, t: TypeN
     ensures { λ r. ⌜ saidAsPaper r ≡ namingAt (t .0) (placeBy (now (index .entry)) view (t .0)) (firstDue (phase3 (tableBy (now (base .entry)) (now (b .entry)) (now (index .entry)) view) (t .0))) ⌝ }
 {
     let at = place_of(index, view, t);
+    let order = view.order;
     match rules::phase3(
+        order,
         record_of(base, b, index, view, t),
         strings_of(base, b, index, view),
     ) {

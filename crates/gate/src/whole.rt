@@ -20,7 +20,7 @@ ghost use Rattle.paper.specs.rules.Walk.{tableOf};
 
 // What phases 3 to 6 say: the earliest speaks.
 fn judge<'a>(base: &'a [u8], b: &'a [u8], index: &[u32], view: View, work: &mut [u32]) -> Said
-    requires { ⌜ Judgeable (now b) (now index) (view .n) (now work) ⌝ }
+    requires { ⌜ Judgeable (now b) (now index) view (now work) ⌝ }
     ensures { λ r. ⌜ saidAsPaper r ≡ tableReport (tableOf (now (b .entry))) ⌝ }
 {
     let heads = third(base, b, index, view);
@@ -41,13 +41,16 @@ fn answer(b: &[u8], index: &mut [u32], work: &mut [u32]) -> Checked
 {
     match scan(b, index, work.len()) {
         Scanned::Refused(r) => Checked::Refused(r),
-        Scanned::Counted(n) => match judge(&b[..0], b, index, View { n }, work) {
-            Said::Nothing => Checked::Accepted(n),
-            Said::Says(r) => {
-                clear(index);
-                Checked::Refused(r)
+        Scanned::Counted(n) => {
+            let order = words::order_of(b);
+            match judge(&b[..0], b, index, View { n, order }, work) {
+                Said::Nothing => Checked::Accepted(n),
+                Said::Says(r) => {
+                    clear(index);
+                    Checked::Refused(r)
+                }
             }
-        },
+        }
     }
 }
 

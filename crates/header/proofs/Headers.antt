@@ -15,9 +15,11 @@ use Rattle.paper.proofs.basics.Choices.{or-left, or-right, same-true}
 use Rattle.paper.specs.rules.Answer.{report}
 use Rattle.paper.specs.rules.Choice.{differ, same}
 use Rattle.paper.specs.rules.Gate.{phase1}
-use Rattle.paper.specs.rules.Header.{orderOf, opening, typeOff, typeLen, strOff, strLen, stringsIn}
+use Rattle.paper.specs.rules.Header.{orderOf, magicFirst, magicSecond, opening, typeOff, typeLen, strOff, strLen, stringsIn}
 use Rattle.paper.specs.rules.Header.{lengthBad, openingBad, headerLengthBad, sectionsBad, stringsBad, headerReport}
-use Rattle.paper.specs.rules.Word.{lowFirst, wordAt}
+use Rattle.paper.specs.rules.Word.{wordAt}
+use Rattle.paper.specs.declared.Order.{Order}
+use Rattle.header.specs.Header.{opensOtherwise}
 
 -- numbers that are not equal differ
 differ-other : (m n : ℕ) → (m ≡ n → ⊥) → differ m n ≡ true
@@ -29,14 +31,6 @@ tells p q = sym p ∙ q
 
 -- ── report 2 ──
 
-pub openingBad-short : (b : List ℕ) → length b < 4 → openingBad b ≡ true
-unfolding orderOf openingBad
-openingBad-short b h = go (same (take 4 b) (opening lowFirst)) refl
-  where
-    go : (t : Bool) → same (take 4 b) (opening lowFirst) ≡ t → not t ≡ true
-    go true e = absurd (omega (arith, simp length-take at (ap length (same-true (take 4 b) (opening lowFirst) e))))
-    go false e = refl
-
 -- four tests do not all pass exactly where one of them, turned, does
 not-and : (s t u v : Bool) → not (s && (t && (u && (v && true)))) ≡ (not s || not t || not u || not v)
 not-and true true true true = refl
@@ -45,69 +39,86 @@ not-and true true false v = refl
 not-and true false u v = refl
 not-and false t u v = refl
 
-openingBad-bytes : (b : List ℕ) → 4 ≤ length b
-    → openingBad b ≡ (differ (getD b 0 0) 0x9f || differ (getD b 1 0) 0xeb || differ (getD b 2 0) 1 || differ (getD b 3 0) 0)
-unfolding orderOf openingBad
-openingBad-bytes [] h = absurd (omega arith)
-openingBad-bytes (x ∷ []) h = absurd (omega arith)
-openingBad-bytes (x ∷ y ∷ []) h = absurd (omega arith)
-openingBad-bytes (x ∷ y ∷ z ∷ []) h = absurd (omega arith)
-openingBad-bytes (x ∷ y ∷ z ∷ w ∷ s) h = not-and (eqb x 0x9f) (eqb y 0xeb) (eqb z 1) (eqb w 0)
+module _ (first second : ℕ) where
+  magics : List ℕ
+  magics = first ∷ second ∷ 1 ∷ 0 ∷ []
 
-module _ (b : List ℕ) (long : 4 ≤ length b) where
-  pub openingBad-first : (getD b 0 0 ≡ 0x9f → ⊥) → true ≡ openingBad b
-  openingBad-first h = sym (openingBad-bytes b long ∙ simp (ne-eqb _ _ h))
+  pub opens-short : (b : List ℕ) → length b < 4 → opensOtherwise b first second ≡ true
+  unfolding opensOtherwise magics
+  opens-short b h = go (same (take 4 b) magics) refl
+    where
+      go : (t : Bool) → same (take 4 b) magics ≡ t → not t ≡ true
+      go true e = absurd (omega (arith, simp length-take at (ap length (same-true (take 4 b) magics e))))
+      go false e = refl
 
-  pub openingBad-second : getD b 0 0 ≡ 0x9f → (getD b 1 0 ≡ 0xeb → ⊥) → true ≡ openingBad b
-  openingBad-second e₀ h = sym (openingBad-bytes b long ∙ simp (eq-eqb _ _ e₀, ne-eqb _ _ h))
+  opens-bytes : (b : List ℕ) → 4 ≤ length b
+      → opensOtherwise b first second ≡ (differ (getD b 0 0) first || differ (getD b 1 0) second || differ (getD b 2 0) 1 || differ (getD b 3 0) 0)
+  unfolding opensOtherwise
+  opens-bytes [] h = absurd (omega arith)
+  opens-bytes (x ∷ []) h = absurd (omega arith)
+  opens-bytes (x ∷ y ∷ []) h = absurd (omega arith)
+  opens-bytes (x ∷ y ∷ z ∷ []) h = absurd (omega arith)
+  opens-bytes (x ∷ y ∷ z ∷ w ∷ s) h = not-and (eqb x first) (eqb y second) (eqb z 1) (eqb w 0)
 
-  pub openingBad-third : getD b 0 0 ≡ 0x9f → getD b 1 0 ≡ 0xeb → (getD b 2 0 ≡ 1 → ⊥) → true ≡ openingBad b
-  openingBad-third e₀ e₁ h = sym (openingBad-bytes b long ∙ simp (eq-eqb _ _ e₀, eq-eqb _ _ e₁, ne-eqb _ _ h))
+  module _ (b : List ℕ) (long : 4 ≤ length b) where
+    pub opens-first : (getD b 0 0 ≡ first → ⊥) → true ≡ opensOtherwise b first second
+    opens-first h = sym (opens-bytes b long ∙ simp (ne-eqb _ _ h))
 
-  pub openingBad-fourth : getD b 0 0 ≡ 0x9f → getD b 1 0 ≡ 0xeb → getD b 2 0 ≡ 1 → differ (getD b 3 0) 0 ≡ openingBad b
-  openingBad-fourth e₀ e₁ e₂ = sym (openingBad-bytes b long ∙ simp (eq-eqb _ _ e₀, eq-eqb _ _ e₁, eq-eqb _ _ e₂))
+    pub opens-second : getD b 0 0 ≡ first → (getD b 1 0 ≡ second → ⊥) → true ≡ opensOtherwise b first second
+    opens-second e₀ h = sym (opens-bytes b long ∙ simp (eq-eqb _ _ e₀, ne-eqb _ _ h))
+
+    pub opens-third : getD b 0 0 ≡ first → getD b 1 0 ≡ second → (getD b 2 0 ≡ 1 → ⊥) → true ≡ opensOtherwise b first second
+    opens-third e₀ e₁ h = sym (opens-bytes b long ∙ simp (eq-eqb _ _ e₀, eq-eqb _ _ e₁, ne-eqb _ _ h))
+
+    pub opens-fourth : getD b 0 0 ≡ first → getD b 1 0 ≡ second → getD b 2 0 ≡ 1 → differ (getD b 3 0) 0 ≡ opensOtherwise b first second
+    opens-fourth e₀ e₁ e₂ = sym (opens-bytes b long ∙ simp (eq-eqb _ _ e₀, eq-eqb _ _ e₁, eq-eqb _ _ e₂))
+
+-- by the order that the first two bytes say
+pub opening-by : (b : List ℕ) {o : Order} → o ≡ orderOf b → opensOtherwise b (magicFirst o) (magicSecond o) ≡ openingBad b
+unfolding openingBad opensOtherwise
+opening-by b e = ap (λ (o : Order). not (same (take 4 b) (opening o))) e
 
 -- ── report 4, from the words that are read ──
 
 module _ (b : List ℕ) where
-  pub sectionsBad-offset : {w : ℕ} → w ≡ wordAt lowFirst b 8 → (w ≡ 0 → ⊥) → true ≡ sectionsBad b
-  unfolding orderOf sectionsBad typeOff
+  pub sectionsBad-offset : {w : ℕ} → w ≡ wordAt (orderOf b) b 8 → (w ≡ 0 → ⊥) → true ≡ sectionsBad b
+  unfolding sectionsBad typeOff
   sectionsBad-offset e h = sym (or-left _ (or-left _ (or-left _ (differ-other _ _ (λ z. h (e ∙ z))))))
 
-  pub sectionsBad-multiple : {w : ℕ} → w ≡ wordAt lowFirst b 12 → (w % 4 ≡ 0 → ⊥) → true ≡ sectionsBad b
-  unfolding orderOf sectionsBad typeLen
+  pub sectionsBad-multiple : {w : ℕ} → w ≡ wordAt (orderOf b) b 12 → (w % 4 ≡ 0 → ⊥) → true ≡ sectionsBad b
+  unfolding sectionsBad typeLen
   sectionsBad-multiple e h =
       sym (or-left _ (or-left _ (or-right (differ (typeOff b) 0) (differ-other _ _ (λ z. h (ap (λ (x : ℕ). x % 4) e ∙ z))))))
 
-  pub sectionsBad-apart : {v w : ℕ} → v ≡ wordAt lowFirst b 16 → w ≡ wordAt lowFirst b 12 → (v ≡ w → ⊥) → true ≡ sectionsBad b
-  unfolding orderOf sectionsBad typeLen strOff
+  pub sectionsBad-apart : {v w : ℕ} → v ≡ wordAt (orderOf b) b 16 → w ≡ wordAt (orderOf b) b 12 → (v ≡ w → ⊥) → true ≡ sectionsBad b
+  unfolding sectionsBad typeLen strOff
   sectionsBad-apart d e h = sym (or-left _ (or-right (differ (typeOff b) 0 || differ (typeLen b % 4) 0) (differ-other _ _ (λ z. h (d ∙ z ∙ sym e)))))
 
-  pub sectionsBad-sum : {u v w x : ℕ} → u ≡ wordAt lowFirst b 8 → v ≡ wordAt lowFirst b 12 → w ≡ wordAt lowFirst b 16 → x ≡ wordAt lowFirst b 20
+  pub sectionsBad-sum : {u v w x : ℕ} → u ≡ wordAt (orderOf b) b 8 → v ≡ wordAt (orderOf b) b 12 → w ≡ wordAt (orderOf b) b 16 → x ≡ wordAt (orderOf b) b 20
       → u ≡ 0 → v % 4 ≡ 0 → w ≡ v → differ (24 + v + x) (length b) ≡ sectionsBad b
-  unfolding orderOf sectionsBad typeOff typeLen strOff strLen
+  unfolding sectionsBad typeOff typeLen strOff strLen
   sectionsBad-sum {u} {v} {w} {x} d e f g h₀ h₄ same =
       rw (← d, ← e, ← f, ← g) (rw (eq-eqb u 0 h₀, eq-eqb (v % 4) 0 h₄, eq-eqb w v same) refl)
 
   -- ── report 5, from the words and bytes that are read ──
 
-  stringsIn-first : getD (stringsIn b) 0 0 ≡ getD b (24 + wordAt lowFirst b 12) 0
-  unfolding orderOf stringsIn typeLen
-  stringsIn-first = getD-drop (24 + wordAt lowFirst b 12) b 0 0 ∙ ap (λ (i : ℕ). getD b i 0) (add-zero (24 + wordAt lowFirst b 12))
+  stringsIn-first : getD (stringsIn b) 0 0 ≡ getD b (24 + wordAt (orderOf b) b 12) 0
+  unfolding stringsIn typeLen
+  stringsIn-first = getD-drop (24 + wordAt (orderOf b) b 12) b 0 0 ∙ ap (λ (i : ℕ). getD b i 0) (add-zero (24 + wordAt (orderOf b) b 12))
 
-  pub stringsBad-empty : {n : ℕ} → n ≡ wordAt lowFirst b 20 → n ≡ 0 → true ≡ stringsBad b
-  unfolding orderOf stringsBad strLen
+  pub stringsBad-empty : {n : ℕ} → n ≡ wordAt (orderOf b) b 20 → n ≡ 0 → true ≡ stringsBad b
+  unfolding stringsBad strLen
   stringsBad-empty e z = sym (or-left _ (or-left _ (eq-eqb _ _ (sym e ∙ z))))
 
-  pub stringsBad-first : {m x : ℕ} → m ≡ wordAt lowFirst b 12 → x ≡ getD b (24 + m) 0 → (x ≡ 0 → ⊥) → true ≡ stringsBad b
+  pub stringsBad-first : {m x : ℕ} → m ≡ wordAt (orderOf b) b 12 → x ≡ getD b (24 + m) 0 → (x ≡ 0 → ⊥) → true ≡ stringsBad b
   unfolding stringsBad
   stringsBad-first {m} {x} e d h =
       let at : x ≡ getD (stringsIn b) 0 0 = d ∙ ap (λ (i : ℕ). getD b (24 + i) 0) e ∙ sym stringsIn-first in
       sym (or-left _ (or-right (eqb (strLen b) 0) (differ-other _ _ (λ z. h (at ∙ z)))))
 
-  pub stringsBad-last : {m n x y : ℕ} → m ≡ wordAt lowFirst b 12 → n ≡ wordAt lowFirst b 20 → x ≡ getD b (24 + m) 0 → y ≡ getD b (24 + m + (n - 1)) 0
+  pub stringsBad-last : {m n x y : ℕ} → m ≡ wordAt (orderOf b) b 12 → n ≡ wordAt (orderOf b) b 20 → x ≡ getD b (24 + m) 0 → y ≡ getD b (24 + m + (n - 1)) 0
       → (n ≡ 0 → ⊥) → x ≡ 0 → differ y 0 ≡ stringsBad b
-  unfolding orderOf stringsBad stringsIn typeLen strLen
+  unfolding stringsBad stringsIn typeLen strLen
   stringsBad-last {m} {n} {x} {y} e f d g h z =
       let first : getD (stringsIn b) 0 0 ≡ 0 = stringsIn-first ∙ ap (λ (i : ℕ). getD b (24 + i) 0) (sym e) ∙ sym d ∙ z in
       rw (eq-eqb _ _ first, ← f, ← e, ne-eqb n 0 h, getD-drop, ← g) refl

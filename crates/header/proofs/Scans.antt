@@ -26,7 +26,7 @@ use Rattle.paper.specs.rules.Header.{orderOf, strLen, typeLen, stringsIn, heade
 use Rattle.paper.specs.rules.Limits.{byteLimit}
 use Rattle.paper.specs.rules.Name.{untilZero, nameIn, nameless, nameAt, nameStart}
 use Rattle.paper.specs.rules.Choice.{isSome}
-use Rattle.paper.specs.rules.Word.{lowFirst, wordAt}
+use Rattle.paper.specs.rules.Word.{wordAt}
 
 -- ── a scan ──
 
@@ -119,8 +119,8 @@ module _ (b : List ℕ) (off : ℕ) where
 
   module _ (e : nameless b off ≡ false) where
     -- else it begins so far into the strings, inside the blob
-    pub nameStart-some : {w : ℕ} → w ≡ wordAt lowFirst b 12 → 24 + w + off ≡ nameStart b off
-    unfolding orderOf nameStart typeLen
+    pub nameStart-some : {w : ℕ} → w ≡ wordAt (orderOf b) b 12 → 24 + w + off ≡ nameStart b off
+    unfolding nameStart typeLen
     nameStart-some d = rw (e, d) refl
 
     pub named-inside : nameStart b off < length b

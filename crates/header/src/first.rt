@@ -1,10 +1,11 @@
 // Phase 1, reports 1 to 5: the header and the string section, of any bytes. A test for each report.
 use paper::BYTE_LIMIT;
+use paper::Order;
 use paper::Place;
 use paper::Report;
 ghost use mathlib.Core.Path.{_≡_};
 ghost use lib.ListN.{getD};
-ghost use Rattle.header.specs.Header.{HeaderOf};
+ghost use Rattle.header.specs.Header.{HeaderOf, opensOtherwise};
 ghost use Rattle.paper.specs.rules.Header.{lengthBad, openingBad, headerLengthBad, sectionsBad, stringsBad};
 
 // How long the two sections behind a good header are.
@@ -29,17 +30,17 @@ fn length_bad(b: &[u8]) -> bool
     BYTE_LIMIT < b.len()
 }
 
-// Report 2: magic, version and flags.
-fn opening_bad(b: &[u8]) -> bool
-    ensures { λ r. ⌜ r ≡ openingBad (now (b .entry)) ⌝ }
+// The first four bytes are not the two of a magic, version 1 and flags 0.
+fn opens_otherwise(b: &[u8], first: u8, second: u8) -> bool
+    ensures { λ r. ⌜ r ≡ opensOtherwise (now (b .entry)) first second ⌝ }
 {
     if b.len() < 4 {
         return true;
     }
-    if b[0] != 0x9f {
+    if b[0] != first {
         return true;
     }
-    if b[1] != 0xeb {
+    if b[1] != second {
         return true;
     }
     if b[2] != 1 {
@@ -48,26 +49,36 @@ fn opening_bad(b: &[u8]) -> bool
     b[3] != 0
 }
 
+// Report 2: neither order's magic, version and flags.
+fn opening_bad(b: &[u8]) -> bool
+    ensures { λ r. ⌜ r ≡ openingBad (now (b .entry)) ⌝ }
+{
+    match words::order_of(b) {
+        Order::LowFirst => opens_otherwise(b, 0x9f, 0xeb),
+        Order::HighFirst => opens_otherwise(b, 0xeb, 0x9f),
+    }
+}
+
 // Report 3: the header's own length.
 fn header_length_bad(b: &[u8]) -> bool
     ensures { λ r. ⌜ r ≡ headerLengthBad (now (b .entry)) ⌝ }
 {
-    words::read(b, Place(4)) != 24
+    words::blob_word(b, Place(4)) != 24
 }
 
 // Report 4: the sections stand one behind the other and fill the blob. The sum is exact: 64 bits hold it.
 fn sections_bad(b: &[u8]) -> bool
     ensures { λ r. ⌜ r ≡ sectionsBad (now (b .entry)) ⌝ }
 {
-    let type_len = words::read(b, Place(12));
-    let str_len = words::read(b, Place(20));
-    if words::read(b, Place(8)) != 0 {
+    let type_len = words::blob_word(b, Place(12));
+    let str_len = words::blob_word(b, Place(20));
+    if words::blob_word(b, Place(8)) != 0 {
         return true;
     }
     if type_len % 4 != 0 {
         return true;
     }
-    if words::read(b, Place(16)) != type_len {
+    if words::blob_word(b, Place(16)) != type_len {
         return true;
     }
     24 + type_len as usize + str_len as usize != b.len()
@@ -87,8 +98,8 @@ fn byte(b: &[u8], at: usize) -> u8
 fn strings_bad(b: &[u8]) -> bool
     ensures { λ r. ⌜ r ≡ stringsBad (now (b .entry)) ⌝ }
 {
-    let from = 24 + words::read(b, Place(12)) as usize;
-    let len = words::read(b, Place(20)) as usize;
+    let from = 24 + words::blob_word(b, Place(12)) as usize;
+    let len = words::blob_word(b, Place(20)) as usize;
     if len == 0 {
         return true;
     }
@@ -118,7 +129,7 @@ pub fn read(b: &[u8]) -> Header
         return Header::Bad(Report::Strings);
     }
     Header::Good(Sections {
-        types: words::read(b, Place(12)),
-        strings: words::read(b, Place(20)),
+        types: words::blob_word(b, Place(12)),
+        strings: words::blob_word(b, Place(20)),
     })
 }

@@ -42,7 +42,7 @@ pub fn part(b: &[u8], at: NameOff) -> Part
             length: 0,
         };
     }
-    let start = 24 + words::read(b, Place(12)) + at.0;
+    let start = 24 + words::blob_word(b, Place(12)) + at.0;
     let from = start as usize;
     let n = until_zero(&b[from..]);
     Part {

@@ -9,7 +9,8 @@ use Rattle.paper.specs.rules.Heads.{allowed, spareZero, headOk}
 use Rattle.paper.specs.rules.Kind.{rowOf}
 use Rattle.paper.specs.terms.Reading.{recordIn}
 use Rattle.paper.specs.rules.Table.{kindIn, vlenIn, flagIn}
-use Rattle.paper.specs.rules.Word.{lowFirst, wordAt}
+use Rattle.paper.specs.declared.Order.{Order}
+use Rattle.paper.specs.rules.Word.{wordAt}
 use Rattle.heads.specs.HeadBy.{headBy}
 
 module _ (info third : ℕ) {k : ℕ} (kind : k ≡ kindIn info) {a : Bool} (spare : a ≡ spareZero info) where
@@ -36,7 +37,7 @@ module _ (info third : ℕ) {k : ℕ} (kind : k ≡ kindIn info) {a : Bool} (spa
           (e ∙ (λ i. allowed (rowOf (kind i) .thirdValues) third))
 
 -- the head of the record that some bytes begin with
-pub headBy-record : (s : List ℕ) {info third : ℕ} → info ≡ wordAt lowFirst s 4 → third ≡ wordAt lowFirst s 8 → {r : Bool} → r ≡ headBy info third
-    → r ≡ headOk (recordIn lowFirst s)
+pub headBy-record : (order : Order) (s : List ℕ) {info third : ℕ} → info ≡ wordAt order s 4 → third ≡ wordAt order s 8 → {r : Bool} → r ≡ headBy info third
+    → r ≡ headOk (recordIn order s)
 unfolding headOk recordIn
-headBy-record s e f d = d ∙ (λ i. headBy (e i) (f i))
+headBy-record order s e f d = d ∙ (λ i. headBy (e i) (f i))

@@ -1,4 +1,5 @@
 // Report 10: "head words break the list".
+use paper::Order;
 use paper::Place;
 use rows::flag_allowed;
 use rows::flag_of;
@@ -9,7 +10,6 @@ use rows::vlen_of;
 ghost use mathlib.Core.Path.{_≡_};
 ghost use Rattle.paper.specs.rules.Heads.{headOk, spareZero};
 ghost use Rattle.paper.specs.terms.Reading.{recordIn};
-ghost use Rattle.paper.specs.rules.Word.{lowFirst};
 ghost use Rattle.heads.specs.HeadBy.{headBy};
 
 // The spare bits of an info word are 0.
@@ -40,8 +40,11 @@ fn words_ok(info: u32, third: u32) -> bool
 }
 
 // The head of the record keeps to the list.
-pub fn head_ok(bytes: &[u8]) -> bool
-    ensures { λ r. ⌜ r ≡ headOk (recordIn lowFirst (now (bytes .entry))) ⌝ }
+pub fn head_ok(order: Order, bytes: &[u8]) -> bool
+    ensures { λ r. ⌜ r ≡ headOk (recordIn order (now (bytes .entry))) ⌝ }
 {
-    words_ok(words::read(bytes, Place(4)), words::read(bytes, Place(8)))
+    words_ok(
+        words::read(order, bytes, Place(4)),
+        words::read(order, bytes, Place(8)),
+    )
 }

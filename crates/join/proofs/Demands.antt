@@ -38,7 +38,7 @@ use Rattle.paper.specs.rules.Walk.{tableOf}
 use Rattle.paper.specs.declared.Checked.{Checked}
 use Rattle.paper.specs.declared.Checked.the-variants.{Accepted}
 use Rattle.paper.specs.declared.Joined.{Joined}
-use Rattle.paper.specs.declared.Joined.the-variants.{Whole, FirstRefused, SecondRefused, TooMany, TooLong, OutputShort}
+use Rattle.paper.specs.declared.Joined.the-variants.{Whole, FirstRefused, SecondRefused, OrdersDiffer, TooMany, TooLong, OutputShort}
 use Rattle.paper.specs.declared.Sized.{Sized}
 
 module _ {j : Joined} {a b : List ℕ} {places work : ℕ} {out index left output : List ℕ} (h : JoinOf j a b places work out index left output) where
@@ -177,6 +177,7 @@ module _ {a b out index left output : List ℕ} where
       by-answer (Whole n) = refl
       by-answer (FirstRefused r) = refl
       by-answer (SecondRefused r) = refl
+      by-answer OrdersDiffer = refl
       by-answer TooMany = refl
       by-answer TooLong = refl
       by-answer OutputShort = refl

@@ -1,19 +1,22 @@
--- What the join answers at each way out: the two refusals, the three limits, and the joined length.
+-- What the join answers at each way out: the two refusals, two orders, the three limits, and the joined length.
 -- Assumes nothing.
 use Prim.Native.Nat.{ℕ, _+_, _-_, _≤_, _<_}
 use mathlib.Core.Path.{_≡_, refl, sym, ap, ap₂, _∙_}
+use mathlib.Core.Bool.{Bool, true, false, not}
 use mathlib.Core.List.{List, _++_}
 use mathlib.Core.Option.{Option, none, some}
 use native.Mathlib.Omega.{arith}
+use borrow.Author.Tests.{not-true, not-false}
 use lib.ListN.{length, drop}
 use Rattle.gate.specs.Check.{CheckOf}
 use Rattle.join.specs.Joins.{BothAccepted, WriteAsk, limited, LimitedOf, JoinOf}
+use Rattle.paper.proofs.basics.Orders.{sameOrder-true}
 use Rattle.paper.proofs.Outcomes.{gate-refused, gate-accepted, join-refused}
 use Rattle.paper.proofs.bytes.Tables.{length-bytesOf}
 use Rattle.paper.proofs.gates.Acceptance.{accepted-meets, accepted-bytes, accepted-closed}
 use Rattle.paper.proofs.gates.Answered.{checked-accepted, checked-refused}
 use Rattle.paper.proofs.joins.Grouping.{length-join}
-use Rattle.paper.proofs.joins.JoinRefusals.{joinRefusal-limits, joinable-joinRefusal, join-16, join-17, join-18, join-19, join-20}
+use Rattle.paper.proofs.joins.JoinRefusals.{joinRefusal-limits, joinable-joinRefusal, join-16, join-17, join-24, join-18, join-19, join-20}
 use Rattle.paper.specs.rules.Answer.{Answer, value, joinedAsPaper}
 use Rattle.paper.specs.terms.Fit.{Bytes}
 use Rattle.paper.specs.rules.Gate.{Outcome, refusal, zeros}
@@ -23,9 +26,11 @@ use Rattle.paper.specs.rules.Join.{joinTables, joinedBytes, limitReport, joinRe
 use Rattle.paper.specs.rules.Limits.{typeLimit, byteLimit}
 use Rattle.paper.specs.rules.Table.{count}
 use Rattle.paper.specs.rules.Walk.{tableOf}
+use Rattle.paper.specs.rules.Word.{sameOrder}
+use Rattle.paper.specs.declared.Order.{Order}
 use Rattle.paper.specs.declared.Checked.the-variants.{Accepted, Refused}
 use Rattle.paper.specs.declared.Joined.{Joined}
-use Rattle.paper.specs.declared.Joined.the-variants.{Whole, FirstRefused, SecondRefused, TooMany, TooLong, OutputShort}
+use Rattle.paper.specs.declared.Joined.the-variants.{Whole, FirstRefused, SecondRefused, OrdersDiffer, TooMany, TooLong, OutputShort}
 use Rattle.paper.specs.declared.Report.{Report}
 
 -- ── two accepted tables ──
@@ -64,45 +69,57 @@ module _ {a b : List ℕ} {n m : ℕ} (h : BothAccepted a b n m) where
         let said = ap (joinOutcome (joinedBytes a b) 0 0 out) (asked ∙ e) in
         record { answers = ap (λ (o : JoinOutcome). o .answer) (sym said); outputs = ap (λ (o : JoinOutcome). o .output) (sym said) }
 
-    pub limit-types : typeLimit < n + m → LimitedOf TooMany a b out out
+    -- the test of both orders, from what the code asks
+    pub two-orders : {s : Bool} {o q : Order} → s ≡ sameOrder o q → o ≡ orderOf a → q ≡ orderOf b → not s ≡ true → LimitedOf OrdersDiffer a b out out
     unfolding joinedAsPaper
-    limit-types l = passed TooMany (join-18 a b (h .places) (h .work) (length out) (h .first) (h .second) (omega (arith, h .first-count, h .second-count)))
+    two-orders {s} asked is-a is-b differ =
+        passed OrdersDiffer (join-24 a b (h .places) (h .work) (length out) (h .first) (h .second)
+        (sym (λ i. sameOrder (is-a i) (is-b i)) ∙ sym asked ∙ not-true s differ))
 
-    module _ (few : n + m ≤ typeLimit) where
-      few-types : count (tableOf a) + count (tableOf b) ≤ typeLimit
-      few-types = omega (arith, h .first-count, h .second-count)
+    pub one-order : {s : Bool} {o q : Order} → s ≡ sameOrder o q → o ≡ orderOf a → q ≡ orderOf b → not s ≡ false → orderOf a ≡ orderOf b
+    one-order {s} {o} {q} asked is-a is-b same = sym is-a ∙ sameOrder-true o q (sym asked ∙ not-false s same) ∙ is-b
 
-      pub limit-bytes : {len : ℕ} → len ≡ length a + length b - 25 → byteLimit < len → LimitedOf TooLong a b out out
+    module _ (ordered : orderOf a ≡ orderOf b) where
+      pub limit-types : typeLimit < n + m → LimitedOf TooMany a b out out
       unfolding joinedAsPaper
-      limit-bytes e l =
-          passed TooLong (join-19 a b (h .places) (h .work) (length out) (h .first) (h .second) few-types (omega (arith, length-joined)))
+      limit-types l =
+          passed TooMany (join-18 a b (h .places) (h .work) (length out) (h .first) (h .second) ordered (omega (arith, h .first-count, h .second-count)))
 
-      module _ {len : ℕ} (e : len ≡ length a + length b - 25) (short : len ≤ byteLimit) where
-        long : length (joinedBytes a b) ≡ len
-        long = omega (arith, length-joined)
+      module _ (few : n + m ≤ typeLimit) where
+        few-types : count (tableOf a) + count (tableOf b) ≤ typeLimit
+        few-types = omega (arith, h .first-count, h .second-count)
 
-        pub limit-room : length out < len → LimitedOf OutputShort a b out out
+        pub limit-bytes : {len : ℕ} → len ≡ length a + length b - 25 → byteLimit < len → LimitedOf TooLong a b out out
         unfolding joinedAsPaper
-        limit-room l =
-            let j = long in
-            passed OutputShort (join-20 a b (h .places) (h .work) (length out) (h .first) (h .second) few-types (omega arith) (omega arith))
+        limit-bytes e l =
+            passed TooLong (join-19 a b (h .places) (h .work) (length out) (h .first) (h .second) ordered few-types (omega (arith, length-joined)))
 
-        module _ (room : len ≤ length out) where
-          pub write-ask : {size : ℕ} → size ≡ len → WriteAsk a b n m size
-          write-ask s = let j = long in record { both = h; fits = omega arith; short = omega arith }
+        module _ {len : ℕ} (e : len ≡ length a + length b - 25) (short : len ≤ byteLimit) where
+          long : length (joinedBytes a b) ≡ len
+          long = omega (arith, length-joined)
 
-          -- nothing is in the way
-          pub limit-none : {part : List ℕ} → part ≡ joinedBytes a b → LimitedOf (Whole len) a b out (part ++ drop len out)
-          unfolding limited joinedAsPaper
-          limit-none {part} w =
+          pub limit-room : length out < len → LimitedOf OutputShort a b out out
+          unfolding joinedAsPaper
+          limit-room l =
               let j = long in
-              let joinable : Joinable a b (h .places) (h .work) (length out) =
-              record { first = h .first; second = h .second; few = few-types; short = omega arith; fits = omega arith } in
-              let said = ap (joinOutcome (joinedBytes a b) 0 0 out) (asked ∙ joinable-joinRefusal a b (h .places) (h .work) (length out) joinable) in
-              record {
-                answers = ap value (sym long) ∙ ap (λ (o : JoinOutcome). o .answer) (sym said);
-                outputs = ap₂ (λ (s : List ℕ) (k : ℕ). s ++ drop k out) w (sym long) ∙ ap (λ (o : JoinOutcome). o .output) (sym said);
-              }
+              passed OutputShort (join-20 a b (h .places) (h .work) (length out) (h .first) (h .second) ordered few-types (omega arith) (omega arith))
+
+          module _ (room : len ≤ length out) where
+            pub write-ask : {size : ℕ} → size ≡ len → WriteAsk a b n m size
+            write-ask s = let j = long in record { both = h; one-order = ordered; fits = omega arith; short = omega arith }
+
+            -- nothing is in the way
+            pub limit-none : {part : List ℕ} → part ≡ joinedBytes a b → LimitedOf (Whole len) a b out (part ++ drop len out)
+            unfolding limited joinedAsPaper
+            limit-none {part} w =
+                let j = long in
+                let joinable : Joinable a b (h .places) (h .work) (length out) =
+                record { first = h .first; second = h .second; one-order = ordered; few = few-types; short = omega arith; fits = omega arith } in
+                let said = ap (joinOutcome (joinedBytes a b) 0 0 out) (asked ∙ joinable-joinRefusal a b (h .places) (h .work) (length out) joinable) in
+                record {
+                  answers = ap value (sym long) ∙ ap (λ (o : JoinOutcome). o .answer) (sym said);
+                  outputs = ap₂ (λ (s : List ℕ) (k : ℕ). s ++ drop k out) w (sym long) ∙ ap (λ (o : JoinOutcome). o .output) (sym said);
+                }
 
 -- ── both tables checked ──
 

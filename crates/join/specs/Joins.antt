@@ -7,12 +7,13 @@ use lib.ListN.{length, take}
 use Rattle.paper.specs.rules.Answer.{joinedAsPaper}
 use Rattle.paper.specs.terms.Fit.{Bytes}
 use Rattle.paper.specs.rules.Gate.{refusal}
+use Rattle.paper.specs.rules.Header.{orderOf}
 use Rattle.paper.specs.rules.Join.{joinedBytes, limitReport, JoinOutcome, joinOutcome, join}
 use Rattle.paper.specs.rules.Limits.{byteLimit}
 use Rattle.paper.specs.rules.Table.{count}
 use Rattle.paper.specs.rules.Walk.{tableOf}
 use Rattle.paper.specs.declared.Joined.{Joined}
-use Rattle.paper.specs.declared.Joined.the-variants.{Whole, FirstRefused, SecondRefused, TooMany, TooLong, OutputShort}
+use Rattle.paper.specs.declared.Joined.the-variants.{Whole, FirstRefused, SecondRefused, OrdersDiffer, TooMany, TooLong, OutputShort}
 
 -- two blobs of n and m types, both accepted with some places lent
 pub record BothAccepted (a b : List ℕ) (n m : ℕ) : Type 0 where
@@ -25,9 +26,10 @@ pub record BothAccepted (a b : List ℕ) (n m : ℕ) : Type 0 where
   pub first-count : n ≡ count (tableOf a)
   pub second-count : m ≡ count (tableOf b)
 
--- and an output of just the joined length, which is within the limit
+-- of one order, and an output of just the joined length, which is within the limit
 pub record WriteAsk (a b : List ℕ) (n m room : ℕ) : Type 0 where
   pub both : BothAccepted a b n m
+  pub one-order : orderOf a ≡ orderOf b
   pub fits : room ≡ length (joinedBytes a b)
   pub short : length (joinedBytes a b) ≤ byteLimit
 
@@ -51,6 +53,7 @@ abbrev pub handedBack : Joined → List ℕ → Option (List ℕ)
 handedBack (Whole n) output = some (take n output)
 handedBack (FirstRefused r) output = none
 handedBack (SecondRefused r) output = none
+handedBack OrdersDiffer output = none
 handedBack TooMany output = none
 handedBack TooLong output = none
 handedBack OutputShort output = none

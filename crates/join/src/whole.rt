@@ -4,16 +4,38 @@ use gate::check;
 use paper::BYTE_LIMIT;
 use paper::Checked;
 use paper::Joined;
+use paper::Order;
 use paper::TYPE_LIMIT;
 use scan::clear;
+ghost use mathlib.Core.Path.{_≡_};
 ghost use lib.ListN.{length};
+ghost use Rattle.paper.specs.rules.Word.{sameOrder};
 ghost use Rattle.join.specs.Joins.{BothAccepted, JoinOf, LimitedOf};
 
-// Two accepted tables of n and m types: 18, 19, 20, else the joined blob.
+// Both orders are the same.
+fn same_order(a: Order, b: Order) -> bool
+    ensures { λ r. ⌜ r ≡ sameOrder a b ⌝ }
+{
+    match a {
+        Order::LowFirst => match b {
+            Order::LowFirst => true,
+            Order::HighFirst => false,
+        },
+        Order::HighFirst => match b {
+            Order::LowFirst => false,
+            Order::HighFirst => true,
+        },
+    }
+}
+
+// Two accepted tables of n and m types: 24, 18, 19, 20, else the joined blob.
 fn join_accepted(a: &[u8], b: &[u8], n: u32, m: u32, out: &mut [u8]) -> Joined
     requires { ⌜ BothAccepted (now a) (now b) n m ⌝ }
     ensures { λ r. ⌜ LimitedOf r (now (a .entry)) (now (b .entry)) (now (out .entry)) (now (out .exit)) ⌝ }
 {
+    if !same_order(words::order_of(a), words::order_of(b)) {
+        return Joined::OrdersDiffer;
+    }
     if TYPE_LIMIT < n + m {
         return Joined::TooMany;
     }

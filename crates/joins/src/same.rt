@@ -1,6 +1,7 @@
 // Whether two types of two tables say the same: the info word, names by their bytes, what is referred to by its kind, name and
 // size, one step and no further, all other words as they stand.
 use answers::of_sized;
+use paper::Order;
 use paper::Place;
 use paper::Sized;
 use paper::TypeNo;
@@ -26,12 +27,14 @@ use words::rest_from;
 const NAME: usize = 128;
 
 pub(crate) fn record_at<'a>(blob: &'a [u8], index: &[u32], n: u32, t: u32) -> &'a [u8] {
-    record_of(&blob[..0], blob, index, View { n }, TypeNo(t))
+    let order = words::order_of(blob);
+    record_of(&blob[..0], blob, index, View { n, order }, TypeNo(t))
 }
 
 // The bytes from a name on, as many as are compared.
 fn name_bytes<'a>(blob: &'a [u8], index: &[u32], at: u32) -> &'a [u8] {
-    let strings = strings_of(&blob[..0], blob, index, View { n: 0 });
+    let order = words::order_of(blob);
+    let strings = strings_of(&blob[..0], blob, index, View { n: 0, order });
     first_of(rest_from(strings, at as usize), NAME)
 }
 
@@ -83,11 +86,11 @@ fn same_referent(
 ) -> bool {
     let r = record_at(a, a_index, a_n, t);
     let s = record_at(b, b_index, b_n, u);
-    if kind_of(info_of(r)) != kind_of(info_of(s)) {
+    if kind_of(info_of(words::order_of(a), r)) != kind_of(info_of(words::order_of(b), s)) {
         return false;
     }
-    let i = name_of(r);
-    let j = name_of(s);
+    let i = name_of(words::order_of(a), r);
+    let j = name_of(words::order_of(b), s);
     if !same_name(a, a_index, i.0, b, b_index, j.0) {
         return false;
     }
@@ -133,8 +136,8 @@ fn role_of(kind: u32, i: u32) -> u32 {
 }
 
 // A word behind the head of a record.
-fn word_behind(r: &[u8], i: u32) -> u32 {
-    words::read(rest_from(r, 12 + 4 * (i as usize)), Place(0))
+fn word_behind(order: Order, r: &[u8], i: u32) -> u32 {
+    words::read(order, rest_from(r, 12 + 4 * (i as usize)), Place(0))
 }
 
 // Two records of one info word say the same in every word behind the head.
@@ -148,13 +151,13 @@ fn same_tail(
     b_n: u32,
     s: &[u8],
 ) -> bool {
-    let info = info_of(r);
+    let info = info_of(words::order_of(a), r);
     let kind = kind_of(info);
     let n = tail_words(info);
     let mut i: u32 = 0;
     while i < n {
-        let w = word_behind(r, i);
-        let v = word_behind(s, i);
+        let w = word_behind(words::order_of(a), r, i);
+        let v = word_behind(words::order_of(b), s, i);
         let role = role_of(kind, i);
         if !same_word(a, a_index, a_n, b, b_index, b_n, role, w, v) {
             return false;
@@ -175,13 +178,13 @@ pub(crate) fn same_record(
     b_n: u32,
     s: &[u8],
 ) -> bool {
-    let info = info_of(r);
-    if info != info_of(s) {
+    let info = info_of(words::order_of(a), r);
+    if info != info_of(words::order_of(b), s) {
         return false;
     }
     let role = third_role(kind_of(info));
-    let w = third_of(r);
-    let v = third_of(s);
+    let w = third_of(words::order_of(a), r);
+    let v = third_of(words::order_of(b), s);
     if !same_word(a, a_index, a_n, b, b_index, b_n, role, w, v) {
         return false;
     }

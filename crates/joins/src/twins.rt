@@ -31,11 +31,11 @@ fn is_titled(kind: u32) -> bool {
 
 // Two records have one kind and one name.
 fn is_twin(a: &[u8], a_index: &[u32], r: &[u8], b: &[u8], b_index: &[u32], s: &[u8]) -> bool {
-    if kind_of(info_of(r)) != kind_of(info_of(s)) {
+    if kind_of(info_of(words::order_of(a), r)) != kind_of(info_of(words::order_of(b), s)) {
         return false;
     }
-    let i = name_of(r);
-    let j = name_of(s);
+    let i = name_of(words::order_of(a), r);
+    let j = name_of(words::order_of(b), s);
     same_name(a, a_index, i.0, b, b_index, j.0)
 }
 
@@ -50,11 +50,12 @@ fn twin_of(
     t: u32,
 ) -> u32 {
     let r = record_at(a, a_index, a_n, t);
-    let at = name_of(r);
+    let order = words::order_of(a);
+    let at = name_of(order, r);
     if at.0 == 0 {
         return 0;
     }
-    if !is_titled(kind_of(info_of(r))) {
+    if !is_titled(kind_of(info_of(order, r))) {
         return 0;
     }
     let mut first: u32 = 0;

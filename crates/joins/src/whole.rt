@@ -80,9 +80,11 @@ fn refused(which: &[u8], file: &[u8], blob: &[u8], told: Numbers) -> Status {
     end(&mut buf, o, Status::Refused)
 }
 
-// Two tables that do not go together: reports 18, 19 and 20.
+// Two tables that do not go together: reports 24, 18, 19 and 20.
 fn apart(k: u32) -> Status {
-    let whys = b"report 18: together there are more than 16384 types\n\
+    let whys =
+        b"report 24: the tables have different byte orders: one is little-endian, the other big-endian\n\
+        report 18: together there are more than 16384 types\n\
         report 19: the joined table would have over 262144 bytes\n\
         report 20: the output is shorter than the joined table\n";
     let mut buf = [0u8; ROOM];
@@ -107,9 +109,10 @@ fn unjoined(j: Joined, a_file: &[u8], a: &[u8], b_file: &[u8], b: &[u8]) -> Stat
             b,
             of_report(r),
         ),
-        Joined::TooMany => apart(0),
-        Joined::TooLong => apart(1),
-        _ => apart(2),
+        Joined::OrdersDiffer => apart(0),
+        Joined::TooMany => apart(1),
+        Joined::TooLong => apart(2),
+        _ => apart(3),
     }
 }
 

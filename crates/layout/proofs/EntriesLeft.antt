@@ -14,7 +14,8 @@ use Rattle.paper.specs.terms.Reading.{wordsFrom, recordIn}
 use Rattle.paper.specs.rules.Section.{Entry, entriesIn, coversSize, entryCovers, placedFrom, sectionOk}
 use Rattle.paper.specs.rules.Size.{exactSize}
 use Rattle.paper.specs.rules.Table.{Record, Table, tailLength}
-use Rattle.paper.specs.rules.Word.{lowFirst, wordAt}
+use Rattle.paper.specs.declared.Order.{Order}
+use Rattle.paper.specs.rules.Word.{wordAt}
 use Rattle.rows.proofs.RoleCodes.{tailLength-few}
 
 -- ── one entry's place ──
@@ -38,10 +39,10 @@ module _ (end free from size : ℕ) where
 
 -- ── what is left of the entries ──
 
-module _ (s : List ℕ) where
+module _ (order : Order) (s : List ℕ) where
   -- the entries in so many words from a place on
   abbrev entriesFrom : ℕ → ℕ → List Entry
-  entriesFrom p n = entriesIn (wordsFrom lowFirst s p n)
+  entriesFrom p n = entriesIn (wordsFrom order s p n)
 
   entries-few : (p n : ℕ) → n < 3 → entriesFrom p n ≡ []
   entries-few p zero h = refl
@@ -51,11 +52,11 @@ module _ (s : List ℕ) where
 
   entries-first : (p n : ℕ)
       → entriesFrom p (suc (suc (suc n)))
-      ≡ record { variable = wordAt lowFirst s p; offset = wordAt lowFirst s (p + 4); size = wordAt lowFirst s (p + 8) } ∷ entriesFrom (p + 12) n
+      ≡ record { variable = wordAt order s p; offset = wordAt order s (p + 4); size = wordAt order s (p + 8) } ∷ entriesFrom (p + 12) n
   entries-first p n =
       let third : p + 4 + 4 ≡ p + 8 = omega arith in
       let behind : p + 4 + 4 + 4 ≡ p + 12 = omega arith in
-      λ i. record { variable = wordAt lowFirst s p; offset = wordAt lowFirst s (p + 4); size = wordAt lowFirst s (third i) } ∷ entriesFrom (behind i) n
+      λ i. record { variable = wordAt order s p; offset = wordAt order s (p + 4); size = wordAt order s (third i) } ∷ entriesFrom (behind i) n
 
 -- both rules of some entries behind an end
 abbrev set : Table → ℕ → ℕ → List Entry → Bool
@@ -77,26 +78,26 @@ place-taken false true rest e = refl
 place-taken false false rest e = absurd (false≢true e)
 
 -- so many words of a tail are left, from a place on, behind an end
-pub record Setting (T : Table) (r : Record) (s : List ℕ) (p left free : ℕ) : Type 0 where
+pub record Setting (T : Table) (r : Record) (order : Order) (s : List ℕ) (p left free : ℕ) : Type 0 where
   pub near : p + 4 * left ≤ 786444
-  pub rest : sectionOk T r ≡ set T (r .third) free (entriesFrom s p left)
+  pub rest : sectionOk T r ≡ set T (r .third) free (entriesFrom order s p left)
 
-pub setting-start : (T : Table) (s : List ℕ) {w n : ℕ} → w ≡ wordAt lowFirst s 4 → n ≡ tailLength w → Setting T (recordIn lowFirst s) s 12 n 0
+pub setting-start : (T : Table) (order : Order) (s : List ℕ) {w n : ℕ} → w ≡ wordAt order s 4 → n ≡ tailLength w → Setting T (recordIn order s) order s 12 n 0
 unfolding sectionOk
-setting-start T s {w} {n} e d =
+setting-start T order s {w} {n} e d =
     record {
       near = omega (arith, d, tailLength-few w);
-      rest = ap (λ (ws : List ℕ). set T (recordIn lowFirst s .third) 0 (entriesIn ws)) (tail-read s e d);
+      rest = ap (λ (ws : List ℕ). set T (recordIn order s .third) 0 (entriesIn ws)) (tail-read order s e d);
     }
 
-module _ {T : Table} {r : Record} {s : List ℕ} {p left free : ℕ} (now : Setting T r s p left free) where
+module _ {T : Table} {r : Record} {order : Order} {s : List ℕ} {p left free : ℕ} (now : Setting T r order s p left free) where
   pub setting-done : left < 3 → true ≡ sectionOk T r
-  setting-done h = sym (now .rest ∙ ap (set T (r .third) free) (entries-few s p left h) ∙ or-true (eqb (r .third) 0))
+  setting-done h = sym (now .rest ∙ ap (set T (r .third) free) (entries-few order s p left h) ∙ or-true (eqb (r .third) 0))
 
-  module _ (some : 3 ≤ left) {v from size : ℕ} (variable : v ≡ wordAt lowFirst s p) (offset : from ≡ wordAt lowFirst s (p + 4))
-      (long : size ≡ wordAt lowFirst s (p + 8)) {x : Bool} (covers : x ≡ coversSize size (exactSize T v)) where
+  module _ (some : 3 ≤ left) {v from size : ℕ} (variable : v ≡ wordAt order s p) (offset : from ≡ wordAt order s (p + 4))
+      (long : size ≡ wordAt order s (p + 8)) {x : Bool} (covers : x ≡ coversSize size (exactSize T v)) where
     abbrev behind : List Entry
-    behind = entriesFrom s (p + 12) (left - 3)
+    behind = entriesFrom order s (p + 12) (left - 3)
 
     abbrev others : Bool
     others = every (entryCovers T) behind
@@ -110,8 +111,8 @@ module _ {T : Table} {r : Record} {s : List ℕ} {p left free : ℕ} (now : Sett
     first =
         let three : left ≡ suc (suc (suc (left - 3))) = omega arith in
         now .rest
-        ∙ ap (λ (n : ℕ). set T (r .third) free (entriesFrom s p n)) three
-        ∙ ap (set T (r .third) free) (entries-first s p (left - 3))
+        ∙ ap (λ (n : ℕ). set T (r .third) free (entriesFrom order s p n)) three
+        ∙ ap (set T (r .third) free) (entries-first order s p (left - 3))
         ∙ sym
         ((λ i. (coversSize (long i) (exactSize T (variable i)) && others)
         && (eqb (r .third) 0 || ((leb free (offset i) && leb (offset i + long i) (r .third)) && placedFrom (r .third) (offset i + long i) behind))))
@@ -133,7 +134,7 @@ module _ {T : Table} {r : Record} {s : List ℕ} {p left free : ℕ} (now : Sett
           ∙ ap (λ (t : Bool). others && t) (place-refused (eqb (r .third) 0) (leb free from && leb (from + size) (r .third)) _ (placed-here ∙ not-true y e))
           ∙ and-false others)
 
-      pub setting-next : not y ≡ false → Setting T r s (p + 12) (left - 3) (from + size)
+      pub setting-next : not y ≡ false → Setting T r order s (p + 12) (left - 3) (from + size)
       setting-next e =
           record {
             near = omega (arith, now .near);

@@ -9,7 +9,8 @@ use borrow.Author.Tests.{not-true, not-false}
 use Rattle.paper.specs.terms.Reading.{recordIn}
 use Rattle.paper.specs.rules.Span.{isAlias, baseFrom, baseOf}
 use Rattle.paper.specs.rules.Table.{Record, Table, count, recordAt, kindAt}
-use Rattle.paper.specs.rules.Word.{lowFirst, wordAt}
+use Rattle.paper.specs.declared.Order.{Order}
+use Rattle.paper.specs.rules.Word.{wordAt}
 use Rattle.rows.proofs.RecordWords.{third-read}
 
 -- so many steps are left at a type, and lead where all lead from the first
@@ -32,13 +33,13 @@ module _ {T : Table} {n t left at : ℕ} (now : Leading T n t left at) where
     pub leading-stop : not a ≡ true → at ≡ baseFrom T n t
     leading-stop e = sym (step ∙ ap (λ (b : Bool). cond b (baseFrom T (left - 1) (recordAt T at .third)) at) (not-true a e))
 
-    pub leading-next : not a ≡ false → (s : List ℕ) → recordIn lowFirst s ≡ recordAt T at → {u : ℕ} → u ≡ wordAt lowFirst s 8 → Leading T n t (left - 1) u
-    leading-next e s is third =
+    pub leading-next : not a ≡ false → (order : Order) (s : List ℕ) → recordIn order s ≡ recordAt T at → {u : ℕ} → u ≡ wordAt order s 8 → Leading T n t (left - 1) u
+    leading-next e order s is third =
         record {
           rest =
               step
               ∙ ap (λ (b : Bool). cond b (baseFrom T (left - 1) (recordAt T at .third)) at) (not-false a e)
-              ∙ ap (baseFrom T (left - 1)) (sym (third-read s is third));
+              ∙ ap (baseFrom T (left - 1)) (sym (third-read order s is third));
         }
 
 -- the base's record, from its number

@@ -18,7 +18,8 @@ use Rattle.paper.specs.terms.Reading.{wordsFrom, recordIn}
 use Rattle.paper.specs.rules.Size.{smallSize}
 use Rattle.paper.specs.rules.Span.{Member, membersIn, baseOf, bitOffset, plainSpan, fieldSpan, spanOfSize, spanOf, endsBy}
 use Rattle.paper.specs.rules.Table.{Record, Table, kindOf, flagOf, tailLength}
-use Rattle.paper.specs.rules.Word.{lowFirst, wordAt}
+use Rattle.paper.specs.declared.Order.{Order}
+use Rattle.paper.specs.rules.Word.{wordAt}
 use Rattle.rows.proofs.RoleCodes.{tailLength-few}
 
 -- ── one member ──
@@ -61,10 +62,10 @@ offsets-first false before o os = refl
 
 -- ── what is left of the members ──
 
-module _ (s : List ℕ) where
+module _ (order : Order) (s : List ℕ) where
   -- the members in so many words from a place on
   abbrev membersFrom : ℕ → ℕ → List Member
-  membersFrom p n = membersIn (wordsFrom lowFirst s p n)
+  membersFrom p n = membersIn (wordsFrom order s p n)
 
   members-few : (p n : ℕ) → n < 3 → membersFrom p n ≡ []
   members-few p zero h = refl
@@ -72,11 +73,11 @@ module _ (s : List ℕ) where
   members-few p (suc (suc zero)) h = refl
   members-few p (suc (suc (suc n))) h = absurd (omega arith)
 
-  members-first : (p n : ℕ) → membersFrom p (suc (suc (suc n))) ≡ memberAt s p ∷ membersFrom (p + 12) n
+  members-first : (p n : ℕ) → membersFrom p (suc (suc (suc n))) ≡ memberAt order s p ∷ membersFrom (p + 12) n
   members-first p n =
       let third : p + 4 + 4 ≡ p + 8 = omega arith in
       let behind : p + 4 + 4 + 4 ≡ p + 12 = omega arith in
-      λ i. record { name = wordAt lowFirst s p; type = wordAt lowFirst s (p + 4); offset = wordAt lowFirst s (third i) } ∷ membersFrom (behind i) n
+      λ i. record { name = wordAt order s p; type = wordAt order s (p + 4); offset = wordAt order s (third i) } ∷ membersFrom (behind i) n
 
 module _ (T : Table) (r : Record) where
   -- both rules of some members behind an offset
@@ -97,32 +98,32 @@ module _ (T : Table) (r : Record) where
       (offsets-first (eqb (kindOf r) UNION) before (bitOffset (flagOf r) m) (map (bitOffset (flagOf r)) ms))
 
 -- so many words of a tail are left, from a place on, behind an offset
-pub record Laying (T : Table) (r : Record) (s : List ℕ) (p left before : ℕ) : Type 0 where
+pub record Laying (T : Table) (r : Record) (order : Order) (s : List ℕ) (p left before : ℕ) : Type 0 where
   pub near : p + 4 * left ≤ 786444
-  pub rest : membersOk T r ≡ laid T r before (membersFrom s p left)
+  pub rest : membersOk T r ≡ laid T r before (membersFrom order s p left)
 
-pub laying-start : (T : Table) (s : List ℕ) {w n : ℕ} → w ≡ wordAt lowFirst s 4 → n ≡ tailLength w → Laying T (recordIn lowFirst s) s 12 n 0
+pub laying-start : (T : Table) (order : Order) (s : List ℕ) {w n : ℕ} → w ≡ wordAt order s 4 → n ≡ tailLength w → Laying T (recordIn order s) order s 12 n 0
 unfolding membersOk offsetsOk
-laying-start T s {w} {n} e d =
-    let r = recordIn lowFirst s in
+laying-start T order s {w} {n} e d =
+    let r = recordIn order s in
     record {
       near = omega (arith, d, tailLength-few w);
-      rest = ap (λ (ws : List ℕ). laid T r 0 (membersIn ws)) (tail-read s e d);
+      rest = ap (λ (ws : List ℕ). laid T r 0 (membersIn ws)) (tail-read order s e d);
     }
 
-module _ {T : Table} {r : Record} {s : List ℕ} {p left before : ℕ} (now : Laying T r s p left before) where
+module _ {T : Table} {r : Record} {order : Order} {s : List ℕ} {p left before : ℕ} (now : Laying T r order s p left before) where
   pub laying-done : left < 3 → true ≡ membersOk T r
-  laying-done h = sym (now .rest ∙ ap (laid T r before) (members-few s p left h) ∙ laid-none T r before)
+  laying-done h = sym (now .rest ∙ ap (laid T r before) (members-few order s p left h) ∙ laid-none T r before)
 
-  module _ (some : 3 ≤ left) {f z : ℕ} (flag : f ≡ flagOf r) (size : z ≡ r .third) {x : Bool} (ends : x ≡ endsBy (8 * z) (spanOf T f (memberAt s p))) where
+  module _ (some : 3 ≤ left) {f z : ℕ} (flag : f ≡ flagOf r) (size : z ≡ r .third) {x : Bool} (ends : x ≡ endsBy (8 * z) (spanOf T f (memberAt order s p))) where
     abbrev o : ℕ
-    o = bitOffset (flagOf r) (memberAt s p)
+    o = bitOffset (flagOf r) (memberAt order s p)
 
     abbrev behind : Bool
-    behind = every (memberOk T r) (membersFrom s (p + 12) (left - 3))
+    behind = every (memberOk T r) (membersFrom order s (p + 12) (left - 3))
 
     abbrev offsets : Bool
-    offsets = offsetsFrom (eqb (kindOf r) UNION) o (map (bitOffset (flagOf r)) (membersFrom s (p + 12) (left - 3)))
+    offsets = offsetsFrom (eqb (kindOf r) UNION) o (map (bitOffset (flagOf r)) (membersFrom order s (p + 12) (left - 3)))
 
     -- the first of those that are left, by its two tests
     first : membersOk T r ≡ (x && behind) && (follows T r before o && offsets)
@@ -130,15 +131,15 @@ module _ {T : Table} {r : Record} {s : List ℕ} {p left before : ℕ} (now : La
     first =
         let three : left ≡ suc (suc (suc (left - 3))) = omega arith in
         now .rest
-        ∙ ap (λ (n : ℕ). laid T r before (membersFrom s p n)) three
-        ∙ ap (laid T r before) (members-first s p (left - 3))
-        ∙ laid-first T r before (memberAt s p) (membersFrom s (p + 12) (left - 3))
-        ∙ sym (ap (λ (t : Bool). (t && behind) && (follows T r before o && offsets)) (ends ∙ (λ i. endsBy (8 * size i) (spanOf T (flag i) (memberAt s p)))))
+        ∙ ap (λ (n : ℕ). laid T r before (membersFrom order s p n)) three
+        ∙ ap (laid T r before) (members-first order s p (left - 3))
+        ∙ laid-first T r before (memberAt order s p) (membersFrom order s (p + 12) (left - 3))
+        ∙ sym (ap (λ (t : Bool). (t && behind) && (follows T r before o && offsets)) (ends ∙ (λ i. endsBy (8 * size i) (spanOf T (flag i) (memberAt order s p)))))
 
     pub laying-bad : not x ≡ true → false ≡ membersOk T r
     laying-bad e = sym (first ∙ ap (λ (t : Bool). (t && behind) && (follows T r before o && offsets)) (not-true x e))
 
-    module _ (good : not x ≡ false) {w v : ℕ} (word : w ≡ wordAt lowFirst s (p + 8)) (bit : v ≡ bitOffset f (withOffset w))
+    module _ (good : not x ≡ false) {w v : ℕ} (word : w ≡ wordAt order s (p + 8)) (bit : v ≡ bitOffset f (withOffset w))
         {k : ℕ} (kind : k ≡ kindOf r) {y : Bool} (test : y ≡ cond (eqb k UNION) (eqb 0 v) (leb before v)) where
       same : v ≡ o
       same = bit ∙ (λ i. bitOffset (flag i) (withOffset (word i)))
@@ -152,12 +153,12 @@ module _ {T : Table} {r : Record} {s : List ℕ} {p left before : ℕ} (now : La
       pub laying-falls : not y ≡ true → false ≡ membersOk T r
       laying-falls e = sym (second ∙ ap (λ (t : Bool). behind && (t && offsets)) (not-true y e) ∙ and-false behind)
 
-      pub laying-next : not y ≡ false → Laying T r s (p + 12) (left - 3) v
+      pub laying-next : not y ≡ false → Laying T r order s (p + 12) (left - 3) v
       laying-next e =
           record {
             near = omega (arith, now .near);
             rest =
                 second
                 ∙ ap (λ (t : Bool). behind && (t && offsets)) (not-false y e)
-                ∙ sym (ap (λ (b : ℕ). laid T r b (membersFrom s (p + 12) (left - 3))) same);
+                ∙ sym (ap (λ (b : ℕ). laid T r b (membersFrom order s (p + 12) (left - 3))) same);
           }

@@ -9,7 +9,6 @@ use views::word_of;
 ghost use mathlib.Core.Path.{_≡_};
 ghost use Rattle.paper.specs.terms.Reading.{recordIn};
 ghost use Rattle.paper.specs.rules.Span.{baseOf};
-ghost use Rattle.paper.specs.rules.Word.{lowFirst};
 ghost use Rattle.views.specs.Shown.{tableBy};
 
 // The record of the base. No chain of aliases is longer than there are types, so that many steps are enough.
@@ -20,7 +19,7 @@ pub(crate) fn base_record<'a>(
     view: View,
     t: TypeNo,
 ) -> &'a [u8]
-    ensures { λ r. ⌜ recordIn lowFirst (now r) ≡ baseOf (tableBy (now (base .entry)) (now (b .entry)) (now (index .entry)) view) (t .0) ⌝ }
+    ensures { λ r. ⌜ recordIn (view .order) (now r) ≡ baseOf (tableBy (now (base .entry)) (now (b .entry)) (now (index .entry)) view) (t .0) ⌝ }
 {
     let mut at = t.0;
     let mut left = view.n;

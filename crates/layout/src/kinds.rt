@@ -27,12 +27,19 @@ pub fn layout_ok<'a>(base: &'a [u8], b: &'a [u8], index: &[u32], view: View, t: 
     ensures { λ r. ⌜ r ≡ layoutOk (tableBy (now (base .entry)) (now (b .entry)) (now (index .entry)) view) (recordAt (tableBy (now (base .entry)) (now (b .entry)) (now (index .entry)) view) (t .0)) ⌝ }
 {
     let bytes = record_of(base, b, index, view, t);
-    match kind_of(words::read(bytes, Place(4))) {
+    let order = view.order;
+    match kind_of(words::read(order, bytes, Place(4))) {
         ARRAY => array_ok(base, b, index, view, bytes),
         STRUCT => members_ok(base, b, index, view, bytes),
         UNION => members_ok(base, b, index, view, bytes),
         FUNC => function_ok(base, b, index, view, bytes),
-        VAR => has_small_size(base, b, index, view, TypeNo(words::read(bytes, Place(8)))),
+        VAR => has_small_size(
+            base,
+            b,
+            index,
+            view,
+            TypeNo(words::read(order, bytes, Place(8))),
+        ),
         DATASEC => section_ok(base, b, index, view, bytes),
         DECL_TAG => tag_ok(base, b, index, view, bytes),
         _ => true,

@@ -19,7 +19,6 @@ ghost use Rattle.spans.specs.Spanned.{memberAt};
 ghost use Rattle.paper.specs.rules.Layout.{membersOk};
 ghost use Rattle.paper.specs.terms.Reading.{recordIn};
 ghost use Rattle.paper.specs.rules.Span.{endsBy, spanOf};
-ghost use Rattle.paper.specs.rules.Word.{lowFirst};
 ghost use Rattle.views.specs.Shown.{tableBy};
 
 // The member whose words stand at a place ends by so many bytes.
@@ -34,17 +33,18 @@ fn member_ok<'a>(
     size: u32,
 ) -> bool
     requires { ⌜ (at .0 < 1000000) ⌝ }
-    ensures { λ r. ⌜ r ≡ endsBy (8 * size) (spanOf (tableBy (now (base .entry)) (now (b .entry)) (now (index .entry)) view) flag (memberAt (now (bytes .entry)) (at .0))) ⌝ }
+    ensures { λ r. ⌜ r ≡ endsBy (8 * size) (spanOf (tableBy (now (base .entry)) (now (b .entry)) (now (index .entry)) view) flag (memberAt (view .order) (now (bytes .entry)) (at .0))) ⌝ }
 {
+    let order = view.order;
     let p = at.0;
     let second = p + 4;
-    let t = TypeNo(words::read(bytes, Place(second)));
+    let t = TypeNo(words::read(order, bytes, Place(second)));
     let third = p + 8;
-    let offset = words::read(bytes, Place(third));
+    let offset = words::read(order, bytes, Place(third));
     match size_of(base, b, index, view, t) {
         Sized::Exact(s) => {
             let under = base_record(base, b, index, view, t);
-            span_ends(under, flag, offset, s, 8 * (size as u64))
+            span_ends(order, under, flag, offset, s, 8 * (size as u64))
         }
         Sized::NoSize => false,
         Sized::Overflow => false,
@@ -71,10 +71,11 @@ pub(crate) fn members_ok<'a>(
     view: View,
     bytes: &[u8],
 ) -> bool
-    ensures { λ r. ⌜ r ≡ membersOk (tableBy (now (base .entry)) (now (b .entry)) (now (index .entry)) view) (recordIn lowFirst (now (bytes .entry))) ⌝ }
+    ensures { λ r. ⌜ r ≡ membersOk (tableBy (now (base .entry)) (now (b .entry)) (now (index .entry)) view) (recordIn (view .order) (now (bytes .entry))) ⌝ }
 {
-    let info = words::read(bytes, Place(4));
-    let size = words::read(bytes, Place(8));
+    let order = view.order;
+    let info = words::read(order, bytes, Place(4));
+    let size = words::read(order, bytes, Place(8));
     let flag = flag_of(info);
     let kind = kind_of(info);
     let mut p: u32 = 12;
@@ -85,7 +86,8 @@ pub(crate) fn members_ok<'a>(
             return false;
         }
         let third = p + 8;
-        let offset = bit_offset(flag, words::read(bytes, Place(third)));
+        let order = view.order;
+        let offset = bit_offset(flag, words::read(order, bytes, Place(third)));
         if !follows(kind == UNION, before, offset) {
             return false;
         }

@@ -10,7 +10,6 @@ ghost use Prim.Native.Nat.{_+_};
 ghost use lib.Dec.{eqb, leb};
 ghost use Rattle.paper.specs.terms.Reading.{recordIn};
 ghost use Rattle.paper.specs.rules.Section.{sectionOk};
-ghost use Rattle.paper.specs.rules.Word.{lowFirst};
 ghost use Rattle.views.specs.Shown.{tableBy};
 
 // Where the section's size is not 0, an entry begins where the one before ends or later, and ends inside.
@@ -34,18 +33,20 @@ pub(crate) fn section_ok<'a>(
     view: View,
     bytes: &[u8],
 ) -> bool
-    ensures { λ r. ⌜ r ≡ sectionOk (tableBy (now (base .entry)) (now (b .entry)) (now (index .entry)) view) (recordIn lowFirst (now (bytes .entry))) ⌝ }
+    ensures { λ r. ⌜ r ≡ sectionOk (tableBy (now (base .entry)) (now (b .entry)) (now (index .entry)) view) (recordIn (view .order) (now (bytes .entry))) ⌝ }
 {
-    let end = words::read(bytes, Place(8));
+    let order = view.order;
+    let end = words::read(order, bytes, Place(8));
     let mut p: u32 = 12;
-    let mut left = tail_words(words::read(bytes, Place(4)));
+    let mut left = tail_words(words::read(order, bytes, Place(4)));
     let mut free: u64 = 0;
     while 3 <= left {
-        let variable = TypeNo(words::read(bytes, Place(p)));
+        let order = view.order;
+        let variable = TypeNo(words::read(order, bytes, Place(p)));
         let second = p + 4;
-        let from = words::read(bytes, Place(second));
+        let from = words::read(order, bytes, Place(second));
         let third = p + 8;
-        let size = words::read(bytes, Place(third));
+        let size = words::read(order, bytes, Place(third));
         if !covers(base, b, index, view, variable, size) {
             return false;
         }

@@ -17,7 +17,8 @@ use Rattle.paper.specs.rules.Choice.{times}
 use Rattle.paper.specs.rules.Kind.{Role, names, refers, holds, number, rowOf}
 use Rattle.paper.specs.terms.Reading.{wordsFrom, recordIn}
 use Rattle.paper.specs.rules.Table.{Record, kindIn, vlenIn, tailLength, tailRoles, rolesOf, wordsOf}
-use Rattle.paper.specs.rules.Word.{lowFirst, wordAt}
+use Rattle.paper.specs.declared.Order.{Order}
+use Rattle.paper.specs.rules.Word.{wordAt}
 use Rattle.paper.proofs.bytes.Reading.{length-times, length-recordIn}
 use Rattle.rows.proofs.RecordWords.{getD-wordsFrom}
 use Rattle.rows.proofs.RoleCodes.{nameCode-range, refCode-range, roleCode-high, between-in, between-out}
@@ -143,14 +144,14 @@ heldWord-held (holds rule) w us h = refl
 
 -- ── the words of the record that some bytes begin with ──
 
-module _ (s : List ℕ) where
+module _ (order : Order) (s : List ℕ) where
   abbrev rec : Record
-  rec = recordIn lowFirst s
+  rec = recordIn order s
 
   abbrev infoOf : ℕ
-  infoOf = wordAt lowFirst s 4
+  infoOf = wordAt order s 4
 
-  words-from : wordsOf rec ≡ wordsFrom lowFirst s 0 (suc (suc (suc (tailLength infoOf))))
+  words-from : wordsOf rec ≡ wordsFrom order s 0 (suc (suc (suc (tailLength infoOf))))
   unfolding recordIn
   words-from = refl
 
@@ -163,31 +164,31 @@ module _ (s : List ℕ) where
 
   -- what is held from a word on, by what the word is and what is held from the next
   heldFrom-step : (i : ℕ) → i < 3 + tailLength infoOf
-      → heldFrom rec i ≡ heldWord (getD (rolesBy infoOf) i number) (wordAt lowFirst s (4 * i)) (heldFrom rec (i + 1))
+      → heldFrom rec i ≡ heldWord (getD (rolesBy infoOf) i number) (wordAt order s (4 * i)) (heldFrom rec (i + 1))
   unfolding heldFrom
   heldFrom-step i h =
       let zero-more : 0 + 4 * i ≡ 4 * i = omega arith in
       let next = sym (add-one i) in
       let role : getD (rolesOf rec) i number ≡ getD (rolesBy infoOf) i number = ap (λ (ρs : List Role). getD ρs i number) roles-by in
-      let word : getD (wordsOf rec) i 0 ≡ wordAt lowFirst s (4 * i) =
+      let word : getD (wordsOf rec) i 0 ≡ wordAt order s (4 * i) =
       ap (λ (ws : List ℕ). getD ws i 0) words-from
-      ∙ getD-wordsFrom s 0 (suc (suc (suc (tailLength infoOf)))) i (omega arith)
-      ∙ ap (wordAt lowFirst s) zero-more in
-      ap₂ heldIn (drop-cons (rolesOf rec) i number (omega (arith, length-roles))) (drop-cons (wordsOf rec) i 0 (omega (arith, length-recordIn lowFirst s)))
+      ∙ getD-wordsFrom order s 0 (suc (suc (suc (tailLength infoOf)))) i (omega arith)
+      ∙ ap (wordAt order s) zero-more in
+      ap₂ heldIn (drop-cons (rolesOf rec) i number (omega (arith, length-roles))) (drop-cons (wordsOf rec) i 0 (omega (arith, length-recordIn order s)))
       ∙ (λ x. heldWord (role x) (word x) (heldIn (drop (next x) (rolesOf rec)) (drop (next x) (wordsOf rec))))
 
   heldFrom-end : (i : ℕ) → 3 + tailLength infoOf ≤ i → heldFrom rec i ≡ []
   unfolding heldFrom
   heldFrom-end i h = ap₂ heldIn (drop-of-length-le (rolesOf rec) {i = i} (omega (arith, length-roles))) refl
 
-  module _ {info i : ℕ} (at : WordOf s info i) where
+  module _ {info i : ℕ} (at : WordOf order s info i) where
     within-here : i < 3 + tailLength infoOf
     within-here = omega (arith, at .within, length-rolesBy info, ap tailLength (at .read))
 
-    step-here : heldFrom rec i ≡ heldWord (getD (rolesBy info) i number) (wordAt lowFirst s (4 * i)) (heldFrom rec (i + 1))
+    step-here : heldFrom rec i ≡ heldWord (getD (rolesBy info) i number) (wordAt order s (4 * i)) (heldFrom rec (i + 1))
     step-here =
         heldFrom-step i within-here
-        ∙ ap (λ (w : ℕ). heldWord (getD (rolesBy w) i number) (wordAt lowFirst s (4 * i)) (heldFrom rec (i + 1))) (sym (at .read))
+        ∙ ap (λ (w : ℕ). heldWord (getD (rolesBy w) i number) (wordAt order s (4 * i)) (heldFrom rec (i + 1))) (sym (at .read))
 
     pub held-not : {code : ℕ} {z : Bool} → code ≡ roleAt (rolesBy info) i → z ≡ isHeldCode code → not z ≡ true
         → heldFrom rec i ≡ stepTo 0 (heldFrom rec (i + 1))
@@ -197,7 +198,7 @@ module _ (s : List ℕ) where
         let low : code < 13 = ⊎-elim (λ h. h) (λ h. absurd (omega arith)) (between-out 13 18 code (sym asked ∙ not-true z n)) in
         step-here ∙ heldWord-other ρ _ _ (omega arith)
 
-    pub held-word : {code : ℕ} {z : Bool} → code ≡ roleAt (rolesBy info) i → z ≡ isHeldCode code → not z ≡ false → {w : ℕ} → w ≡ wordAt lowFirst s (4 * i)
+    pub held-word : {code : ℕ} {z : Bool} → code ≡ roleAt (rolesBy info) i → z ≡ isHeldCode code → not z ≡ false → {w : ℕ} → w ≡ wordAt order s (4 * i)
         → heldFrom rec i ≡ stepTo w (heldFrom rec (i + 1))
     held-word {code} {z} e asked n d =
         let h = between-in 13 18 code (sym asked ∙ not-false z n) in
@@ -231,6 +232,6 @@ module _ {r : Record} {from i : ℕ} (look : Looking r from i) {u : ℕ} (step :
         inside = omega arith;
       }
 
-pub looking-done : (s : List ℕ) {from i info : ℕ} → Looking (recordIn lowFirst s) from i → info ≡ wordAt lowFirst s 4 → {tail : ℕ} → tail ≡ tailLength info
-    → 3 + tail ≤ i → heldFrom (recordIn lowFirst s) from ≡ []
-looking-done s {i = i} look read e h = look .same ∙ heldFrom-end s i (omega (arith, ap tailLength read))
+pub looking-done : (order : Order) (s : List ℕ) {from i info : ℕ} → Looking (recordIn order s) from i → info ≡ wordAt order s 4 → {tail : ℕ} → tail ≡ tailLength info
+    → 3 + tail ≤ i → heldFrom (recordIn order s) from ≡ []
+looking-done order s {i = i} look read e h = look .same ∙ heldFrom-end order s i (omega (arith, ap tailLength read))

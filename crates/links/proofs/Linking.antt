@@ -17,7 +17,7 @@ use Rattle.paper.specs.rules.Limits.{typeLimit}
 use Rattle.paper.specs.rules.References.{refsOk, refBad}
 use Rattle.paper.specs.rules.Table.{Record, Table, count, recordAt, wordsOf}
 use Rattle.paper.specs.rules.Walk.{placeAt}
-use Rattle.paper.specs.rules.Word.{lowFirst, wordAt}
+use Rattle.paper.specs.rules.Word.{wordAt}
 use Rattle.rows.proofs.RoleCodes.{tailLength-few}
 use Rattle.views.proofs.Shows.{tableBy-count, startBy-record}
 use Rattle.views.specs.Shown.{tableBy, startBy}
@@ -50,7 +50,7 @@ pub shown-few : (base b index : List ℕ) (v : View) (t : ℕ) → length (words
 shown-few base b index v t =
     let s = drop (startBy base b index v t) b in
     let same = ap (λ (r : Record). length (wordsOf r)) (startBy-record base b index v t) in
-    omega (arith, same, length-recordIn lowFirst s, tailLength-few (wordAt lowFirst s 4))
+    omega (arith, same, length-recordIn (v .order) s, tailLength-few (wordAt (v .order) s 4))
 
 pub searchable : (base b index : List ℕ) (v : View) {work : List ℕ} → (size : ℕ) → work ≡ zeros size → v .n ≤ typeLimit → v .n < size → {r : Linked}
     → linkedAsPaper (tableBy base b index v) r ≡ overTypes phase4 (tableBy base b index v) → r ≡ Good → Unsearched (tableBy base b index v) (v .n) work

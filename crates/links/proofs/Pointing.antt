@@ -25,7 +25,8 @@ use Rattle.paper.specs.terms.Reading.{recordIn}
 use Rattle.paper.specs.rules.Span.{isAlias}
 use Rattle.paper.specs.rules.Table.{Table, recordAt, kindIn}
 use Rattle.paper.specs.rules.Walk.{placeAt}
-use Rattle.paper.specs.rules.Word.{lowFirst, wordAt}
+use Rattle.paper.specs.declared.Order.{Order}
+use Rattle.paper.specs.rules.Word.{wordAt}
 
 -- ── the kinds of a link: PTR, and those of an alias ──
 
@@ -37,13 +38,13 @@ link-alias {k} n e = e ∙ sym (rw (ne-eqb k 2 n) refl)
 
 -- ── a type's step, from its record's bytes ──
 
-module _ (T : Table) (t : ℕ) (s : List ℕ) (is : recordIn lowFirst s ≡ recordAt T t) {w k : ℕ} (info : w ≡ wordAt lowFirst s 4) (kind : k ≡ kindIn w)
+module _ (T : Table) (t : ℕ) (order : Order) (s : List ℕ) (is : recordIn order s ≡ recordAt T t) {w k : ℕ} (info : w ≡ wordAt order s 4) (kind : k ≡ kindIn w)
     {z : Bool} (test : z ≡ isLink k) where
   linked : z ≡ isLink (kindIn (recordAt T t .info))
-  linked = test ∙ ap isLink (kind-read s is info kind)
+  linked = test ∙ ap isLink (kind-read order s is info kind)
 
-  pub link-leads : z ≡ true → {u : ℕ} → u ≡ wordAt lowFirst s 8 → pointedBy T t ≡ stepTo u []
-  link-leads on {u} third = pointedBy-link T t (sym linked ∙ on) ∙ ap (λ (v : ℕ). stepTo v []) (sym (third-read s is third))
+  pub link-leads : z ≡ true → {u : ℕ} → u ≡ wordAt order s 8 → pointedBy T t ≡ stepTo u []
+  link-leads on {u} third = pointedBy-link T t (sym linked ∙ on) ∙ ap (λ (v : ℕ). stepTo v []) (sym (third-read order s is third))
 
   pub link-none : z ≡ false → pointedBy T t ≡ stepTo 0 []
   link-none off = pointedBy-none T t (sym linked ∙ off)

@@ -9,7 +9,8 @@ use Rattle.paper.specs.rules.Chain.{heldIn}
 use Rattle.paper.specs.rules.Choice.{times}
 use Rattle.paper.specs.rules.Kind.{Role, names, number, rowOf}
 use Rattle.paper.specs.rules.Table.{Record, kindIn, vlenIn, rolesOf, wordsOf}
-use Rattle.paper.specs.rules.Word.{lowFirst, wordAt}
+use Rattle.paper.specs.declared.Order.{Order}
+use Rattle.paper.specs.rules.Word.{wordAt}
 
 -- the roles of a tail, and of all words, by the info word alone
 unfoldable pub tailRolesBy : ℕ → List Role
@@ -23,8 +24,8 @@ unfoldable pub heldFrom : Record → ℕ → List ℕ
 heldFrom r j = heldIn (drop j (rolesOf r)) (drop j (wordsOf r))
 
 -- a word of the record that some bytes begin with
-pub record WordOf (s : List ℕ) (info i : ℕ) : Type 0 where
-  pub read : info ≡ wordAt lowFirst s 4
+pub record WordOf (order : Order) (s : List ℕ) (info i : ℕ) : Type 0 where
+  pub read : info ≡ wordAt order s 4
   pub within : i < length (rolesBy info)
 
 -- the next of them is u, and word k is the one behind it

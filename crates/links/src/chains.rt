@@ -46,7 +46,8 @@ fn move_from<'a>(
     ensures { λ r. ⌜ MoveOf (recordAt (tableBy (now (base .entry)) (now (b .entry)) (now (index .entry)) view) (t .0)) (now (work .entry)) (t .0) j (now (work .exit)) r ⌝ }
 {
     let from = t.0 as usize;
-    match next_held(record_of(base, b, index, view, t), j) {
+    let order = view.order;
+    match next_held(order, record_of(base, b, index, view, t), j) {
         Held::Nothing => {
             let mark = work[from];
             work[from] = DONE;

@@ -1,4 +1,5 @@
 // The next by-value reference of a record: the one place that says which references the first sort of walk follows.
+use paper::Order;
 use paper::Place;
 use paper::TypeNo;
 use rows::entry_role;
@@ -16,7 +17,6 @@ ghost use lib.ListN.{length};
 ghost use Rattle.links.specs.Holding.{HeldIs, WordOf, heldFrom, rolesBy, tailRolesBy};
 ghost use Rattle.paper.specs.rules.Chain.{stepTo};
 ghost use Rattle.paper.specs.terms.Reading.{recordIn};
-ghost use Rattle.paper.specs.rules.Word.{lowFirst};
 ghost use Rattle.kindrows.specs.Codes.{roleAt};
 
 // A type that is held, with the number of the word behind the reference, or that no more are held.
@@ -52,26 +52,26 @@ fn role_of(info: u32, i: u32) -> u32
 }
 
 // The type that a word holds by value: 0 for none and for a word of another role.
-fn held_at(bytes: &[u8], info: u32, i: u32) -> u32
-    requires { ⌜ WordOf (now bytes) info i ⌝ }
-    ensures { λ r. ⌜ heldFrom (recordIn lowFirst (now (bytes .entry))) i ≡ stepTo r (heldFrom (recordIn lowFirst (now (bytes .entry))) (i + 1)) ⌝ }
+fn held_at(order: Order, bytes: &[u8], info: u32, i: u32) -> u32
+    requires { ⌜ WordOf order (now bytes) info i ⌝ }
+    ensures { λ r. ⌜ heldFrom (recordIn order (now (bytes .entry))) i ≡ stepTo r (heldFrom (recordIn order (now (bytes .entry))) (i + 1)) ⌝ }
 {
     if !is_held(role_of(info, i)) {
         return 0;
     }
     let at = 4 * i;
-    words::read(bytes, Place(at))
+    words::read(order, bytes, Place(at))
 }
 
 // The first type that a record holds from a word on.
-pub(crate) fn next_held(bytes: &[u8], from: u32) -> Held
-    ensures { λ r. ⌜ HeldIs (recordIn lowFirst (now (bytes .entry))) from r ⌝ }
+pub(crate) fn next_held(order: Order, bytes: &[u8], from: u32) -> Held
+    ensures { λ r. ⌜ HeldIs (recordIn order (now (bytes .entry))) from r ⌝ }
 {
-    let info = words::read(bytes, Place(4));
+    let info = words::read(order, bytes, Place(4));
     let end = 3 + tail_words(info);
     let mut i = from;
     while i < end {
-        let u = held_at(bytes, info, i);
+        let u = held_at(order, bytes, info, i);
         i += 1;
         if u != 0 {
             return Held::Found(TypeNo(u), i);

@@ -31,8 +31,9 @@ fn pointed<'a>(base: &'a [u8], b: &'a [u8], index: &[u32], view: View, t: TypeNo
     ensures { λ r. ⌜ pointedBy (tableBy (now (base .entry)) (now (b .entry)) (now (index .entry)) view) (t .0) ≡ stepTo (r .0) [] ⌝ }
 {
     let s = record_of(base, b, index, view, t);
-    if is_link(kind_of(words::read(s, Place(4)))) {
-        return TypeNo(words::read(s, Place(8)));
+    let order = view.order;
+    if is_link(kind_of(words::read(order, s, Place(4)))) {
+        return TypeNo(words::read(order, s, Place(8)));
     }
     TypeNo(0)
 }

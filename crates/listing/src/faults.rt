@@ -27,7 +27,7 @@ fn walk(blob: &[u8], index: &mut [u32], n: u32) -> u32 {
             end = t;
         } else {
             index[k] = place as u32;
-            place += 12 + 4 * (tail_words(info_of(r)) as usize);
+            place += 12 + 4 * (tail_words(info_of(words::order_of(blob), r)) as usize);
             t += 1;
         }
     }

@@ -14,6 +14,7 @@ use lines::ROOM;
 use lines::put;
 use lines::put_start;
 use lines::put_with;
+use paper::Order;
 use paper::Place;
 use paper::TypeNo;
 use rows::entry_words;
@@ -32,11 +33,12 @@ use titles::put_type;
 
 // An ARRAY: count, element and index.
 fn put_array(buf: &mut [u8; ROOM], o: Out, blob: &[u8], index: &[u32], r: &[u8]) -> Out {
-    let o = put_with(buf, o, b", ", words::read(r, Place(20)) as u64);
+    let order = words::order_of(blob);
+    let o = put_with(buf, o, b", ", words::read(order, r, Place(20)) as u64);
     let o = put(buf, o, b" of ");
-    let o = put_based(buf, o, blob, index, fourth_of(r));
+    let o = put_based(buf, o, blob, index, fourth_of(order, r));
     let o = put(buf, o, b", index ");
-    put_based(buf, o, blob, index, words::read(r, Place(16)))
+    put_based(buf, o, blob, index, words::read(order, r, Place(16)))
 }
 
 fn put_linkage(buf: &mut [u8; ROOM], o: Out, linkage: u32) -> Out {
@@ -53,11 +55,11 @@ fn put_forward(buf: &mut [u8; ROOM], o: Out, flag: u32) -> Out {
 }
 
 // A DECL_TAG: which part of what it is on, if it is on a part.
-fn put_component(buf: &mut [u8; ROOM], o: Out, r: &[u8]) -> Out {
-    if kind_of(info_of(r)) != DECL_TAG {
+fn put_component(buf: &mut [u8; ROOM], o: Out, order: Order, r: &[u8]) -> Out {
+    if kind_of(info_of(order, r)) != DECL_TAG {
         return o;
     }
-    let component = fourth_of(r);
+    let component = fourth_of(order, r);
     if component == 4294967295 {
         return put(buf, o, b", no component");
     }
@@ -66,20 +68,22 @@ fn put_component(buf: &mut [u8; ROOM], o: Out, r: &[u8]) -> Out {
 
 // What a kind alone has.
 fn put_own(buf: &mut [u8; ROOM], o: Out, blob: &[u8], index: &[u32], r: &[u8]) -> Out {
-    let info = info_of(r);
+    let order = words::order_of(blob);
+    let info = info_of(order, r);
     let kind = kind_of(info);
     match kind {
         ARRAY => put_array(buf, o, blob, index, r),
         FWD => put_forward(buf, o, flag_of(info)),
         FUNC => put_linkage(buf, o, vlen_of(info)),
-        VAR => put_linkage(buf, o, fourth_of(r)),
+        VAR => put_linkage(buf, o, fourth_of(order, r)),
         _ => o,
     }
 }
 
 // What a type refers to, with a word for how.
 fn put_referent(buf: &mut [u8; ROOM], o: Out, blob: &[u8], index: &[u32], r: &[u8]) -> Out {
-    let kind = kind_of(info_of(r));
+    let order = words::order_of(blob);
+    let kind = kind_of(info_of(order, r));
     if third_role(kind) == 0 {
         return o;
     }
@@ -87,12 +91,12 @@ fn put_referent(buf: &mut [u8; ROOM], o: Out, blob: &[u8], index: &[u32], r: &[u
     let o = put(buf, o, b", ");
     let o = put(buf, o, line(how, kind));
     let o = put(buf, o, b" ");
-    put_based(buf, o, blob, index, third_of(r))
+    put_based(buf, o, blob, index, third_of(order, r))
 }
 
 // How many entries a type has, with a word for what they are.
-fn put_count(buf: &mut [u8; ROOM], o: Out, r: &[u8]) -> Out {
-    let info = info_of(r);
+fn put_count(buf: &mut [u8; ROOM], o: Out, order: Order, r: &[u8]) -> Out {
+    let info = info_of(order, r);
     let kind = kind_of(info);
     if entry_words(kind) == 0 {
         return o;
@@ -111,8 +115,8 @@ fn put_count(buf: &mut [u8; ROOM], o: Out, r: &[u8]) -> Out {
 }
 
 // The tags' kind_flag, which says that they stand for an attribute.
-fn put_flag(buf: &mut [u8; ROOM], o: Out, r: &[u8]) -> Out {
-    let info = info_of(r);
+fn put_flag(buf: &mut [u8; ROOM], o: Out, order: Order, r: &[u8]) -> Out {
+    let info = info_of(order, r);
     let kind = kind_of(info);
     if kind < DECL_TAG {
         return o;
@@ -128,12 +132,13 @@ fn put_flag(buf: &mut [u8; ROOM], o: Out, r: &[u8]) -> Out {
 
 // What stands behind the size.
 fn put_details(buf: &mut [u8; ROOM], o: Out, blob: &[u8], index: &[u32], r: &[u8]) -> Out {
-    let o = put_numbers(buf, o, b", ", r, b"");
+    let order = words::order_of(blob);
+    let o = put_numbers(buf, o, b", ", order, r, b"");
     let o = put_own(buf, o, blob, index, r);
     let o = put_referent(buf, o, blob, index, r);
-    let o = put_component(buf, o, r);
-    let o = put_count(buf, o, r);
-    put_flag(buf, o, r)
+    let o = put_component(buf, o, order, r);
+    let o = put_count(buf, o, order, r);
+    put_flag(buf, o, order, r)
 }
 
 // The line of a type.
@@ -148,7 +153,7 @@ fn put_line(buf: &mut [u8; ROOM], o: Out, blob: &[u8], index: &[u32], t: u32) ->
 
 // A line for each entry of a record.
 fn put_entries(buf: &mut [u8; ROOM], l: Listed, blob: &[u8], index: &[u32], r: &[u8]) -> Listed {
-    let info = info_of(r);
+    let info = info_of(words::order_of(blob), r);
     if entry_words(kind_of(info)) == 0 {
         return l;
     }

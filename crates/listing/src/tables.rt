@@ -96,7 +96,7 @@ pub fn show_all(buf: &mut [u8; ROOM], o: Out, blob: &[u8], index: &[u32], n: u32
 // A type has this name, byte for byte.
 fn is_named(blob: &[u8], index: &[u32], t: u32, name: &[u8]) -> bool {
     let r = record_of(blob, index, t);
-    check::same(header::name(blob, name_of(r)), name)
+    check::same(header::name(blob, name_of(words::order_of(blob), r)), name)
 }
 
 // Every type of a table of so many that has this name.

@@ -6,14 +6,18 @@ use mathlib.Core.Bool.{Bool, true, false, not, _&&_}
 use mathlib.Core.Logic.{⊎-elim}
 use mathlib.Core.List.{List, [], _∷_}
 use native.Mathlib.Omega.{arith}
-use borrow.Author.Tests.{lt-ltb, le-ltb, not-true, not-false}
+use borrow.Author.Tests.{le-leb, lt-ltb, le-ltb, not-true, not-false}
 use lib.ListN.{length}
-use Rattle.paper.specs.rules.Kind.{Role, names, refers, holds, number, voidOrPlain, plain, anInt, aProto, aVar, taggable}
+use Rattle.paper.specs.declared.Order.{Order}
+use Rattle.paper.specs.rules.Kind.{NameRule, Role, Row, rowOf, rows, names, refers, holds, number, voidOrPlain, plain, anInt, aProto, aVar, taggable}
 use Rattle.paper.specs.rules.Name.{nameIn}
 use Rattle.paper.specs.rules.Names.{nameFits, nameOk, nameWordOk}
-use Rattle.paper.proofs.basics.Choices.{every-getD}
-use Rattle.rows.proofs.RoleCodes.{between-in, between-out}
-use Rattle.kindrows.specs.Codes.{roleOf, isNameCode}
+use Rattle.paper.specs.rules.Word.{wordAt}
+use Rattle.paper.specs.terms.Reading.{roled}
+use Rattle.paper.proofs.basics.Choices.{and-true, and-nothing, every-getD}
+use Rattle.paper.proofs.basics.Rows.{rowOf-every}
+use Rattle.rows.proofs.RoleCodes.{between-in, between-out, nameCode-range, roleOf-roleCode}
+use Rattle.kindrows.specs.Codes.{nameCode, roleCode, roleOf, isNameCode}
 use Rattle.naming.specs.RuleOf.{nameRuleOf}
 
 -- a code of 1 to 6 is that of a name
@@ -82,3 +86,24 @@ module _ (strings : List ℕ) where
         e
         ∙ sym (ap (λ (t : Bool). t && nameFits (nameRuleOf role) w (nameIn strings w)) (lt-ltb w (length strings) h))
         ∙ sym (ap (λ (ρ : Role). nameWordOk strings ρ w) named)
+
+-- the code of a name's rule is that of a name
+pub name-code : (rule : NameRule) {a : ℕ} → a ≡ nameCode rule → isNameCode a ≡ true
+name-code rule {a} e =
+    let at = nameCode-range rule in
+    and-true (le-leb 1 a (omega (arith, at))) (le-leb a 6 (omega (arith, at)))
+
+-- of a head's three words the name alone is asked: no kind has a name for its third
+module _ (order : Order) (strings s : List ℕ) where
+  third-nameless : (k w : ℕ) → nameWordOk strings (roleOf (roleCode (rowOf k .thirdRole))) w ≡ true
+  third-nameless k w =
+      ap (λ (ρ : Role). nameWordOk strings ρ w) (roleOf-roleCode (rowOf k .thirdRole))
+      ∙ rowOf-every (λ (r : Row). nameWordOk strings (r .thirdRole) w) (unfold rows in refl) k
+
+  pub head-name : (k a : ℕ) {t : Bool} → t ≡ nameWordOk strings (roleOf a) (wordAt order s 0)
+      → t ≡ roled order (nameWordOk strings) s 0 (roleOf a ∷ roleOf 0 ∷ roleOf (roleCode (rowOf k .thirdRole)) ∷ [])
+  unfolding roled
+  head-name k a e =
+      e
+      ∙ sym (and-nothing (nameWordOk strings (roleOf a) (wordAt order s 0)))
+      ∙ sym (ap (λ (t : Bool). nameWordOk strings (roleOf a) (wordAt order s 0) && (t && true)) (third-nameless k (wordAt order s 8)))

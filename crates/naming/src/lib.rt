@@ -3,6 +3,7 @@ use idents::Spelt;
 use idents::identifier;
 use idents::section_name;
 use paper::NameOff;
+use paper::Order;
 use paper::Place;
 use rows::entry_role;
 use rows::entry_words;
@@ -12,9 +13,9 @@ use rows::name_role;
 use rows::once_role;
 use rows::once_words;
 use rows::only_numbers;
-use rows::third_role;
 use rows::vlen_of;
 ghost use mathlib.Core.Path.{_≡_};
+ghost use mathlib.Core.Bool.{true};
 ghost use mathlib.Core.List.{[], _∷_};
 ghost use Prim.Native.Nat.{_<_, _≤_};
 ghost use lib.ListN.{length};
@@ -23,8 +24,8 @@ ghost use Rattle.paper.specs.rules.Kind.{rowOf};
 ghost use Rattle.paper.specs.rules.Name.{isIdentifier, nameIn};
 ghost use Rattle.paper.specs.rules.Names.{nameFits, nameWordOk, namesOk};
 ghost use Rattle.paper.specs.terms.Reading.{recordIn, roled, tailRoled};
-ghost use Rattle.paper.specs.rules.Word.{lowFirst, wordAt};
-ghost use Rattle.kindrows.specs.Codes.{roleOf};
+ghost use Rattle.paper.specs.rules.Word.{wordAt};
+ghost use Rattle.kindrows.specs.Codes.{isNameCode, roleOf};
 ghost use Rattle.naming.specs.RuleOf.{nameRuleOf};
 
 // The name at an offset is an identifier, however long.
@@ -53,39 +54,55 @@ fn fits(strings: &[u8], rule: u32, at: NameOff) -> bool
     }
 }
 
-// The word at a place is of a role that is no name, or a name that its rule allows.
-fn word_ok(bytes: &[u8], strings: &[u8], at: Place, role: u32) -> bool
-    ensures { λ r. ⌜ r ≡ nameWordOk (now (strings .entry)) (roleOf role) (wordAt lowFirst (now (bytes .entry)) (at .0)) ⌝ }
+// The word at a place, a name, is one that its rule allows.
+fn name_ok(order: Order, bytes: &[u8], strings: &[u8], at: Place, role: u32) -> bool
+    requires { ⌜ isNameCode role ≡ true ⌝ }
+    ensures { λ r. ⌜ r ≡ nameWordOk (now (strings .entry)) (roleOf role) (wordAt order (now (bytes .entry)) (at .0)) ⌝ }
 {
-    if !is_name(role) {
-        return true;
-    }
-    let off = words::read(bytes, at);
+    let off = words::read(order, bytes, at);
     if strings.len() <= off as usize {
         return false;
     }
     fits(strings, role, NameOff(off))
 }
 
+// The same of a word of any role: what is no name passes. The test stands by itself, so that only a name costs a call.
+fn word_ok(order: Order, bytes: &[u8], strings: &[u8], at: Place, role: u32) -> bool
+    ensures { λ r. ⌜ r ≡ nameWordOk (now (strings .entry)) (roleOf role) (wordAt order (now (bytes .entry)) (at .0)) ⌝ }
+{
+    if !is_name(role) {
+        return true;
+    }
+    name_ok(order, bytes, strings, at, role)
+}
+
 // Three words from a place on.
-fn three_ok(bytes: &[u8], strings: &[u8], at: Place, r0: u32, r1: u32, r2: u32) -> bool
+fn three_ok(
+    order: Order,
+    bytes: &[u8],
+    strings: &[u8],
+    at: Place,
+    r0: u32,
+    r1: u32,
+    r2: u32,
+) -> bool
     requires { ⌜ at .0 < 1000000 ⌝ }
-    ensures { λ r. ⌜ r ≡ roled lowFirst (nameWordOk (now (strings .entry))) (now (bytes .entry)) (at .0) (roleOf r0 ∷ roleOf r1 ∷ roleOf r2 ∷ []) ⌝ }
+    ensures { λ r. ⌜ r ≡ roled order (nameWordOk (now (strings .entry))) (now (bytes .entry)) (at .0) (roleOf r0 ∷ roleOf r1 ∷ roleOf r2 ∷ []) ⌝ }
 {
     let p = at.0;
-    if !word_ok(bytes, strings, at, r0) {
+    if !word_ok(order, bytes, strings, at, r0) {
         return false;
     }
-    if !word_ok(bytes, strings, Place(p + 4), r1) {
+    if !word_ok(order, bytes, strings, Place(p + 4), r1) {
         return false;
     }
-    word_ok(bytes, strings, Place(p + 8), r2)
+    word_ok(order, bytes, strings, Place(p + 8), r2)
 }
 
 // So many entries from a place on. The words that an entry does not have are plain numbers to `three_ok`.
-fn entries_ok(bytes: &[u8], strings: &[u8], at: Place, kind: u32, n: u32) -> bool
+fn entries_ok(order: Order, bytes: &[u8], strings: &[u8], at: Place, kind: u32, n: u32) -> bool
     requires { ⌜ (at .0 ≤ 24) × (n < 65536) ⌝ }
-    ensures { λ r. ⌜ r ≡ roled lowFirst (nameWordOk (now (strings .entry))) (now (bytes .entry)) (at .0) (times n (rowOf kind .each)) ⌝ }
+    ensures { λ r. ⌜ r ≡ roled order (nameWordOk (now (strings .entry))) (now (bytes .entry)) (at .0) (times n (rowOf kind .each)) ⌝ }
 {
     let step = 4 * entry_words(kind);
     let r0 = entry_role(kind, 0);
@@ -94,7 +111,7 @@ fn entries_ok(bytes: &[u8], strings: &[u8], at: Place, kind: u32, n: u32) -> boo
     let mut p = at.0;
     let mut left = n;
     while 0 < left {
-        if !three_ok(bytes, strings, Place(p), r0, r1, r2) {
+        if !three_ok(order, bytes, strings, Place(p), r0, r1, r2) {
             return false;
         }
         p += step;
@@ -104,14 +121,15 @@ fn entries_ok(bytes: &[u8], strings: &[u8], at: Place, kind: u32, n: u32) -> boo
 }
 
 // The names of a tail, behind the head. Most kinds have none there, which one look at the row tells.
-fn tail_names_ok(bytes: &[u8], strings: &[u8], info: u32) -> bool
-    ensures { λ r. ⌜ r ≡ tailRoled lowFirst (nameWordOk (now (strings .entry))) (now (bytes .entry)) info ⌝ }
+fn tail_names_ok(order: Order, bytes: &[u8], strings: &[u8], info: u32) -> bool
+    ensures { λ r. ⌜ r ≡ tailRoled order (nameWordOk (now (strings .entry))) (now (bytes .entry)) info ⌝ }
 {
     let kind = kind_of(info);
     if only_numbers(kind) {
         return true;
     }
     if !three_ok(
+        order,
         bytes,
         strings,
         Place(12),
@@ -122,24 +140,16 @@ fn tail_names_ok(bytes: &[u8], strings: &[u8], info: u32) -> bool
         return false;
     }
     let from = 12 + 4 * once_words(kind);
-    entries_ok(bytes, strings, Place(from), kind, vlen_of(info))
+    entries_ok(order, bytes, strings, Place(from), kind, vlen_of(info))
 }
 
-// Every name of the record keeps to the list.
-pub fn names_ok(bytes: &[u8], strings: &[u8]) -> bool
-    ensures { λ r. ⌜ r ≡ namesOk (now (strings .entry)) (recordIn lowFirst (now (bytes .entry))) ⌝ }
+// Every name of the record keeps to the list. Of the head only the name is one.
+pub fn names_ok(order: Order, bytes: &[u8], strings: &[u8]) -> bool
+    ensures { λ r. ⌜ r ≡ namesOk (now (strings .entry)) (recordIn order (now (bytes .entry))) ⌝ }
 {
-    let info = words::read(bytes, Place(4));
-    let kind = kind_of(info);
-    if !three_ok(
-        bytes,
-        strings,
-        Place(0),
-        name_role(kind),
-        0,
-        third_role(kind),
-    ) {
+    let info = words::read(order, bytes, Place(4));
+    if !name_ok(order, bytes, strings, Place(0), name_role(kind_of(info))) {
         return false;
     }
-    tail_names_ok(bytes, strings, info)
+    tail_names_ok(order, bytes, strings, info)
 }

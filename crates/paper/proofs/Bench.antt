@@ -6,7 +6,7 @@ use mathlib.Core.Bool.{Bool, true, false, _&&_}
 use mathlib.Core.List.{List, [], _∷_, _++_}
 use lib.Dec.{eqb}
 use lib.ListN.{length, take, set, replicate}
-use Rattle.paper.specs.rules.Answer.{Answer, report, reportAt, accepted, value}
+use Rattle.paper.specs.rules.Answer.{Answer, inside, report, reportAt, accepted, value}
 use Rattle.paper.specs.rules.Choice.{same}
 use Rattle.paper.specs.terms.Computes.{computes}
 use Rattle.paper.specs.rules.Gate.{gate, zeros}
@@ -16,7 +16,8 @@ use Rattle.paper.specs.rules.KindNo.{INT, PTR, ARRAY, STRUCT, UNION, ENU
 use Rattle.paper.specs.rules.Size.{sizeOf}
 use Rattle.paper.specs.rules.Table.{Record}
 use Rattle.paper.specs.rules.Walk.{bytesOf}
-use Rattle.paper.specs.rules.Word.{lowFirst, bytesOfWords}
+use Rattle.paper.specs.rules.Word.{bytesOfWords}
+use Rattle.paper.specs.declared.Order.the-variants.{LowFirst}
 
 -- ── the paper's own bytes ──
 
@@ -47,6 +48,28 @@ TT =
     ∷ 3 ∷ 0 ∷ 0 ∷ 0 ∷ 0 ∷ 0 ∷ 0 ∷ 1 ∷ 2 ∷ 0 ∷ 0 ∷ 0 ∷ 0x10 ∷ 0 ∷ 0 ∷ 1
     ∷ 0 ∷ 0x74 ∷ 0 ∷ 0x74 ∷ 0 ∷ []
 
+-- the same three big-endian
+abbrev E-high : List ℕ
+E-high =
+    0xeb ∷ 0x9f ∷ 1 ∷ 0 ∷ 0 ∷ 0 ∷ 0 ∷ 0x18
+    ∷ 0 ∷ 0 ∷ 0 ∷ 0 ∷ 0 ∷ 0 ∷ 0 ∷ 0 ∷ 0 ∷ 0 ∷ 0 ∷ 0 ∷ 0 ∷ 0 ∷ 0 ∷ 1
+    ∷ 0 ∷ []
+
+abbrev T-high : List ℕ
+T-high =
+    0xeb ∷ 0x9f ∷ 1 ∷ 0 ∷ 0 ∷ 0 ∷ 0 ∷ 0x18
+    ∷ 0 ∷ 0 ∷ 0 ∷ 0 ∷ 0 ∷ 0 ∷ 0 ∷ 16 ∷ 0 ∷ 0 ∷ 0 ∷ 16 ∷ 0 ∷ 0 ∷ 0 ∷ 3
+    ∷ 0 ∷ 0 ∷ 0 ∷ 1 ∷ 1 ∷ 0 ∷ 0 ∷ 0 ∷ 0 ∷ 0 ∷ 0 ∷ 2 ∷ 1 ∷ 0 ∷ 0 ∷ 0x10
+    ∷ 0 ∷ 0x74 ∷ 0 ∷ []
+
+abbrev TT-high : List ℕ
+TT-high =
+    0xeb ∷ 0x9f ∷ 1 ∷ 0 ∷ 0 ∷ 0 ∷ 0 ∷ 0x18
+    ∷ 0 ∷ 0 ∷ 0 ∷ 0 ∷ 0 ∷ 0 ∷ 0 ∷ 32 ∷ 0 ∷ 0 ∷ 0 ∷ 32 ∷ 0 ∷ 0 ∷ 0 ∷ 5
+    ∷ 0 ∷ 0 ∷ 0 ∷ 1 ∷ 1 ∷ 0 ∷ 0 ∷ 0 ∷ 0 ∷ 0 ∷ 0 ∷ 2 ∷ 1 ∷ 0 ∷ 0 ∷ 0x10
+    ∷ 0 ∷ 0 ∷ 0 ∷ 3 ∷ 1 ∷ 0 ∷ 0 ∷ 0 ∷ 0 ∷ 0 ∷ 0 ∷ 2 ∷ 1 ∷ 0 ∷ 0 ∷ 0x10
+    ∷ 0 ∷ 0x74 ∷ 0 ∷ 0x74 ∷ 0 ∷ []
+
 -- ── tables by their records ──
 
 -- kind, vlen, name, third word, tail; the strings are those of T, so that 1 is the name "t"
@@ -54,7 +77,7 @@ abbrev rec : ℕ → ℕ → ℕ → ℕ → List ℕ → Record
 rec kind vlen name third tail = record { nameOff = name; info = kind * 2 ^ 24 + vlen; third = third; tail = tail }
 
 abbrev blob : List Record → List ℕ
-blob rs = bytesOf lowFirst (record { records = rs; strings = 0 ∷ 0x74 ∷ 0 ∷ [] })
+blob rs = bytesOf LowFirst (record { records = rs; strings = 0 ∷ 0x74 ∷ 0 ∷ [] })
 
 -- an INT of so many bytes, its offset and width
 abbrev int : ℕ → ℕ → ℕ → Record
@@ -78,7 +101,7 @@ arrays ns = blob (int 1 0 8 ∷ tower 1 ns)
 
 -- the sum of the sections is 2 ^ 32 + 25, and the blob has 25 bytes
 abbrev wrapping : List ℕ
-wrapping = opening lowFirst ++ bytesOfWords lowFirst (24 ∷ 0 ∷ 4294967292 ∷ 4294967292 ∷ 5 ∷ []) ++ (0 ∷ [])
+wrapping = opening LowFirst ++ bytesOfWords LowFirst (24 ∷ 0 ∷ 4294967292 ∷ 4294967292 ∷ 5 ∷ []) ++ (0 ∷ [])
 
 -- a struct of two members, a tag on the second, a pointer to void and one to the struct, with every number raised by types and names
 abbrev tagged : ℕ → ℕ → List Record
@@ -130,6 +153,15 @@ joins a b whole =
     && same (j .index) (zeros 8)
     && same (j .work) (zeros 8)
 
+-- a join is refused with this answer, and leaves the output as it was
+abbrev unjoined : List ℕ → List ℕ → Answer → Bool
+unjoined a b refused =
+    let j = join a b 8 8 (replicate 64 165) in
+    sameAnswer (j .answer) refused
+    && same (j .output) (replicate 64 165)
+    && same (j .index) (zeros 8)
+    && same (j .work) (zeros 8)
+
 -- the numbers, from 1, of the tests that fail
 abbrev pub failing : ℕ → List Bool → List ℕ
 failing k [] = []
@@ -174,12 +206,12 @@ benches =
     ∷ refuses (bitField 14 107) 15 2 40
     -- 23, 24: references and names are raised, void, offset 0, sizes, offsets and a tag's component are not; the empty table is neutral
     ∷ joins T (blob (tagged 0 0))
-    (bytesOf lowFirst (record { records = rec INT 0 1 2 (16777232 ∷ []) ∷ tagged 1 2; strings = 0 ∷ 0x74 ∷ 0 ∷ 0x74 ∷ 0 ∷ [] }))
+    (bytesOf LowFirst (record { records = rec INT 0 1 2 (16777232 ∷ []) ∷ tagged 1 2; strings = 0 ∷ 0x74 ∷ 0 ∷ 0x74 ∷ 0 ∷ [] }))
     ∷ (joins E (blob (tagged 0 0)) (blob (tagged 0 0)) && joins (blob (tagged 0 0)) E (blob (tagged 0 0)))
     -- order 1, 25 to 28: a member without a name; its offset stays 0 in a join; another empty name is none; an enum's value must have one
     ∷ gives (blob (unnamed 0 0)) (accepted 3) (0 ∷ 24 ∷ 40 ∷ 64 ∷ zeros 4)
     ∷ joins T (blob (unnamed 0 0))
-    (bytesOf lowFirst (record { records = rec INT 0 1 2 (16777232 ∷ []) ∷ unnamed 1 2; strings = 0 ∷ 0x74 ∷ 0 ∷ 0x74 ∷ 0 ∷ [] }))
+    (bytesOf LowFirst (record { records = rec INT 0 1 2 (16777232 ∷ []) ∷ unnamed 1 2; strings = 0 ∷ 0x74 ∷ 0 ∷ 0x74 ∷ 0 ∷ [] }))
     ∷ refuses (blob (int 4 0 32 ∷ rec STRUCT 1 0 4 (2 ∷ 1 ∷ 0 ∷ []) ∷ [])) 11 2 40
     ∷ refuses (blob (rec ENUM 1 0 4 (0 ∷ 0 ∷ []) ∷ [])) 11 1 24
     -- order 12, 29 to 31: a FUNC of linkage 1, and of linkage 2; a VAR of linkage 2
@@ -201,6 +233,19 @@ benches =
     ∷ gives (blob (rec PTR 0 0 2 [] ∷ rec CONST 0 0 3 [] ∷ rec PTR 0 0 0 [] ∷ [])) (accepted 3) (0 ∷ 24 ∷ 36 ∷ 48 ∷ zeros 4)
     -- 40: the size that bench 10 gave a pointer before order 6
     ∷ sizes (blob (rec PTR 0 0 0 [] ∷ [])) 1 1 (value 8)
+    -- order 4, 41 to 43: E big-endian; with version and flags turned round; with its first byte only
+    ∷ gives E-high (accepted 0) (zeros 8)
+    ∷ refuses (set (set E-high 2 0) 3 1) 2 0 0
+    ∷ refuses (set E-high 1 0xeb) 2 0 0
+    -- 44 to 47: T big-endian, with its index and size; joined to itself; with E of its order on either side
+    ∷ gives T-high (accepted 1) (0 ∷ 24 ∷ zeros 6)
+    ∷ sizes T-high 1 1 (value 2)
+    ∷ joins T-high T-high TT-high
+    ∷ (joins E-high T-high T-high && joins T-high E-high T-high)
+    -- 48 to 50: two orders, either way round; a second table of the other order that is refused itself
+    ∷ unjoined T T-high (report 24 0)
+    ∷ unjoined E-high T (report 24 0)
+    ∷ unjoined T (take 23 E-high) (inside 17 (report 1 0))
     ∷ []
 
 pub benches-hold : failing 1 benches ≡ []

@@ -76,9 +76,10 @@ module _ (a b : List ℕ) (bytes-a : Bytes a) (bytes-b : Bytes b) (places work r
   unfolding B
   good-B = accepted-good b places work second-accepted
 
-  fits-J : Fits (joinTables A B)
+  -- the joined table fits a blob
+  pub join-fits : Fits (joinTables (tableOf a) (tableOf b))
   unfolding joinedBytes A B
-  fits-J =
+  join-fits =
       let n = count-join A B in
       fits-join A B good-A good-B (accepted-fits a places work first-accepted bytes-a) (accepted-fits b places work second-accepted bytes-b)
       (omega (arith, joinable .few)) short
@@ -86,12 +87,12 @@ module _ (a b : List ℕ) (bytes-a : Bytes a) (bytes-b : Bytes b) (places work r
   -- the joined blob is bytes
   pub join-bytes : Bytes (joinedBytes a b)
   unfolding joinedBytes A B
-  join-bytes = bytes-bytesOf (orderOf a) (joinTables A B) fits-J
+  join-bytes = bytes-bytesOf (orderOf a) (joinTables A B) join-fits
 
   -- it holds the joined table
   pub join-table : tableOf (joinedBytes a b) ≡ joinTables (tableOf a) (tableOf b)
   unfolding joinedBytes A B
-  join-table = tableOf-bytesOf (orderOf a) (joinTables A B) fits-J
+  join-table = tableOf-bytesOf (orderOf a) (joinTables A B) join-fits
 
   -- and has n1 + n2 types
   pub join-count : count (tableOf (joinedBytes a b)) ≡ count (tableOf a) + count (tableOf b)
@@ -103,7 +104,7 @@ module _ (a b : List ℕ) (bytes-a : Bytes a) (bytes-b : Bytes b) (places work r
   unfolding joinedBytes A B
   join-accepted places′ work′ p w =
       let n = count-join A B in
-      good-accepted (orderOf a) (joinTables A B) (good-join A B good-A good-B) fits-J short places′ work′ (omega arith) (omega arith)
+      good-accepted (orderOf a) (joinTables A B) (good-join A B good-A good-B) join-fits short places′ work′ (omega arith) (omega arith)
 
   -- the first's records stand unchanged at their numbers
   pub join-first : (t : ℕ) → t ≤ count (tableOf a) → recordAt (tableOf (joinedBytes a b)) t ≡ recordAt (tableOf a) t

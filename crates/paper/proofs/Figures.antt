@@ -16,12 +16,12 @@ use Rattle.paper.proofs.joins.JoinRefusals.{joinable-joinRefusal, join-
 use Rattle.paper.specs.rules.Answer.{Answer, report}
 use Rattle.paper.specs.rules.Choice.{_when_, firstDue, orElse}
 use Rattle.paper.specs.rules.Gate.{naming, phase1, phase2, refusal, shortSlices, tableReport}
-use Rattle.paper.specs.rules.Header.{headerLength, headerReport, lengthBad, openingBad, headerLengthBad, sectionsBad, stringsBad}
+use Rattle.paper.specs.rules.Header.{headerLength, orderOf, headerReport, lengthBad, openingBad, headerLengthBad, sectionsBad, stringsBad}
 use Rattle.paper.specs.rules.Join.{joinedBytes, joinRefusal}
 use Rattle.paper.specs.rules.Limits.{byteLimit}
 use Rattle.paper.specs.rules.Table.{Table, count}
 use Rattle.paper.specs.rules.Walk.{blobLength, bytesOf, flat, tableOf}
-use Rattle.paper.specs.rules.Word.{Order}
+use Rattle.paper.specs.declared.Order.{Order}
 use Rattle.paper.specs.terms.Early.{Fault, many, head-cut, no-kind, tail-cut, SpokenEarly, first, second, ninth}
 use Rattle.paper.specs.terms.Fit.{Below, Bytes, Fits, wordBound}
 use Rattle.paper.specs.terms.Good.{Good}
@@ -84,18 +84,20 @@ module _ (b : List ℕ) (places work : ℕ) where
 
 -- ── a join ──
 
-module _ (a b : List ℕ) (places work room : ℕ) (is-first : refusal a places work ≡ none) (is-second : refusal b places work ≡ none) where
-  -- two accepted tables of at most 16,384 types and 262,144 bytes together are joined, where there is room
+module _ (a b : List ℕ) (places work room : ℕ) (is-first : refusal a places work ≡ none) (is-second : refusal b places work ≡ none)
+    (one-order : orderOf a ≡ orderOf b) where
+  -- two accepted tables of one order, of at most 16,384 types and 262,144 bytes together are joined, where there is room
   pub most-joined : count (tableOf a) + count (tableOf b) ≤ 16384 → length (joinedBytes a b) ≤ 262144 → length (joinedBytes a b) ≤ room
       → joinRefusal a b places work room ≡ none
   most-joined few short fits =
-      joinable-joinRefusal a b places work room (record { first = is-first; second = is-second; few = few; short = short; fits = fits })
+      joinable-joinRefusal a b places work room
+      (record { first = is-first; second = is-second; one-order = one-order; few = few; short = short; fits = fits })
 
   -- a type more is 18
   pub more-types-joined : 16384 < count (tableOf a) + count (tableOf b) → joinRefusal a b places work room ≡ some (report 18 0)
-  more-types-joined h = join-18 a b places work room is-first is-second h
+  more-types-joined h = join-18 a b places work room is-first is-second one-order h
 
   -- a byte more is 19
   pub more-bytes-joined : count (tableOf a) + count (tableOf b) ≤ 16384 → 262144 < length (joinedBytes a b)
       → joinRefusal a b places work room ≡ some (report 19 0)
-  more-bytes-joined few h = join-19 a b places work room is-first is-second few h
+  more-bytes-joined few h = join-19 a b places work room is-first is-second one-order few h

@@ -9,3 +9,4 @@ pub mod Outcomes
 pub mod Questions
 pub mod Figures
 pub mod Bench
+pub mod Turned

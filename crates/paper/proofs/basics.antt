@@ -1,4 +1,5 @@
--- What everything leans on: tests and lists, the kinds' rows, the answers' numbers.
+-- What everything leans on: tests and lists, the kinds' rows, the answers' numbers, the byte orders.
 pub mod Choices
 pub mod Rows
 pub mod Answers
+pub mod Orders

@@ -8,3 +8,4 @@ pub mod Good
 pub mod Smallest
 pub mod Where
 pub mod Early
+pub mod Turn

@@ -23,6 +23,12 @@ pub struct Part {
     pub length: u32,
 }
 
+// How the four bytes of a word stand: the low byte first, or the high.
+pub enum Order {
+    LowFirst,
+    HighFirst,
+}
+
 // The gate's reports 1 to 15, in the paper's order: the type that each names, and where its record stands in the blob.
 pub enum Report {
     Length,
@@ -57,11 +63,12 @@ pub enum Sized {
     TooFar,
 }
 
-// What a join answers: the joined length, 16, 17, 18, 19 and 20.
+// What a join answers: the joined length, 16, 17, 24, 18, 19 and 20.
 pub enum Joined {
     Whole(u32),
     FirstRefused(Report),
     SecondRefused(Report),
+    OrdersDiffer,
     TooMany,
     TooLong,
     OutputShort,

@@ -3,19 +3,23 @@
 use Prim.Native.Nat.{ℕ, zero, suc, _+_, _-_, _%_, _<_, _≤_}
 use mathlib.Core.Path.{_≡_, refl, sym, ap, _∙_}
 use mathlib.Core.Bool.{Bool, true, false, not, _&&_}
-use mathlib.Core.List.{[], _∷_}
+use mathlib.Core.List.{List, [], _∷_}
 use mathlib.Core.Logic.{⊎-elim, inl, inr}
 use native.Mathlib.Omega.{arith}
 use borrow.Author.Tests.{not-true, not-false}
 use types.Run.{OneOf}
 use Rattle.refs.specs.Refers.{refBy, refRuleOf}
 use Rattle.paper.specs.rules.Choice.{member}
-use Rattle.paper.specs.rules.Kind.{taggable}
+use Rattle.paper.specs.declared.Order.{Order}
+use Rattle.paper.specs.rules.Kind.{Role, rowOf, taggable}
 use Rattle.paper.specs.rules.References.{isPlain, refOk, refWordOk, mayBeKind}
 use Rattle.paper.specs.rules.Table.{Table, kindAt}
 use Rattle.paper.specs.rules.Walk.{known}
-use Rattle.rows.proofs.RoleCodes.{between-in, between-out}
-use Rattle.kindrows.specs.Codes.{roleOf, isRefCode, ruleCode}
+use Rattle.paper.specs.rules.Word.{wordAt}
+use Rattle.paper.specs.terms.Reading.{roled}
+use Rattle.paper.proofs.basics.Choices.{and-nothing}
+use Rattle.rows.proofs.RoleCodes.{between-in, between-out, roleOf-nameCode}
+use Rattle.kindrows.specs.Codes.{nameCode, roleOf, isRefCode, ruleCode}
 use Rattle.rows.proofs.Members.{member-key, member-no-key}
 
 -- ── plain kinds ──
@@ -117,3 +121,16 @@ module _ (T : Table) (w : ℕ) where
   pub word-rule : (role : ℕ) {z : Bool} → z ≡ isRefCode role → not z ≡ false → {r : Bool} → r ≡ refBy (refRuleOf (ruleCode role)) w (kindAt T w)
       → r ≡ refWordOk T (roleOf role) w
   word-rule role {z} asked e d = let at = between-in 7 18 role (sym asked ∙ not-false z e) in rule-there role (at .0) (at .1) d
+
+  pub word-none : (role : ℕ) → isRefCode role ≡ false → true ≡ refWordOk T (roleOf role) w
+  word-none role e = word-other role (sym e) refl
+
+-- of a head's three words the third alone is asked
+pub head-ref : (order : Order) (T : Table) (s : List ℕ) (k c : ℕ) {t : Bool} → t ≡ refWordOk T (roleOf c) (wordAt order s 8)
+    → t ≡ roled order (refWordOk T) s 0 (roleOf (nameCode (rowOf k .name)) ∷ roleOf 0 ∷ roleOf c ∷ [])
+unfolding roled
+head-ref order T s k c e =
+    let third = refWordOk T (roleOf c) (wordAt order s 8) in
+    e
+    ∙ sym (and-nothing third)
+    ∙ sym (ap (λ (ρ : Role). refWordOk T ρ (wordAt order s 0) && (third && true)) (roleOf-nameCode (rowOf k .name)))

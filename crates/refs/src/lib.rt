@@ -15,7 +15,6 @@ use rows::entry_words;
 use rows::is_known;
 use rows::is_reference;
 use rows::kind_of;
-use rows::name_role;
 use rows::once_role;
 use rows::once_words;
 use rows::only_numbers;
@@ -25,6 +24,7 @@ use rows::vlen_of;
 use views::View;
 use views::kind_at;
 ghost use mathlib.Core.Path.{_≡_};
+ghost use mathlib.Core.Bool.{true};
 ghost use mathlib.Core.List.{[], _∷_};
 ghost use Prim.Native.Nat.{_<_, _≤_};
 ghost use Rattle.refs.specs.Refers.{refBy, refRuleOf};
@@ -33,8 +33,8 @@ ghost use Rattle.paper.specs.rules.Kind.{rowOf};
 ghost use Rattle.paper.specs.terms.Reading.{recordIn, roled, tailRoled};
 ghost use Rattle.paper.specs.rules.References.{isPlain, mayBeKind, refWordOk, refsOk};
 ghost use Rattle.paper.specs.rules.Kind.{taggable};
-ghost use Rattle.paper.specs.rules.Word.{lowFirst, wordAt};
-ghost use Rattle.kindrows.specs.Codes.{roleOf};
+ghost use Rattle.paper.specs.rules.Word.{wordAt};
+ghost use Rattle.kindrows.specs.Codes.{isRefCode, roleOf};
 ghost use Rattle.views.specs.Shown.{tableBy};
 
 // "Plain kinds are all but FUNC, VAR, DATASEC, DECL_TAG".
@@ -80,7 +80,25 @@ fn by_rule(rule: u32, t: u32, kind: u32) -> bool
     }
 }
 
-// The word at a place is of a role that is no reference, or a reference that its rule allows.
+// The word at a place, a reference, is one that its rule allows.
+fn ref_ok<'a>(
+    base: &'a [u8],
+    b: &'a [u8],
+    index: &[u32],
+    view: View,
+    bytes: &[u8],
+    at: Place,
+    role: u32,
+) -> bool
+    requires { ⌜ isRefCode role ≡ true ⌝ }
+    ensures { λ r. ⌜ r ≡ refWordOk (tableBy (now (base .entry)) (now (b .entry)) (now (index .entry)) view) (roleOf role) (wordAt (view .order) (now (bytes .entry)) (at .0)) ⌝ }
+{
+    let order = view.order;
+    let t = words::read(order, bytes, at);
+    by_rule(rule_of(role), t, kind_at(base, b, index, view, TypeNo(t)))
+}
+
+// The same of a word of any role: what is no reference passes. The test stands by itself, so that only a reference costs a call.
 fn word_ok<'a>(
     base: &'a [u8],
     b: &'a [u8],
@@ -90,13 +108,12 @@ fn word_ok<'a>(
     at: Place,
     role: u32,
 ) -> bool
-    ensures { λ r. ⌜ r ≡ refWordOk (tableBy (now (base .entry)) (now (b .entry)) (now (index .entry)) view) (roleOf role) (wordAt lowFirst (now (bytes .entry)) (at .0)) ⌝ }
+    ensures { λ r. ⌜ r ≡ refWordOk (tableBy (now (base .entry)) (now (b .entry)) (now (index .entry)) view) (roleOf role) (wordAt (view .order) (now (bytes .entry)) (at .0)) ⌝ }
 {
     if !is_reference(role) {
         return true;
     }
-    let t = words::read(bytes, at);
-    by_rule(rule_of(role), t, kind_at(base, b, index, view, TypeNo(t)))
+    ref_ok(base, b, index, view, bytes, at, role)
 }
 
 // Three words from a place on.
@@ -112,7 +129,7 @@ fn three_ok<'a>(
     r2: u32,
 ) -> bool
     requires { ⌜ at .0 < 1000000 ⌝ }
-    ensures { λ r. ⌜ r ≡ roled lowFirst (refWordOk (tableBy (now (base .entry)) (now (b .entry)) (now (index .entry)) view)) (now (bytes .entry)) (at .0) (roleOf r0 ∷ roleOf r1 ∷ roleOf r2 ∷ []) ⌝ }
+    ensures { λ r. ⌜ r ≡ roled (view .order) (refWordOk (tableBy (now (base .entry)) (now (b .entry)) (now (index .entry)) view)) (now (bytes .entry)) (at .0) (roleOf r0 ∷ roleOf r1 ∷ roleOf r2 ∷ []) ⌝ }
 {
     let p = at.0;
     if !word_ok(base, b, index, view, bytes, at, r0) {
@@ -138,7 +155,7 @@ fn entries_ok<'a>(
     v: u32,
 ) -> bool
     requires { ⌜ (at .0 ≤ 24) × (v < 65536) ⌝ }
-    ensures { λ r. ⌜ r ≡ roled lowFirst (refWordOk (tableBy (now (base .entry)) (now (b .entry)) (now (index .entry)) view)) (now (bytes .entry)) (at .0) (times v (rowOf kind .each)) ⌝ }
+    ensures { λ r. ⌜ r ≡ roled (view .order) (refWordOk (tableBy (now (base .entry)) (now (b .entry)) (now (index .entry)) view)) (now (bytes .entry)) (at .0) (times v (rowOf kind .each)) ⌝ }
 {
     let step = 4 * entry_words(kind);
     let r0 = entry_role(kind, 0);
@@ -165,7 +182,7 @@ fn tail_refs_ok<'a>(
     bytes: &[u8],
     info: u32,
 ) -> bool
-    ensures { λ r. ⌜ r ≡ tailRoled lowFirst (refWordOk (tableBy (now (base .entry)) (now (b .entry)) (now (index .entry)) view)) (now (bytes .entry)) info ⌝ }
+    ensures { λ r. ⌜ r ≡ tailRoled (view .order) (refWordOk (tableBy (now (base .entry)) (now (b .entry)) (now (index .entry)) view)) (now (bytes .entry)) info ⌝ }
 {
     let kind = kind_of(info);
     if only_numbers(kind) {
@@ -190,16 +207,17 @@ fn tail_refs_ok<'a>(
     )
 }
 
-// Every reference of the record keeps to the list.
+// Every reference of the record keeps to the list. Of the head only the third word can be one.
 pub fn refs_ok<'a>(base: &'a [u8], b: &'a [u8], index: &[u32], view: View, bytes: &[u8]) -> bool
-    ensures { λ r. ⌜ r ≡ refsOk (tableBy (now (base .entry)) (now (b .entry)) (now (index .entry)) view) (recordIn lowFirst (now (bytes .entry))) ⌝ }
+    ensures { λ r. ⌜ r ≡ refsOk (tableBy (now (base .entry)) (now (b .entry)) (now (index .entry)) view) (recordIn (view .order) (now (bytes .entry))) ⌝ }
 {
-    let info = words::read(bytes, Place(4));
-    let kind = kind_of(info);
-    let r0 = name_role(kind);
-    let r2 = third_role(kind);
-    if !three_ok(base, b, index, view, bytes, Place(0), r0, 0, r2) {
-        return false;
+    let order = view.order;
+    let info = words::read(order, bytes, Place(4));
+    let role = third_role(kind_of(info));
+    if is_reference(role) {
+        if !ref_ok(base, b, index, view, bytes, Place(8), role) {
+            return false;
+        }
     }
     tail_refs_ok(base, b, index, view, bytes, info)
 }

@@ -12,7 +12,8 @@ use Rattle.paper.specs.rules.Gate.{gate}
 use Rattle.paper.specs.rules.Join.{join}
 use Rattle.paper.specs.rules.Name.{nameless, nameAt}
 use Rattle.paper.specs.rules.Size.{sizeOf}
-use Rattle.paper.specs.rules.Word.{lowFirst, words, bytesOfWords}
+use Rattle.paper.specs.declared.Order.the-variants.{LowFirst}
+use Rattle.paper.specs.rules.Word.{words, bytesOfWords}
 use Rattle.sums.specs.Sum.{sumOf, lentPlaces, lentBytes}
 use Rattle.replay.specs.Case.{checkSeen, sizeSeen, nameSeen, joinSeen, plainly, seenSums}
 use Rattle.replay.specs.Run.{ranOf, RanAs, RunOf}
@@ -23,14 +24,14 @@ use Rattle.replay.specs.declared.ops.Ran.the-variants.{Saw, Unknown, Lar
 
 -- what is seen with the gate's answer and the sums of the gate's slices is what is seen of a check
 pub check-seen : (a : List ℕ) (places workPlaces bytes : ℕ) {seen : Seen} {r : Answer} {i w : List ℕ} {x y z : ℕ} → seen ≡ seenSums r x y z
-    → x ≡ sumOf (bytesOfWords lowFirst i) → y ≡ sumOf (bytesOfWords lowFirst w) → z ≡ sumOf (lentBytes bytes)
+    → x ≡ sumOf (bytesOfWords LowFirst i) → y ≡ sumOf (bytesOfWords LowFirst w) → z ≡ sumOf (lentBytes bytes)
     → {p q : ℕ} → p ≡ places → q ≡ workPlaces → r ≡ gate a p q .answer → i ≡ gate a p q .index → w ≡ gate a p q .work
     → seen ≡ checkSeen a places workPlaces (lentBytes bytes)
 check-seen a places workPlaces bytes e ex ey ez ep eq er ei ew = rw (e, ex, ey, ez, er, ei, ew, ep, eq) refl
 
 -- what is seen with the join's answer and the sums of the join's slices is what is seen of a join
 pub join-seen : (a b : List ℕ) (places workPlaces bytes : ℕ) {seen : Seen} {r : Answer} {i w o : List ℕ} {x y z : ℕ} → seen ≡ seenSums r x y z
-    → x ≡ sumOf (bytesOfWords lowFirst i) → y ≡ sumOf (bytesOfWords lowFirst w) → z ≡ sumOf o
+    → x ≡ sumOf (bytesOfWords LowFirst i) → y ≡ sumOf (bytesOfWords LowFirst w) → z ≡ sumOf o
     → {p q : ℕ} {out : List ℕ} → p ≡ places → q ≡ workPlaces → out ≡ lentBytes bytes
     → r ≡ join a b p q out .answer → i ≡ join a b p q out .index → w ≡ join a b p q out .work → o ≡ join a b p q out .output
     → seen ≡ joinSeen a b places workPlaces (lentBytes bytes)
@@ -38,12 +39,12 @@ join-seen a b places workPlaces bytes e ex ey ez ep eq eo er ei ew ez′ = rw (e
 
 -- and of the size question and the name
 pub size-seen : (a b : List ℕ) (x i w o : ℕ) {seen : Seen} {r : Answer} {si sw so : ℕ} → seen ≡ seenSums r si sw so
-    → si ≡ sumOf (bytesOfWords lowFirst (lentPlaces i)) → sw ≡ sumOf (bytesOfWords lowFirst (lentPlaces w)) → so ≡ sumOf (lentBytes o)
-    → {given : List ℕ} → given ≡ words lowFirst b → r ≡ sizeOf a given x → seen ≡ sizeSeen x a (words lowFirst b) i w o
+    → si ≡ sumOf (bytesOfWords LowFirst (lentPlaces i)) → sw ≡ sumOf (bytesOfWords LowFirst (lentPlaces w)) → so ≡ sumOf (lentBytes o)
+    → {given : List ℕ} → given ≡ words LowFirst b → r ≡ sizeOf a given x → seen ≡ sizeSeen x a (words LowFirst b) i w o
 size-seen a b x i w o e ei ew eo eg er = rw (e, ei, ew, eo, er, eg) refl
 
 pub name-seen : (a : List ℕ) (x i w : ℕ) {seen : Seen} {r : Answer} {si sw so n : ℕ} {part : List ℕ} {t : Bool} → seen ≡ seenSums r si sw so
-    → si ≡ sumOf (bytesOfWords lowFirst (lentPlaces i)) → sw ≡ sumOf (bytesOfWords lowFirst (lentPlaces w)) → so ≡ sumOf part → part ≡ nameAt a x
+    → si ≡ sumOf (bytesOfWords LowFirst (lentPlaces i)) → sw ≡ sumOf (bytesOfWords LowFirst (lentPlaces w)) → so ≡ sumOf part → part ≡ nameAt a x
     → t ≡ nameless a x → n ≡ cond t 1 0 → r ≡ plainly n (length part) → seen ≡ nameSeen x a i w
 name-seen a x i w e ei ew eo ep et en er = rw (e, ei, ew, eo, er, en, et, ep) refl
 
@@ -93,7 +94,7 @@ module _ (h : Head) (a b : List ℕ) where
   unfolding RunOf
   run-check r op e = rw op e
 
-  pub run-size : (r : Ran) → h .op ≡ 2 → RanAs r (sizeSeen (h .x) a (words lowFirst b) (h .index) (h .work) (h .output)) → RunOf r h a b
+  pub run-size : (r : Ran) → h .op ≡ 2 → RanAs r (sizeSeen (h .x) a (words LowFirst b) (h .index) (h .work) (h .output)) → RunOf r h a b
   unfolding RunOf
   run-size r op e = rw op e
 

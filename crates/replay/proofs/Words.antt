@@ -8,10 +8,11 @@ use native.Mathlib.Omega.{arith}
 use lib.ListN.{length, getD, set, take, drop, length-set}
 use lib.Seq.{take-suc, take-suc-set, take-all}
 use Rattle.paper.proofs.bytes.Bytes.{part-rest, length-words}
-use Rattle.paper.specs.rules.Word.{lowFirst, firstWord, words, wordAt}
+use Rattle.paper.specs.declared.Order.the-variants.{LowFirst}
+use Rattle.paper.specs.rules.Word.{firstWord, words, wordAt}
 
 -- the i-th word begins four bytes for each word before it
-pub words-at : (b : List ℕ) (i p : ℕ) → p ≡ 4 * i → i < length (words lowFirst b) → getD (words lowFirst b) i 0 ≡ firstWord lowFirst (drop p b)
+pub words-at : (b : List ℕ) (i p : ℕ) → p ≡ 4 * i → i < length (words LowFirst b) → getD (words LowFirst b) i 0 ≡ firstWord LowFirst (drop p b)
 words-at [] i p e h = absurd (omega arith)
 words-at (b ∷ []) i p e h = absurd (omega arith)
 words-at (b ∷ c ∷ []) i p e h = absurd (omega arith)
@@ -30,7 +31,7 @@ pub record Filling (b s : List ℕ) (n i p : ℕ) : Type 0 where
   pub long : length s ≡ n
   pub inside : i ≤ n
   pub after : p ≡ 4 * i
-  pub filled : take i s ≡ take i (words lowFirst b)
+  pub filled : take i s ≡ take i (words LowFirst b)
 
 pub filling-start : {b s : List ℕ} → length s ≡ length b / 4 → Filling b s (length s) 0 0
 filling-start e = record { room = e; long = refl; inside = omega arith; after = refl; filled = refl }
@@ -40,21 +41,21 @@ pub filling-inside : {b s : List ℕ} {n i p : ℕ} → Filling b s n i p → i 
 filling-inside {b} g h = let room = g .room in let long = g .long in let after = g .after in omega arith
 
 -- the word that the bytes from p on begin with is stored
-pub filling-next : {b s : List ℕ} {n i p v : ℕ} → Filling b s n i p → i < length s → v ≡ wordAt lowFirst (take (length b - p) (drop p b)) 0
+pub filling-next : {b s : List ℕ} {n i p v : ℕ} → Filling b s n i p → i < length s → v ≡ wordAt LowFirst (take (length b - p) (drop p b)) 0
     → Filling b (set s i v) n (i + 1) (p + 4)
 unfolding wordAt
 filling-next {b} {s} {n} {i} {p} {v} g h e =
-    let there : i < length (words lowFirst b) = omega (arith, length-words lowFirst b, g .room, g .long) in
-    let word : v ≡ getD (words lowFirst b) i 0 = e ∙ ap (firstWord lowFirst) (part-rest b p) ∙ sym (words-at b i p (g .after) there) in
+    let there : i < length (words LowFirst b) = omega (arith, length-words LowFirst b, g .room, g .long) in
+    let word : v ≡ getD (words LowFirst b) i 0 = e ∙ ap (firstWord LowFirst) (part-rest b p) ∙ sym (words-at b i p (g .after) there) in
     record {
       room = g .room;
       long = length-set s i v ∙ g .long;
       inside = omega (arith, g .long);
       after = omega (arith, g .after);
-      filled = rw add-one (take-suc-set s i v h ∙ rw (word, g .filled) (sym (take-suc (words lowFirst b) i 0 there)));
+      filled = rw add-one (take-suc-set s i v h ∙ rw (word, g .filled) (sym (take-suc (words LowFirst b) i 0 there)));
     }
 
 -- at the end the slice is the words
-pub filling-end : {b s : List ℕ} {n i p : ℕ} → Filling b s n i p → length s ≤ i → s ≡ words lowFirst b
+pub filling-end : {b s : List ℕ} {n i p : ℕ} → Filling b s n i p → length s ≤ i → s ≡ words LowFirst b
 filling-end {b} {s} {n} {i} g h =
-    sym (take-all i s h) ∙ g .filled ∙ take-all i (words lowFirst b) (omega (arith, length-words lowFirst b, g .room, g .long))
+    sym (take-all i s h) ∙ g .filled ∙ take-all i (words LowFirst b) (omega (arith, length-words LowFirst b, g .room, g .long))

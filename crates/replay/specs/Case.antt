@@ -9,7 +9,8 @@ use Rattle.paper.specs.rules.Gate.{gate}
 use Rattle.paper.specs.rules.Join.{join}
 use Rattle.paper.specs.rules.Name.{nameless, nameAt}
 use Rattle.paper.specs.rules.Size.{sizeOf}
-use Rattle.paper.specs.rules.Word.{lowFirst, wordAt, bytesOfWords}
+use Rattle.paper.specs.declared.Order.the-variants.{LowFirst}
+use Rattle.paper.specs.rules.Word.{wordAt, bytesOfWords}
 use Rattle.sums.specs.Sum.{sumOf, lentPlaces, lentBytes}
 use Rattle.replay.specs.declared.cases.Head.{Head}
 use Rattle.replay.specs.declared.cases.Seen.{Seen}
@@ -20,32 +21,32 @@ use Rattle.replay.specs.declared.cases.Opening.the-variants.{Cases, Fore
 abbrev pub headOf : List ℕ → Head
 headOf s =
     record {
-      op = wordAt lowFirst s 0;
-      index = wordAt lowFirst s 4;
-      work = wordAt lowFirst s 8;
-      output = wordAt lowFirst s 12;
-      x = wordAt lowFirst s 16;
-      y = wordAt lowFirst s 20;
-      a = wordAt lowFirst s 24;
-      b = wordAt lowFirst s 28;
+      op = wordAt LowFirst s 0;
+      index = wordAt LowFirst s 4;
+      work = wordAt LowFirst s 8;
+      output = wordAt LowFirst s 12;
+      x = wordAt LowFirst s 16;
+      y = wordAt LowFirst s 20;
+      a = wordAt LowFirst s 24;
+      b = wordAt LowFirst s 28;
     }
 
 -- "number, inner, t, p, index sum, work sum, output sum"
 abbrev pub seenOf : List ℕ → Seen
 seenOf s =
     record {
-      number = wordAt lowFirst s 0;
-      inner = wordAt lowFirst s 4;
-      t = wordAt lowFirst s 8;
-      p = wordAt lowFirst s 12;
-      index = wordAt lowFirst s 16;
-      work = wordAt lowFirst s 20;
-      output = wordAt lowFirst s 24;
+      number = wordAt LowFirst s 0;
+      inner = wordAt LowFirst s 4;
+      t = wordAt LowFirst s 8;
+      p = wordAt LowFirst s 12;
+      index = wordAt LowFirst s 16;
+      work = wordAt LowFirst s 20;
+      output = wordAt LowFirst s 24;
     }
 
 -- "53 43 52 56, version 1, the number of cases"
 abbrev pub openingOf : List ℕ → Opening
-openingOf s = cond (eqb (wordAt lowFirst s 0) 1448231763 && eqb (wordAt lowFirst s 4) 1) (Cases (wordAt lowFirst s 8)) Foreign
+openingOf s = cond (eqb (wordAt LowFirst s 0) 1448231763 && eqb (wordAt LowFirst s 4) 1) (Cases (wordAt LowFirst s 8)) Foreign
 
 -- all seven numbers are equal
 abbrev pub sameSeen : Seen → Seen → Bool
@@ -80,7 +81,7 @@ seenSums r index work output =
     }
 
 abbrev pub seenWith : paper.Answer → List ℕ → List ℕ → List ℕ → Seen
-seenWith r index work output = seenSums r (sumOf (bytesOfWords lowFirst index)) (sumOf (bytesOfWords lowFirst work)) (sumOf output)
+seenWith r index work output = seenSums r (sumOf (bytesOfWords LowFirst index)) (sumOf (bytesOfWords LowFirst work)) (sumOf output)
 
 -- op 1: what is seen of a check with so many places lent, its answer and both u32 slices as the gate leaves them
 abbrev pub checkSeen : List ℕ → ℕ → ℕ → List ℕ → Seen

@@ -4,7 +4,8 @@ use mathlib.Core.Path.{_≡_}
 use mathlib.Core.Bool.{Bool, cond}
 use mathlib.Core.List.{List}
 use lib.Dec.{eqb}
-use Rattle.paper.specs.rules.Word.{lowFirst, words}
+use Rattle.paper.specs.declared.Order.the-variants.{LowFirst}
+use Rattle.paper.specs.rules.Word.{words}
 use Rattle.replay.specs.Case.{checkSeen, sizeSeen, nameSeen, joinSeen, sameSeen}
 use Rattle.replay.specs.declared.cases.Head.{Head}
 use Rattle.replay.specs.declared.cases.Seen.{Seen}
@@ -29,7 +30,7 @@ RanAs Large must = Unit {0}
 unfoldable pub RunOf : Ran → Head → List ℕ → List ℕ → Type 0
 RunOf r h a b =
     cond (eqb (h .op) 1) (RanAs r (checkSeen a (h .index) (h .work) (lentBytes (h .output))))
-    (cond (eqb (h .op) 2) (RanAs r (sizeSeen (h .x) a (words lowFirst b) (h .index) (h .work) (h .output)))
+    (cond (eqb (h .op) 2) (RanAs r (sizeSeen (h .x) a (words LowFirst b) (h .index) (h .work) (h .output)))
     (cond (eqb (h .op) 3) (RanAs r (nameSeen (h .x) a (h .index) (h .work)))
     (cond (eqb (h .op) 4) (RanAs r (joinSeen a b (h .index) (h .work) (lentBytes (h .output)))) (r ≡ Unknown))))
 

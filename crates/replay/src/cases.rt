@@ -1,8 +1,10 @@
 // What a case lends and passes, what must be seen of it, and how both are read.
 use libc::STDIN_FILENO;
+use paper::Order;
 use paper::Place;
 ghost use mathlib.Core.Path.{_≡_};
-ghost use Rattle.paper.specs.rules.Word.{lowFirst, wordAt};
+ghost use Rattle.paper.specs.declared.Order.the-variants.{LowFirst};
+ghost use Rattle.paper.specs.rules.Word.{wordAt};
 ghost use Rattle.replay.specs.Case.{headOf, seenOf, openingOf, sameSeen};
 
 // What a case may lend: places in an index or a work slice, bytes in a, b and the output, and the places that the bytes of b stand for.
@@ -53,9 +55,9 @@ pub(crate) enum Opening {
 }
 
 fn word(s: &[u8], at: u32) -> u32
-    ensures { λ r. ⌜ r ≡ wordAt lowFirst (now (s .entry)) at ⌝ }
+    ensures { λ r. ⌜ r ≡ wordAt LowFirst (now (s .entry)) at ⌝ }
 {
-    words::read(s, Place(at))
+    words::read(Order::LowFirst, s, Place(at))
 }
 
 fn head_of(s: &[u8]) -> Head

@@ -24,7 +24,8 @@ ghost use Prim.Native.Nat.{_/_, _<_};
 ghost use lib.Dec.{leb};
 ghost use lib.ListN.{length};
 ghost use Rattle.answers.specs.Numbers.{asPaper};
-ghost use Rattle.paper.specs.rules.Word.{lowFirst, words};
+ghost use Rattle.paper.specs.declared.Order.the-variants.{LowFirst};
+ghost use Rattle.paper.specs.rules.Word.{words};
 ghost use Rattle.replay.specs.Case.{checkSeen, joinSeen, nameSeen, plainly, seenSums, sizeSeen};
 ghost use Rattle.replay.specs.Run.{RanAs, RunOf, ranOf};
 ghost use Rattle.sums.specs.Sum.{lentBytes};
@@ -99,7 +100,7 @@ fn check(h: Head, a: &[u8]) -> Ran
 // Op 2: the size of type x in a; b is the index.
 fn size_lent(h: Head, a: &[u8], b: &[u8], given: &mut [u32]) -> Seen
     requires { ⌜ length (now given) ≡ length (now b) / 4 ⌝ }
-    ensures { λ s. ⌜ s ≡ sizeSeen (h .x) (now (a .entry)) (words lowFirst (now (b .entry))) (h .index) (h .work) (h .output) ⌝ }
+    ensures { λ s. ⌜ s ≡ sizeSeen (h .x) (now (a .entry)) (words LowFirst (now (b .entry))) (h .index) (h .work) (h .output) ⌝ }
 {
     places(b, given);
     let answer = of_sized(sizes::size(a, given, TypeNo(h.x)));
@@ -112,7 +113,7 @@ fn size_lent(h: Head, a: &[u8], b: &[u8], given: &mut [u32]) -> Seen
 }
 
 fn size_in(h: Head, a: &[u8], b: &[u8], given: &mut [u32]) -> Ran
-    ensures { λ r. ⌜ r ≡ ranOf (leb (length (now (b .entry)) / 4) (length (now (given .entry)))) (sizeSeen (h .x) (now (a .entry)) (words lowFirst (now (b .entry))) (h .index) (h .work) (h .output)) ⌝ }
+    ensures { λ r. ⌜ r ≡ ranOf (leb (length (now (b .entry)) / 4) (length (now (given .entry)))) (sizeSeen (h .x) (now (a .entry)) (words LowFirst (now (b .entry))) (h .index) (h .work) (h .output)) ⌝ }
 {
     let n = b.len() / 4;
     if given.len() < n {
@@ -122,7 +123,7 @@ fn size_in(h: Head, a: &[u8], b: &[u8], given: &mut [u32]) -> Ran
 }
 
 fn size(h: Head, a: &[u8], b: &[u8]) -> Ran
-    ensures { λ r. ⌜ RanAs r (sizeSeen (h .x) (now (a .entry)) (words lowFirst (now (b .entry))) (h .index) (h .work) (h .output)) ⌝ }
+    ensures { λ r. ⌜ RanAs r (sizeSeen (h .x) (now (a .entry)) (words LowFirst (now (b .entry))) (h .index) (h .work) (h .output)) ⌝ }
 {
     let mut given = [0u32; GIVEN];
     size_in(h, a, b, &mut given)

@@ -8,6 +8,7 @@ use kindrows::FUNC_PROTO;
 use kindrows::INT;
 use kindrows::STRUCT;
 use kindrows::UNION;
+use paper::Order;
 use paper::Place;
 use paper::TypeNo;
 use rows::entry_words;
@@ -75,18 +76,19 @@ fn entry_fault(number: u32, n: u32, place: u32, info: u32, entry: u32) -> Look {
 
 // An array's index breaks the rule; where it does not, the element does.
 fn is_index_wrong(blob: &[u8], index: &[u32], n: u32, r: &[u8], number: u32) -> bool {
-    let view = View { n };
+    let order = words::order_of(blob);
+    let view = View { n, order };
     let none = &blob[..0];
-    let t = TypeNo(words::read(r, Place(16)));
+    let t = TypeNo(words::read(order, r, Place(16)));
     if number == 13 {
         return kind_at(none, blob, index, view, t) != INT;
     }
-    number == 15 && !is_regular(record_of(none, blob, index, view, t))
+    number == 15 && !is_regular(order, record_of(none, blob, index, view, t))
 }
 
 // Where in a record the word stands that breaks the rule without any entry: name, third word, a word behind the head.
 fn word_of(blob: &[u8], index: &[u32], n: u32, r: &[u8], number: u32) -> u32 {
-    let kind = kind_of(rows::info_of(r));
+    let kind = kind_of(rows::info_of(words::order_of(blob), r));
     if number == 11 {
         return 0;
     }
@@ -106,7 +108,7 @@ fn word_of(blob: &[u8], index: &[u32], n: u32, r: &[u8], number: u32) -> u32 {
 }
 
 // Of a parameter of type 0 that is not the last the one behind it tells: with it the rule is broken.
-fn told_by(r: &[u8], entry: u32, number: u32) -> u32 {
+fn told_by(order: Order, r: &[u8], entry: u32, number: u32) -> u32 {
     if number != 12 {
         return entry;
     }
@@ -117,7 +119,7 @@ fn told_by(r: &[u8], entry: u32, number: u32) -> u32 {
         return entry;
     }
     let type_before = 8 * entry;
-    if words::read(r, Place(type_before)) == 0 {
+    if words::read(order, r, Place(type_before)) == 0 {
         return entry - 1;
     }
     entry
@@ -125,9 +127,10 @@ fn told_by(r: &[u8], entry: u32, number: u32) -> u32 {
 
 // The fault of a function is in its prototype, whose parameter has no name.
 fn prototype_fault(blob: &[u8], index: &[u32], n: u32, t: u32, proto: u32) -> Look {
-    let place = place_of(index, View { n }, TypeNo(proto)).0;
+    let order = words::order_of(blob);
+    let place = place_of(index, View { n, order }, TypeNo(proto)).0;
     let entry = first_entry(blob, index, n, t, place, 15);
-    let info = words::read(blob, Place(std::num::wrapping_add_u32(place, 4)));
+    let info = words::blob_word(blob, Place(std::num::wrapping_add_u32(place, 4)));
     entry_fault(15, n, place, info, entry)
 }
 
@@ -141,17 +144,18 @@ pub(crate) fn fault_of(
     place: u32,
     number: u32,
 ) -> Look {
-    let info = rows::info_of(r);
+    let order = words::order_of(blob);
+    let info = rows::info_of(order, r);
     if number == 10 {
         return nowhere(number, n); // its words tell by themselves
     }
     if number == 15 && kind_of(info) == FUNC {
-        return prototype_fault(blob, index, n, t, third_of(r));
+        return prototype_fault(blob, index, n, t, third_of(order, r));
     }
     let entry = first_entry(blob, index, n, t, place, number);
     if entry == 0 {
         let from = word_of(blob, index, n, r, number);
         return within(number, n, place, from, 1);
     }
-    entry_fault(number, n, place, info, told_by(r, entry, number))
+    entry_fault(number, n, place, info, told_by(order, r, entry, number))
 }

@@ -4,6 +4,7 @@ use links::Linked;
 use links::links;
 use paper::BYTE_LIMIT;
 use paper::FULL_PLACES;
+use paper::Order;
 use paper::Place;
 use paper::TypeNo;
 use rows::entry_words;
@@ -38,11 +39,12 @@ fn is_broken(
     number: u32,
 ) -> bool {
     let none = &b[..0];
-    let view = View { n };
+    let order = words::order_of(b);
+    let view = View { n, order };
     let r = record_of(none, b, index, view, TypeNo(t));
     match number {
-        11 => !naming::names_ok(r, strings_of(none, b, index, view)),
-        12 => !tails::tail_ok(r),
+        11 => !naming::names_ok(order, r, strings_of(none, b, index, view)),
+        12 => !tails::tail_ok(order, r),
         13 => !refs::refs_ok(none, b, index, view, r),
         14 => is_endless(links(none, b, index, view, work), t),
         _ => !layout::layout_ok(none, b, index, view, TypeNo(t)),
@@ -58,10 +60,11 @@ fn is_cut_broken(
     n: u32,
     t: u32,
     number: u32,
+    order: Order,
     at: Place,
     info: u32,
 ) -> bool {
-    words::write(cut, at, info);
+    words::write(order, cut, at, info);
     is_broken(first_of(cut, len), index, work, n, t, number)
 }
 
@@ -74,6 +77,7 @@ fn halved(
     n: u32,
     t: u32,
     number: u32,
+    order: Order,
     at: Place,
     info: u32,
 ) -> u32 {
@@ -81,7 +85,18 @@ fn halved(
     let mut high = vlen_of(info);
     while low < high {
         let k = low + (high - low) / 2;
-        if is_cut_broken(cut, len, index, work, n, t, number, at, cut_info(info, k)) {
+        if is_cut_broken(
+            cut,
+            len,
+            index,
+            work,
+            n,
+            t,
+            number,
+            order,
+            at,
+            cut_info(info, k),
+        ) {
             high = k;
         } else {
             low = k + 1;
@@ -100,7 +115,8 @@ pub(crate) fn first_entry(
     number: u32,
 ) -> u32 {
     let at = Place(std::num::wrapping_add_u32(place, 4));
-    let info = words::read(blob, at);
+    let order = words::order_of(blob);
+    let info = words::read(order, blob, at);
     if entry_words(kind_of(info)) == 0 {
         return 0;
     }
@@ -108,5 +124,16 @@ pub(crate) fn first_entry(
     let mut work = [0u32; FULL_PLACES];
     lay(&mut cut, 0, blob);
     let len = blob.len();
-    halved(&mut cut, len, index, &mut work, n, t, number, at, info)
+    halved(
+        &mut cut,
+        len,
+        index,
+        &mut work,
+        n,
+        t,
+        number,
+        order,
+        at,
+        info,
+    )
 }

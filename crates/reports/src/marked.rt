@@ -9,6 +9,7 @@ use lines::Out;
 use lines::ROOM;
 use lines::put;
 use lines::put_with;
+use paper::Order;
 use paper::TypeNo;
 use rows::info_of;
 use rows::kind_of;
@@ -24,7 +25,7 @@ use worded::put_tail;
 use words::rest_from;
 
 // How a record does not fit.
-fn put_cut(buf: &mut [u8; ROOM], o: Out, end: usize, r: &[u8]) -> Out {
+fn put_cut(buf: &mut [u8; ROOM], o: Out, end: usize, order: Order, r: &[u8]) -> Out {
     let o = put_with(buf, o, b"    the type section ends at byte ", end as u64);
     if r.len() < 12 {
         let o = put_with(
@@ -35,7 +36,7 @@ fn put_cut(buf: &mut [u8; ROOM], o: Out, end: usize, r: &[u8]) -> Out {
         );
         return put(buf, o, b"\n");
     }
-    let size = 12 + 4 * (tail_words(info_of(r)) as u64);
+    let size = 12 + 4 * (tail_words(info_of(order, r)) as u64);
     let o = put_with(buf, o, b", and the record would have ", size);
     put(buf, o, b" bytes\n")
 }
@@ -51,10 +52,10 @@ fn put_end(
     number: u32,
 ) -> Out {
     match number {
-        6 => put_cut(buf, o, end, r),
+        6 => put_cut(buf, o, end, words::order_of(blob), r),
         7 => o,
         _ => {
-            let size = 12 + 4 * (tail_words(info_of(r)) as usize);
+            let size = 12 + 4 * (tail_words(info_of(words::order_of(blob), r)) as usize);
             put_bare(buf, o, false, blob, (place as usize) + size)
         }
     }
@@ -105,7 +106,10 @@ fn put_prototype(
     t: u32,
     look: Look,
 ) -> Out {
-    let view = View { n: look.n };
+    let view = View {
+        n: look.n,
+        order: words::order_of(blob),
+    };
     let place = place_of(index, view, TypeNo(t)).0;
     let o = put_with(buf, o, b"    its prototype, type ", t as u64);
     let o = put_with(buf, o, b", at byte ", place as u64);
@@ -117,13 +121,17 @@ fn put_prototype(
 
 // How many parts a tag can point at: members, or a function's parameters.
 fn parts_of(blob: &[u8], index: &[u32], n: u32, t: u32) -> u32 {
+    let order = words::order_of(blob);
     let none = &blob[..0];
-    let view = View { n };
+    let view = View { n, order };
     let r = record_of(none, blob, index, view, TypeNo(t));
-    let info = info_of(r);
+    let info = info_of(order, r);
     match kind_of(info) {
         STRUCT | UNION => vlen_of(info),
-        FUNC => vlen_of(info_of(record_of(none, blob, index, view, TypeNo(third_of(r))))),
+        FUNC => vlen_of(info_of(
+            order,
+            record_of(none, blob, index, view, TypeNo(third_of(order, r))),
+        )),
         _ => 0,
     }
 }
@@ -137,11 +145,12 @@ pub(crate) fn put_besides(
     r: &[u8],
     look: Look,
 ) -> Out {
+    let order = words::order_of(blob);
     if look.number != 15 {
         return o;
     }
-    let kind = kind_of(info_of(r));
-    let t = third_of(r);
+    let kind = kind_of(info_of(order, r));
+    let t = third_of(order, r);
     if kind == FUNC {
         return put_prototype(buf, o, blob, index, t, look);
     }

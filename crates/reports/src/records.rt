@@ -3,7 +3,7 @@ use paper::Place;
 
 // The bytes before the strings, as far as there are so many.
 pub(crate) fn types_of(blob: &[u8]) -> &[u8] {
-    let end = 24 + words::read(blob, Place(12)) as usize;
+    let end = 24 + words::blob_word(blob, Place(12)) as usize;
     if blob.len() < end {
         return &blob[..0];
     }

@@ -22,7 +22,7 @@ use words::rest_from;
 fn put_meaning(buf: &mut [u8; ROOM], o: Out, number: u32) -> Out {
     let meanings = b"\n\
         the table has under 24 bytes or over 262144\n\
-        the first four bytes are not 9F EB 01 00 (magic, version 1, flags 0)\n\
+        the first four bytes are neither 9F EB 01 00 nor EB 9F 01 00 (magic, version 1, flags 0)\n\
         the header's length is not 24\n\
         the sections of types and strings do not fill the table one after the other\n\
         the strings are empty, or their first or last byte is not zero\n\
@@ -71,7 +71,7 @@ fn put_broken(
 ) -> Out {
     let r = rest_from(types_of(blob), told.p as usize);
     let look = fault_of(blob, index, n, told.t, r, told.p, told.number);
-    let o = put_rule(buf, o, told.number, rows::info_of(r));
+    let o = put_rule(buf, o, told.number, rows::info_of(words::order_of(blob), r));
     let o = put_marked(buf, o, blob, index, told.p, look);
     put_besides(buf, o, blob, index, r, look)
 }

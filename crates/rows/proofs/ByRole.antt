@@ -11,7 +11,8 @@ use Rattle.paper.specs.rules.Choice.{every, times}
 use Rattle.paper.specs.rules.Kind.{Role, names, refers, holds, number, rowOf}
 use Rattle.paper.specs.terms.Reading.{recordIn, roled, tailRoled}
 use Rattle.paper.specs.rules.Table.{kindIn, vlenIn, everyWord}
-use Rattle.paper.specs.rules.Word.{Order, wordAt}
+use Rattle.paper.specs.declared.Order.{Order}
+use Rattle.paper.specs.rules.Word.{wordAt}
 use Rattle.paper.proofs.basics.Choices.{and-left, and-nothing, and-right}
 use Rattle.paper.proofs.bytes.Reading.{roled-append, everyWord-recordIn}
 use Rattle.kindrows.specs.Codes.{nameCode, roleCode, roleOf, roleAt}

@@ -1,11 +1,11 @@
 // Phase 3 of one record: the smallest of reports 10, 11 and 12 that is due.
 use heads::head_ok;
 use naming::names_ok;
+use paper::Order;
 use tails::tail_ok;
 ghost use mathlib.Core.Path.{_≡_};
 ghost use Rattle.paper.specs.rules.Choice.{firstDue};
 ghost use Rattle.paper.specs.terms.Reading.{recordIn};
-ghost use Rattle.paper.specs.rules.Word.{lowFirst};
 ghost use Rattle.rules.specs.Phase.{dueAsPaper, rulesOf};
 
 // What phase 3 says of a record: nothing, or 10, 11 or 12.
@@ -17,16 +17,16 @@ pub enum Due {
 }
 
 // "later, the smallest type, then the smallest number": of one type, the smallest number.
-pub fn phase3(bytes: &[u8], strings: &[u8]) -> Due
-    ensures { λ r. ⌜ dueAsPaper r ≡ firstDue (rulesOf (now (strings .entry)) (recordIn lowFirst (now (bytes .entry)))) ⌝ }
+pub fn phase3(order: Order, bytes: &[u8], strings: &[u8]) -> Due
+    ensures { λ r. ⌜ dueAsPaper r ≡ firstDue (rulesOf (now (strings .entry)) (recordIn order (now (bytes .entry)))) ⌝ }
 {
-    if !head_ok(bytes) {
+    if !head_ok(order, bytes) {
         return Due::Head;
     }
-    if !names_ok(bytes, strings) {
+    if !names_ok(order, bytes, strings) {
         return Due::Named;
     }
-    if !tail_ok(bytes) {
+    if !tail_ok(order, bytes) {
         return Due::Tail;
     }
     Due::Nothing

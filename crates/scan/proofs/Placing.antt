@@ -9,11 +9,11 @@ use lib.ListN.{length, getD, drop, set, length-append, length-replicate}
 use lib.Seq.{drop-cons, drop-at}
 use Rattle.paper.specs.terms.Fit.{Whole}
 use Rattle.paper.specs.rules.Gate.{zeros, indexOf}
-use Rattle.paper.specs.rules.Header.{headerLength, typeLen}
+use Rattle.paper.specs.rules.Header.{orderOf, headerLength, typeLen}
 use Rattle.paper.specs.rules.Limits.{typeLimit, byteLimit}
 use Rattle.paper.specs.rules.Table.{Record, nothing, tailLength, wordsOf}
 use Rattle.paper.specs.rules.Walk.{typeWords, walk, tableOf, flat, placesFrom, placesOf}
-use Rattle.paper.specs.rules.Word.{lowFirst, wordAt}
+use Rattle.paper.specs.rules.Word.{wordAt}
 use Rattle.paper.proofs.bytes.Blobs.{tableOf-found}
 use Rattle.paper.proofs.bytes.Places.{length-placesOf}
 use Rattle.paper.proofs.bytes.Sections.{whole-at}
@@ -30,7 +30,7 @@ module _ (b : List ℕ) (end : ℕ) (inside : end ≤ length b) (at : ℕ) (r : 
   record-inside =
       omega (arith, left-length b end inside at, ap length next, length-append (r .tail) ws)
 
-  pub record-info : wordAt lowFirst b (at + 4) ≡ r .info
+  pub record-info : wordAt (orderOf b) b (at + 4) ≡ r .info
   record-info =
       ap (λ (l : List ℕ). getD l 1 0) (sym (left-head b end inside at (omega (arith, record-inside))) ∙ next)
 
@@ -105,13 +105,13 @@ module _ {b : List ℕ} {n size k at : ℕ} {index : List ℕ} (p : Placing b n 
     heads = sym (ap (placesFrom at) front) ∙ p .places-left ∙ drop-cons ps k 0 (omega (arith, counts))
 
     -- its length is what its info word says
-    length-here : at + (12 + 4 * tailLength (wordAt lowFirst b (at + 4))) ≡ at + 4 * length (wordsOf r)
+    length-here : at + (12 + 4 * tailLength (wordAt (orderOf b) b (at + 4))) ≡ at + 4 * length (wordsOf r)
     length-here =
         let whole : Whole r = whole-at rs (found (p .done) .whole-found) k (omega (arith, counts)) in
         omega (arith, ap tailLength (record-info b _ (p .done .section .inside) at r _ next), whole .whole-tail)
 
     -- it ends within the byte limit
-    pub placing-inside : at + (12 + 4 * tailLength (wordAt lowFirst b (at + 4))) ≤ byteLimit
+    pub placing-inside : at + (12 + 4 * tailLength (wordAt (orderOf b) b (at + 4))) ≤ byteLimit
     placing-inside =
         let s = p .done .section in
         omega (arith, length-here, record-inside b _ (s .inside) at r _ next, s .inside, s .short)
@@ -121,7 +121,7 @@ module _ {b : List ℕ} {n size k at : ℕ} {index : List ℕ} (p : Placing b n 
     placing-room = omega (arith, placing-length, p .done .enough)
 
     -- and the index takes its place there
-    pub placing-step : Placing b n size (k + 1) (at + (12 + 4 * tailLength (wordAt lowFirst b (at + 4)))) (set index (k + 1) at)
+    pub placing-step : Placing b n size (k + 1) (at + (12 + 4 * tailLength (wordAt (orderOf b) b (at + 4)))) (set index (k + 1) at)
     placing-step =
         record {
           done = p .done;

@@ -7,11 +7,11 @@ use native.Mathlib.Numerals.{add-one}
 use native.Mathlib.Omega.{arith}
 use lib.ListN.{length, drop}
 use Rattle.paper.specs.rules.Answer.{reportAt}
-use Rattle.paper.specs.rules.Header.{headerLength}
+use Rattle.paper.specs.rules.Header.{orderOf, headerLength}
 use Rattle.paper.specs.rules.Limits.{typeLimit}
 use Rattle.paper.specs.rules.Table.{Record, tailLength}
 use Rattle.paper.specs.rules.Walk.{Walked, records, stopped, ahead, walkFrom, walk}
-use Rattle.paper.specs.rules.Word.{lowFirst, wordAt}
+use Rattle.paper.specs.rules.Word.{wordAt}
 use Rattle.paper.proofs.bytes.Sections.{recordFrom}
 use Rattle.scan.specs.declared.walk.Behind.{Behind}
 use Rattle.scan.specs.declared.walk.Behind.the-variants.{Next, Cut, Unknown}
@@ -53,19 +53,19 @@ module _ (b : List ℕ) (end : ℕ) (inside : end ≤ length b) (room k at : ℕ
       ap findingOf (walkFrom-short room k at (left b at end) (omega arith) (omega arith))
   walkFrom-step (unknown h e) =
       ap (λ (ws : List ℕ). findingOf (walkFrom (suc room) k at ws)) (left-head b end inside at h)
-      ∙ ap findingOf (walkRecord-unknown _ k at _ (wordAt lowFirst b (at + 4)) _ _ e)
+      ∙ ap findingOf (walkRecord-unknown _ k at _ (wordAt (orderOf b) b (at + 4)) _ _ e)
   walkFrom-step (tail-cut h e n) =
       let len = left-length b end inside (at + 12) in
       ap (λ (ws : List ℕ). findingOf (walkFrom (suc room) k at ws)) (left-head b end inside at h)
-      ∙ ap findingOf (walkRecord-cut _ k at _ (wordAt lowFirst b (at + 4)) _ _ e (omega arith))
+      ∙ ap findingOf (walkRecord-cut _ k at _ (wordAt (orderOf b) b (at + 4)) _ _ e (omega arith))
   walkFrom-step (onward h e n) =
       let len = left-length b end inside (at + 12) in
       let tail = left b (at + 12) end in
-      let words = tailLength (wordAt lowFirst b (at + 4)) in
+      let words = tailLength (wordAt (orderOf b) b (at + 4)) in
       let rest : List ℕ → Walked = λ ws. walkFrom room (suc k) (at + 12 + 4 * words) ws in
       ap (λ (ws : List ℕ). findingOf (walkFrom (suc room) k at ws)) (left-head b end inside at h)
-      ∙ ap findingOf (walkRecord-onward rest k at _ (wordAt lowFirst b (at + 4)) _ tail e (omega arith))
-      ∙ findingOf-ahead (recordFrom (wordAt lowFirst b at) (wordAt lowFirst b (at + 4)) (wordAt lowFirst b (at + 8)) tail) (rest (drop words tail))
+      ∙ ap findingOf (walkRecord-onward rest k at _ (wordAt (orderOf b) b (at + 4)) _ tail e (omega arith))
+      ∙ findingOf-ahead (recordFrom (wordAt (orderOf b) b at) (wordAt (orderOf b) b (at + 4)) (wordAt (orderOf b) b (at + 8)) tail) (rest (drop words tail))
       ∙ ap (λ (ws : List ℕ). behind 1 (findingOf (rest ws))) (left-drop b end inside words (at + 12) n)
 
 -- ── where a walk stands ──
@@ -136,7 +136,7 @@ module _ (b : List ℕ) (end count at : ℕ) (st : Standing b end count at) (mor
   told (unknown h e) = stepped (unknown h e)
   told (tail-cut h e n) = stepped (tail-cut h e n)
   told (onward h e n) =
-      let next = at + 12 + 4 * tailLength (wordAt lowFirst b (at + 4)) in
+      let next = at + 12 + 4 * tailLength (wordAt (orderOf b) b (at + 4)) in
       let rest : ℕ → Finding = λ k. findingOf (walkFrom (typeLimit - (count + 1)) k next (left b next end)) in (
         omega arith,
         record {

@@ -8,9 +8,10 @@ use native.Mathlib.Omega.{arith}
 use borrow.Author.Tests.{leb-true, leb-false, le-leb, lt-leb}
 use lib.Dec.{leb}
 use lib.ListN.{length, drop}
+use Rattle.paper.specs.rules.Header.{orderOf}
 use Rattle.paper.specs.rules.Table.{kindIn, tailLength}
 use Rattle.paper.specs.rules.Walk.{Walked, records, stopped, ahead, known, walkRecord, walkFrom}
-use Rattle.paper.specs.rules.Word.{lowFirst, wordAt}
+use Rattle.paper.specs.rules.Word.{wordAt}
 use Rattle.paper.proofs.bytes.Sections.{recordFrom}
 use Rattle.scan.specs.declared.walk.Behind.{Behind}
 use Rattle.scan.specs.declared.walk.Behind.the-variants.{Next, Cut, Unknown}
@@ -20,10 +21,10 @@ use Rattle.scan.specs.Phase2.{behindOf}
 
 -- the place behind a record, by its info word
 abbrev pub nextPlace : List ℕ → ℕ → ℕ
-nextPlace b at = at + 12 + 4 * tailLength (wordAt lowFirst b (at + 4))
+nextPlace b at = at + 12 + 4 * tailLength (wordAt (orderOf b) b (at + 4))
 
 abbrev pub knownAt : List ℕ → ℕ → Bool
-knownAt b at = known (kindIn (wordAt lowFirst b (at + 4)))
+knownAt b at = known (kindIn (wordAt (orderOf b) b (at + 4)))
 
 -- the four ways of a step
 pub data Way (b : List ℕ) (at end : ℕ) : Behind → Type 0 where

@@ -6,12 +6,12 @@ use mathlib.Core.List.{List}
 use lib.Dec.{leb}
 use lib.ListN.{length}
 use Rattle.paper.specs.rules.Answer.{Answer, reportAt, reportAsPaper}
-use Rattle.paper.specs.rules.Header.{headerLength, typeLen}
+use Rattle.paper.specs.rules.Header.{orderOf, headerLength, typeLen}
 use Rattle.paper.specs.rules.Limits.{byteLimit}
 use Rattle.paper.specs.rules.Table.{kindIn, tailLength}
 use Rattle.paper.specs.rules.Walk.{records, stopped, known, walk}
 use Rattle.paper.specs.rules.Walk as paper
-use Rattle.paper.specs.rules.Word.{lowFirst, wordAt}
+use Rattle.paper.specs.rules.Word.{wordAt}
 use Rattle.scan.specs.declared.walk.Behind.{Behind}
 use Rattle.scan.specs.declared.walk.Behind.the-variants.{Next, Cut, Unknown}
 use Rattle.scan.specs.declared.walk.Walked.{Walked}
@@ -46,7 +46,7 @@ pub record WalkDone (b : List ℕ) (n places : ℕ) : Type 0 where
 -- one step from a place: the place behind the record there, or why there is none
 unfoldable pub behindOf : List ℕ → ℕ → ℕ → Behind
 behindOf b at end =
-    let info = wordAt lowFirst b (at + 4) in
+    let info = wordAt (orderOf b) b (at + 4) in
     let next = at + 12 + 4 * tailLength info in
     cond (leb (at + 12) end)
     (cond (known (kindIn info)) (cond (leb next end) (Next (record { 0 = next })) Cut) Unknown)

@@ -19,6 +19,6 @@ pub(crate) fn places(b: &[u8], n: u32, index: &mut [u32])
     while k < n {
         k += 1;
         index[k as usize] = at;
-        at += 12 + 4 * tail_words(words::read(b, Place(at + 4)));
+        at += 12 + 4 * tail_words(words::blob_word(b, Place(at + 4)));
     }
 }

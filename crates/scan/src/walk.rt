@@ -33,7 +33,7 @@ fn behind_of(b: &[u8], at: Place, end: Place) -> Behind
     if room < 12 {
         return Behind::Cut;
     }
-    let info = words::read(b, Place(at.0 + 4));
+    let info = words::blob_word(b, Place(at.0 + 4));
     if !is_known(kind_of(info)) {
         return Behind::Unknown;
     }

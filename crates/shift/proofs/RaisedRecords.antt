@@ -1,6 +1,6 @@
 -- A record put group by group, and so many records one behind the other.
 -- Assumes nothing.
-use Prim.Native.Nat.{ℕ, zero, suc, _+_, _-_, _*_, _≤_, _<_}
+use Prim.Native.Nat.{ℕ, suc, _+_, _-_, _*_, _≤_, _<_}
 use mathlib.Core.Path.{_≡_, refl, sym, ap, ap₂, subst, _∙_}
 use mathlib.Core.Bool.{Bool, true, false, cond}
 use mathlib.Core.List.{List, [], _∷_, _++_, map, append-assoc}
@@ -16,7 +16,7 @@ use Rattle.shift.specs.declared.groups.Group.{Group}
 use Rattle.shift.specs.declared.groups.Shift.{Shift}
 use Rattle.shift.proofs.RaisedWords.{length-raisedFrom, recordBytes-parts}
 use Rattle.paper.proofs.bytes.Bytes.{part-back, below-left, below-right, length-bytesOfWords, bytesOfWords-append}
-use Rattle.paper.proofs.bytes.Puts.{put-none, length-put, put-put, put-front, put-whole, laid-fits, laid-short}
+use Rattle.paper.proofs.bytes.Puts.{length-put, put-put, put-front, put-whole, laid-fits, laid-short}
 use Rattle.paper.proofs.bytes.Reading.{length-recordIn, recordIn-whole}
 use Rattle.paper.proofs.joins.Grouping.{flat-rename}
 use Rattle.paper.proofs.renaming.Rename.{length-rename}
@@ -24,19 +24,20 @@ use Rattle.paper.specs.rules.Choice.{times}
 use Rattle.paper.specs.rules.Kind.{rowOf}
 use Rattle.paper.specs.rules.Table.{Record, kindIn, vlenIn, tailLength, wordsOf}
 use Rattle.paper.specs.rules.Walk.{flat, typeLenOf}
-use Rattle.paper.specs.rules.Word.{lowFirst, bytesOfWords, wordAt}
+use Rattle.paper.specs.declared.Order.{Order}
+use Rattle.paper.specs.rules.Word.{bytesOfWords, wordAt}
 use Rattle.paper.specs.terms.Fit.{Below, EveryWhole, wordBound}
-use Rattle.paper.specs.terms.Put.{put, laid}
+use Rattle.paper.specs.terms.Put.{put}
 use Rattle.paper.specs.terms.Reading.{recordIn}
 
 -- ── a record, group by group ──
 
 -- the groups of its kind, and room for them
-module _ {s : List ℕ} {room : ℕ} (a : RecordAsk s room) {info kind : ℕ} (read : info ≡ wordAt lowFirst s 4) (kinded : kind ≡ kindIn info) where
+module _ {order : Order} {s : List ℕ} {room : ℕ} (a : RecordAsk order s room) {info kind : ℕ} (read : info ≡ wordAt order s 4) (kinded : kind ≡ kindIn info) where
   all-fit : 12 + (4 * length (rowOf kind .once) + vlenIn info * (4 * length (rowOf kind .each))) ≡ room
   unfolding tailLength
   all-fit =
-      let l = length-recordIn lowFirst s ∙ ap (λ (i : ℕ). 3 + tailLength i) (sym read) in
+      let l = length-recordIn order s ∙ ap (λ (i : ℕ). 3 + tailLength i) (sym read) in
       let k = ap (λ (j : ℕ). length (rowOf j .once) + vlenIn info * length (rowOf j .each)) kinded in
       let same = mul-left-comm (vlenIn info) 4 (length (rowOf kind .each)) in
       let f = a .fits in
@@ -62,8 +63,8 @@ module _ {s : List ℕ} {room : ℕ} (a : RecordAsk s room) {info kind : ℕ} (r
           let wide : 12 + 4 * h .words + v * (4 * e .words) ≤ room₂ = rw (counted, third .counted) (omega arith) in
           record { few = omega (arith, third .counted, third .few); fits = wide; small = omega (arith, a .small) }
 
-module _ {by : Shift} {s : List ℕ} {out out₁ out₂ out₃ : List ℕ} (a : RecordAsk s (length out))
-    {info kind v : ℕ} (read : info ≡ wordAt lowFirst s 4) (kinded : kind ≡ kindIn info) (counted : v ≡ vlenIn info)
+module _ {by : Shift} {s : List ℕ} {out out₁ out₂ out₃ : List ℕ} (a : RecordAsk (by .order) s (length out))
+    {info kind v : ℕ} (read : info ≡ wordAt (by .order) s 4) (kinded : kind ≡ kindIn info) (counted : v ≡ vlenIn info)
     {h e : Group} (second : GroupOf h (rowOf kind .once)) (third : GroupOf e (rowOf kind .each))
     (p₁ : HeadPut by kind s out out₁) (p₂ : GroupPut by h s 12 out₁ out₂) (p₃ : EntriesPut by e v s (12 + 4 * h .words) out₂ out₃) where
   abbrev head : List ℕ
@@ -76,7 +77,7 @@ module _ {by : Shift} {s : List ℕ} {out out₁ out₂ out₃ : List ℕ} (a : 
   entries = raisedFrom by s (12 + 4 * length (rowOf kind .once)) (times v (rowOf kind .each))
 
   -- the three runs are those of the record
-  parts : head ++ (once ++ entries) ≡ recordBytes by (recordIn lowFirst s)
+  parts : head ++ (once ++ entries) ≡ recordBytes by (recordIn (by .order) s)
   parts =
       ap₂
       (λ (k n : ℕ). raisedFrom by s 0 (headRoles k)
@@ -86,7 +87,7 @@ module _ {by : Shift} {s : List ℕ} {out out₁ out₂ out₃ : List ℕ} (a : 
       ∙ sym (recordBytes-parts by s)
 
   -- one is put behind the other
-  pub record-put : out₃ ≡ put out 0 (recordBytes by (recordIn lowFirst s))
+  pub record-put : out₃ ≡ put out 0 (recordBytes by (recordIn (by .order) s))
   record-put =
       let l = all-fit a read kinded in
       let c = second .counted in
@@ -106,29 +107,29 @@ module _ {by : Shift} {s : List ℕ} {out out₁ out₂ out₃ : List ℕ} (a : 
 -- a record has as many bytes raised as it had
 pub length-recordBytes : (by : Shift) (r : Record) → length (recordBytes by r) ≡ 4 * length (wordsOf r)
 unfolding recordBytes
-length-recordBytes by r = length-bytesOfWords lowFirst (wordsOf (raisedRecord by r)) ∙ ap (λ (n : ℕ). 4 * n) (length-rename _ _ r)
+length-recordBytes by r = length-bytesOfWords (by .order) (wordsOf (raisedRecord by r)) ∙ ap (λ (n : ℕ). 4 * n) (length-rename _ _ r)
 
 -- what the code counts is what the record has
-pub recordLength-read : (s : List ℕ) {info w : ℕ} → info ≡ wordAt lowFirst s 4 → w ≡ tailLength info → 12 + 4 * w ≡ recordLength s
-recordLength-read s read tail =
-    let l = length-recordIn lowFirst s in
+pub recordLength-read : (order : Order) (s : List ℕ) {info w : ℕ} → info ≡ wordAt order s 4 → w ≡ tailLength info → 12 + 4 * w ≡ recordLength order s
+recordLength-read order s read tail =
+    let l = length-recordIn order s in
     let t = tail ∙ ap tailLength read in
     omega arith
 
-module _ {by : Shift} (s : List ℕ) {out : List ℕ} {size : ℕ} (is : size ≡ recordLength s) where
+module _ {by : Shift} (s : List ℕ) {out : List ℕ} {size : ℕ} (is : size ≡ recordLength (by .order) s) where
   pub front-short : length out < size → RecordPut by s out out 0
   front-short short =
-      let l = length-recordBytes by (recordIn lowFirst s) in
+      let l = length-recordBytes by (recordIn (by .order) s) in
       record {
-        puts = laid-short out 0 (recordBytes by (recordIn lowFirst s)) (omega arith);
-        long = sym (ap (λ (t : Bool). cond t (recordLength s) 0) (lt-leb (recordLength s) (length out) (omega arith)));
+        puts = laid-short out 0 (recordBytes by (recordIn (by .order) s)) (omega arith);
+        long = sym (ap (λ (t : Bool). cond t (recordLength (by .order) s) 0) (lt-leb (recordLength (by .order) s) (length out) (omega arith)));
       }
 
-  pub front-fits : size ≤ length out → {after : List ℕ} → after ≡ put (take size out) 0 (recordBytes by (recordIn lowFirst s))
+  pub front-fits : size ≤ length out → {after : List ℕ} → after ≡ put (take size out) 0 (recordBytes by (recordIn (by .order) s))
       → RecordPut by s out (after ++ drop size out) size
   front-fits room {after} e =
-      let bs : List ℕ = recordBytes by (recordIn lowFirst s) in
-      let l = length-recordBytes by (recordIn lowFirst s) in
+      let bs : List ℕ = recordBytes by (recordIn (by .order) s) in
+      let l = length-recordBytes by (recordIn (by .order) s) in
       let t = length-take-le size out room in
       let far : size ≡ length bs = omega arith in
       record {
@@ -136,39 +137,39 @@ module _ {by : Shift} (s : List ℕ) {out : List ℕ} {size : ℕ} (is : size �
             ap₂ (λ (x : List ℕ) (n : ℕ). x ++ drop n out) (e ∙ put-whole (take size out) bs (omega arith)) far
             ∙ sym (put-front out bs)
             ∙ laid-fits out 0 bs (omega arith);
-        long = is ∙ sym (ap (λ (t : Bool). cond t (recordLength s) 0) (le-leb (recordLength s) (length out) (omega arith)));
+        long = is ∙ sym (ap (λ (t : Bool). cond t (recordLength (by .order) s) 0) (le-leb (recordLength (by .order) s) (length out) (omega arith)));
       }
 
 -- ── so many records ──
 
 -- the next record fits, or it does not
 module _ (by : Shift) (k : ℕ) (s out : List ℕ) where
-  raisedRun-fits : recordLength s ≤ length out
-      → raisedRun by (suc k) s out ≡ recordBytes by (recordIn lowFirst s) ++ raisedRun by k (drop (recordLength s) s) (drop (recordLength s) out)
+  raisedRun-fits : recordLength (by .order) s ≤ length out
+      → raisedRun by (suc k) s out ≡ recordBytes by (recordIn (by .order) s) ++ raisedRun by k (drop (recordLength (by .order) s) s) (drop (recordLength (by .order) s) out)
   raisedRun-fits room =
-      ap (λ (t : Bool). cond t (recordBytes by (recordIn lowFirst s) ++ raisedRun by k (drop (recordLength s) s) (drop (recordLength s) out)) out)
-      (le-leb (recordLength s) (length out) room)
+      ap (λ (t : Bool). cond t (recordBytes by (recordIn (by .order) s) ++ raisedRun by k (drop (recordLength (by .order) s) s) (drop (recordLength (by .order) s) out)) out)
+      (le-leb (recordLength (by .order) s) (length out) room)
 
-  raisedRun-short : length out < recordLength s → raisedRun by (suc k) s out ≡ out
+  raisedRun-short : length out < recordLength (by .order) s → raisedRun by (suc k) s out ≡ out
   raisedRun-short short =
-      ap (λ (t : Bool). cond t (recordBytes by (recordIn lowFirst s) ++ raisedRun by k (drop (recordLength s) s) (drop (recordLength s) out)) out)
-      (lt-leb (recordLength s) (length out) short)
+      ap (λ (t : Bool). cond t (recordBytes by (recordIn (by .order) s) ++ raisedRun by k (drop (recordLength (by .order) s) s) (drop (recordLength (by .order) s) out)) out)
+      (lt-leb (recordLength (by .order) s) (length out) short)
 
 -- which of the two it is, by what is answered
 module _ {by : Shift} {s before after : List ℕ} {size : ℕ} (one : RecordPut by s before after size) where
-  answered-short : size ≡ 0 → length before < recordLength s
-  answered-short none = go (leb (recordLength s) (length before)) refl
+  answered-short : size ≡ 0 → length before < recordLength (by .order) s
+  answered-short none = go (leb (recordLength (by .order) s) (length before)) refl
     where
-      go : (t : Bool) → leb (recordLength s) (length before) ≡ t → length before < recordLength s
-      go true e = absurd (let z = one .long ∙ ap (λ (t : Bool). cond t (recordLength s) 0) e in omega arith)
-      go false e = omega (arith, leb-false (recordLength s) (length before) e)
+      go : (t : Bool) → leb (recordLength (by .order) s) (length before) ≡ t → length before < recordLength (by .order) s
+      go true e = absurd (let z = one .long ∙ ap (λ (t : Bool). cond t (recordLength (by .order) s) 0) e in omega arith)
+      go false e = omega (arith, leb-false (recordLength (by .order) s) (length before) e)
 
-  answered-fits : (size ≡ 0 → ⊥) → (recordLength s ≤ length before) × (size ≡ recordLength s)
-  answered-fits some = go (leb (recordLength s) (length before)) refl
+  answered-fits : (size ≡ 0 → ⊥) → (recordLength (by .order) s ≤ length before) × (size ≡ recordLength (by .order) s)
+  answered-fits some = go (leb (recordLength (by .order) s) (length before)) refl
     where
-      go : (t : Bool) → leb (recordLength s) (length before) ≡ t → (recordLength s ≤ length before) × (size ≡ recordLength s)
-      go true e = (leb-true (recordLength s) (length before) e, one .long ∙ ap (λ (t : Bool). cond t (recordLength s) 0) e)
-      go false e = absurd (some (one .long ∙ ap (λ (t : Bool). cond t (recordLength s) 0) e))
+      go : (t : Bool) → leb (recordLength (by .order) s) (length before) ≡ t → (recordLength (by .order) s ≤ length before) × (size ≡ recordLength (by .order) s)
+      go true e = (leb-true (recordLength (by .order) s) (length before) e, one .long ∙ ap (λ (t : Bool). cond t (recordLength (by .order) s) 0) e)
+      go false e = absurd (some (one .long ∙ ap (λ (t : Bool). cond t (recordLength (by .order) s) 0) e))
 
 -- so many are left, and p bytes are written
 pub record Running (by : Shift) (s : List ℕ) (n : ℕ) (before : List ℕ) (p left : ℕ) (after : List ℕ) : Type 0 where
@@ -195,14 +196,14 @@ module _ {by : Shift} {s before after : List ℕ} {n p left : ℕ} (r : Running 
     running-stop : size ≡ 0 → Running by s n before p 0 (take p after ++ part)
     running-stop none = subst (Running by s n before p 0) (sym same) (record { inside = r .inside; same-length = r .same-length; rest = ends })
       where
-        short : length (drop p after) < recordLength (drop p s)
+        short : length (drop p after) < recordLength (by .order) (drop p s)
         short = answered-short one none
 
         same : take p after ++ part ≡ after
         same =
-            let l = length-recordBytes by (recordIn lowFirst (drop p s)) in
+            let l = length-recordBytes by (recordIn (by .order) (drop p s)) in
             let f = short in
-            ap (λ (t : List ℕ). take p after ++ t) (one .puts ∙ sym (laid-short (drop p after) 0 (recordBytes by (recordIn lowFirst (drop p s))) (omega arith)))
+            ap (λ (t : List ℕ). take p after ++ t) (one .puts ∙ sym (laid-short (drop p after) 0 (recordBytes by (recordIn (by .order) (drop p s))) (omega arith)))
             ∙ take-append-drop p after
 
         ends : take p after ++ drop p after ≡ raisedRun by n s before
@@ -210,16 +211,16 @@ module _ {by : Shift} {s before after : List ℕ} {n p left : ℕ} (r : Running 
 
     module _ (some : size ≡ 0 → ⊥) where
       abbrev bs : List ℕ
-      bs = recordBytes by (recordIn lowFirst (drop p s))
+      bs = recordBytes by (recordIn (by .order) (drop p s))
 
       abbrev behind : List ℕ
       behind = drop size (drop p after)
 
-      fits : (recordLength (drop p s) ≤ length (drop p after)) × (size ≡ recordLength (drop p s))
+      fits : (recordLength (by .order) (drop p s) ≤ length (drop p after)) × (size ≡ recordLength (by .order) (drop p s))
       fits = answered-fits one some
 
       size-bytes : length bs ≡ size
-      size-bytes = let f = fits in omega (arith, length-recordBytes by (recordIn lowFirst (drop p s)))
+      size-bytes = let f = fits in omega (arith, length-recordBytes by (recordIn (by .order) (drop p s)))
 
       cut : take p after ++ part ≡ (take p after ++ bs) ++ behind
       cut =
@@ -286,36 +287,36 @@ recordsBytes-none by out = refl
 -- a record's bytes before those of the others
 recordsBytes-cons : (by : Shift) (r : Record) (rs : List Record) → recordsBytes by (r ∷ rs) ≡ recordBytes by r ++ recordsBytes by rs
 unfolding recordsBytes recordBytes
-recordsBytes-cons by r rs = bytesOfWords-append lowFirst (wordsOf (raisedRecord by r)) (flat (map (raisedRecord by) rs))
+recordsBytes-cons by r rs = bytesOfWords-append (by .order) (wordsOf (raisedRecord by r)) (flat (map (raisedRecord by) rs))
 
 -- as many bytes as they had
 pub length-recordsBytes : (by : Shift) (rs : List Record) → length (recordsBytes by rs) ≡ typeLenOf rs
 unfolding recordsBytes
-length-recordsBytes by rs = length-bytesOfWords lowFirst (flat (map (raisedRecord by) rs)) ∙ ap (λ (n : ℕ). 4 * n) (flat-rename _ _ rs)
+length-recordsBytes by rs = length-bytesOfWords (by .order) (flat (map (raisedRecord by) rs)) ∙ ap (λ (n : ℕ). 4 * n) (flat-rename _ _ rs)
 
 -- one record in front of bytes for the others
-run-one : (by : Shift) (r : Record) (k : ℕ) (s t out : List ℕ) → s ≡ bytesOfWords lowFirst (wordsOf r) ++ t → recordIn lowFirst s ≡ r
+run-one : (by : Shift) (r : Record) (k : ℕ) (s t out : List ℕ) → s ≡ bytesOfWords (by .order) (wordsOf r) ++ t → recordIn (by .order) s ≡ r
     → 4 * length (wordsOf r) ≤ length out
     → raisedRun by (suc k) s out ≡ recordBytes by r ++ raisedRun by k t (drop (4 * length (wordsOf r)) out)
 run-one by r k s t out split is room =
-    let long : recordLength s ≡ 4 * length (wordsOf r) = ap (λ (q : Record). 4 * length (wordsOf q)) is in
-    let behind : drop (recordLength s) s ≡ t =
+    let long : recordLength (by .order) s ≡ 4 * length (wordsOf r) = ap (λ (q : Record). 4 * length (wordsOf q)) is in
+    let behind : drop (recordLength (by .order) s) s ≡ t =
     ap₂ (λ (n : ℕ) (q : List ℕ). drop n q) long split
-    ∙ drop-at (bytesOfWords lowFirst (wordsOf r)) t (4 * length (wordsOf r)) (length-bytesOfWords lowFirst (wordsOf r)) in
+    ∙ drop-at (bytesOfWords (by .order) (wordsOf r)) t (4 * length (wordsOf r)) (length-bytesOfWords (by .order) (wordsOf r)) in
     raisedRun-fits by k s out (omega arith)
     ∙ (λ i. recordBytes by (is i) ++ raisedRun by k (behind i) (drop (long i) out))
 
 -- where there is room for them, whatever stands behind them
 pub raisedRun-records : (by : Shift) (rs : List Record) (t out : List ℕ) → EveryWhole rs → Below wordBound (flat rs) → typeLenOf rs ≤ length out
-    → raisedRun by (length rs) (bytesOfWords lowFirst (flat rs) ++ t) out ≡ recordsBytes by rs ++ drop (typeLenOf rs) out
+    → raisedRun by (length rs) (bytesOfWords (by .order) (flat rs) ++ t) out ≡ recordsBytes by rs ++ drop (typeLenOf rs) out
 raisedRun-records by [] t out whole fit room = recordsBytes-none by out
 raisedRun-records by (r ∷ rs) t out whole fit room =
-    let words : List ℕ = bytesOfWords lowFirst (wordsOf r) in
-    let later : List ℕ = bytesOfWords lowFirst (flat rs) ++ t in
+    let words : List ℕ = bytesOfWords (by .order) (wordsOf r) in
+    let later : List ℕ = bytesOfWords (by .order) (flat rs) ++ t in
     let size : ℕ = 4 * length (wordsOf r) in
-    let split : bytesOfWords lowFirst (wordsOf r ++ flat rs) ++ t ≡ words ++ later =
-    ap (λ (s : List ℕ). s ++ t) (bytesOfWords-append lowFirst (wordsOf r) (flat rs)) ∙ append-assoc words (bytesOfWords lowFirst (flat rs)) t in
-    let is = ap (recordIn lowFirst) split ∙ recordIn-whole lowFirst r later (whole .0) (below-left wordBound (wordsOf r) (flat rs) fit) in
+    let split : bytesOfWords (by .order) (wordsOf r ++ flat rs) ++ t ≡ words ++ later =
+    ap (λ (s : List ℕ). s ++ t) (bytesOfWords-append (by .order) (wordsOf r) (flat rs)) ∙ append-assoc words (bytesOfWords (by .order) (flat rs)) t in
+    let is = ap (recordIn (by .order)) split ∙ recordIn-whole (by .order) r later (whole .0) (below-left wordBound (wordsOf r) (flat rs) fit) in
     let l = length-append (wordsOf r) (flat rs) in
     let d = length-drop size out in
     let far : size + typeLenOf rs ≡ typeLenOf (r ∷ rs) = omega arith in

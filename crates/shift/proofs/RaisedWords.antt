@@ -23,11 +23,11 @@ use Rattle.paper.specs.rules.Rename.{rename, raise}
 use Rattle.paper.specs.rules.Table.{kindIn, vlenIn, tailLength, tailRoles}
 use Rattle.rows.proofs.RoleCodes.{nameCode-range, refCode-range, roleCode-high, between-in, between-out}
 use Rattle.kindrows.specs.Codes.{nameCode, roleCode, roleAt, isNameCode, isRefCode}
-use Rattle.paper.specs.rules.Word.{lowFirst, wordBytes, bytesOfWords, wordAt, putWord}
+use Rattle.paper.specs.rules.Word.{wordBytes, bytesOfWords, wordAt, putWord}
 
 module _ (by : Shift) (s : List ℕ) where
   pub raisedFrom-one : (p : ℕ) (ρ : Role) (ρs : List Role)
-      → raisedFrom by s p (ρ ∷ ρs) ≡ wordBytes lowFirst (raisedWord by ρ (wordAt lowFirst s p)) ++ raisedFrom by s (p + 4) ρs
+      → raisedFrom by s p (ρ ∷ ρs) ≡ wordBytes (by .order) (raisedWord by ρ (wordAt (by .order) s p)) ++ raisedFrom by s (p + 4) ρs
   unfolding raisedFrom
   raisedFrom-one p ρ ρs = refl
 
@@ -43,26 +43,26 @@ module _ (by : Shift) (s : List ℕ) where
   raisedFrom-append p [] σs = let here : p ≡ p + 4 * 0 = omega arith in ap (λ (q : ℕ). raisedFrom by s q σs) here
   raisedFrom-append p (ρ ∷ ρs) σs =
       let there : p + 4 + 4 * length ρs ≡ p + 4 * suc (length ρs) = omega arith in
-      ap (λ (t : List ℕ). wordBytes lowFirst (raisedWord by ρ (wordAt lowFirst s p)) ++ t)
+      ap (λ (t : List ℕ). wordBytes (by .order) (raisedWord by ρ (wordAt (by .order) s p)) ++ t)
       (raisedFrom-append (p + 4) ρs σs ∙ ap (λ (q : ℕ). raisedFrom by s (p + 4) ρs ++ raisedFrom by s q σs) there)
 
   -- the bytes of a record: its head, the words that stand once, the entries
-  pub recordBytes-parts : let info = wordAt lowFirst s 4 in let row = rowOf (kindIn info) in
-      recordBytes by (recordIn lowFirst s)
+  pub recordBytes-parts : let info = wordAt (by .order) s 4 in let row = rowOf (kindIn info) in
+      recordBytes by (recordIn (by .order) s)
       ≡ raisedFrom by s 0 (names (row .name) ∷ number ∷ row .thirdRole ∷ [])
       ++ (raisedFrom by s 12 (row .once) ++ raisedFrom by s (12 + 4 * length (row .once)) (times (vlenIn info) (row .each)))
   unfolding recordBytes recordIn rename raisedFrom tailLength tailRoles
   recordBytes-parts =
-      let row = rowOf (kindIn (wordAt lowFirst s 4)) in
-      let v = vlenIn (wordAt lowFirst s 4) in
+      let row = rowOf (kindIn (wordAt (by .order) s 4)) in
+      let v = vlenIn (wordAt (by .order) s 4) in
       let few : length (row .once) + v * length (row .each) ≡ length (row .once ++ times v (row .each)) =
       sym (length-append (row .once) (times v (row .each)) ∙ ap (λ (n : ℕ). length (row .once) + n) (length-times v (row .each))) in
       ap
-      (λ (n : ℕ). bytesOfWords lowFirst
-      (raisedWord by (names (row .name)) (wordAt lowFirst s 0)
-      ∷ wordAt lowFirst s 4
-      ∷ raisedWord by (row .thirdRole) (wordAt lowFirst s 8)
-      ∷ raisedWords by (row .once ++ times v (row .each)) (wordsFrom lowFirst s 12 n)))
+      (λ (n : ℕ). bytesOfWords (by .order)
+      (raisedWord by (names (row .name)) (wordAt (by .order) s 0)
+      ∷ wordAt (by .order) s 4
+      ∷ raisedWord by (row .thirdRole) (wordAt (by .order) s 8)
+      ∷ raisedWords by (row .once ++ times v (row .each)) (wordsFrom (by .order) s 12 n)))
       few
       ∙ ap (λ (t : List ℕ). raisedFrom by s 0 (names (row .name) ∷ number ∷ row .thirdRole ∷ []) ++ t) (raisedFrom-append 12 (row .once) (times v (row .each)))
 
@@ -108,16 +108,16 @@ module _ (by : Shift) {role w : ℕ} where
       go (refers rule) f = absurd (omega (arith, plain (refers rule) f, refCode-range rule))
       go (holds rule) f = absurd (omega (arith, plain (holds rule) f, refCode-range rule))
 
-  pub raised-put : {r w′ at : ℕ} {before after : List ℕ} → w ≡ w′ → WordRaised by role w r → after ≡ putWord lowFirst before at r
+  pub raised-put : {r w′ at : ℕ} {before after : List ℕ} → w ≡ w′ → WordRaised by role w r → after ≡ putWord (by .order) before at r
       → WordPut by role w′ at before after
   raised-put {r} {w′} {at} {before} {after} same raised e = record { puts = go }
     where
-      go : (ρ : Role) → role ≡ roleCode ρ → after ≡ putWord lowFirst before at (raisedWord by ρ w′)
+      go : (ρ : Role) → role ≡ roleCode ρ → after ≡ putWord (by .order) before at (raisedWord by ρ w′)
       go ρ f =
           e
-          ∙ ap (putWord lowFirst before at) (raised .raises ρ f)
-          ∙ putWord-cut before at (raisedWord by ρ w)
-          ∙ ap (λ (x : ℕ). putWord lowFirst before at (raisedWord by ρ x)) same
+          ∙ ap (putWord (by .order) before at) (raised .raises ρ f)
+          ∙ putWord-cut (by .order) before at (raisedWord by ρ w)
+          ∙ ap (λ (x : ℕ). putWord (by .order) before at (raisedWord by ρ x)) same
 
 -- ── the words of a group, put one after the other ──
 
@@ -129,7 +129,7 @@ put-nothing by s p out = put-none out p
 -- the words of some roles, put one behind the other
 pub put-more : (by : Shift) (s : List ℕ) (p : ℕ) (out : List ℕ) (ρs : List Role) (σ : Role) → p + 4 * suc (length ρs) ≤ length out
     → {out₁ out₂ : List ℕ} {p₁ : ℕ} → p₁ ≡ p + 4 * length ρs
-    → out₁ ≡ put out p (raisedFrom by s p ρs) → out₂ ≡ putWord lowFirst out₁ p₁ (raisedWord by σ (wordAt lowFirst s p₁))
+    → out₁ ≡ put out p (raisedFrom by s p ρs) → out₂ ≡ putWord (by .order) out₁ p₁ (raisedWord by σ (wordAt (by .order) s p₁))
     → out₂ ≡ put out p (raisedFrom by s p (ρs ++ (σ ∷ [])))
 unfolding raisedFrom
 put-more by s p out ρs σ room {out₁} {out₂} {p₁} there e f =
@@ -137,15 +137,15 @@ put-more by s p out ρs σ room {out₁} {out₂} {p₁} there e f =
     let long = length-raisedFrom by s p ρs in
     let same = ap length e ∙ length-put out p run (omega arith) in
     f
-    ∙ put-word out₁ p₁ _ (omega arith)
-    ∙ ap₂ (λ (o : List ℕ) (n : ℕ). put o p₁ (wordBytes lowFirst (raisedWord by σ (wordAt lowFirst s n)))) e there
-    ∙ put-put out p run (omega arith) (omega arith) (wordBytes lowFirst (raisedWord by σ (wordAt lowFirst s (p + 4 * length ρs))))
+    ∙ put-word (by .order) out₁ p₁ _ (omega arith)
+    ∙ ap₂ (λ (o : List ℕ) (n : ℕ). put o p₁ (wordBytes (by .order) (raisedWord by σ (wordAt (by .order) s n)))) e there
+    ∙ put-put out p run (omega arith) (omega arith) (wordBytes (by .order) (raisedWord by σ (wordAt (by .order) s (p + 4 * length ρs))))
     ∙ ap (put out p) (sym (raisedFrom-append by s p ρs (σ ∷ [])))
 
 -- those of a head
 pub head-put : {by : Shift} {s out : List ℕ} {k : ℕ} → 12 ≤ length out → {a c : ℕ} → a ≡ nameCode (rowOf k .name) → c ≡ roleCode (rowOf k .thirdRole)
-    → {out₁ out₂ out₃ : List ℕ} → WordPut by a (wordAt lowFirst s 0) 0 out out₁ → WordPut by 0 (wordAt lowFirst s 4) 4 out₁ out₂
-    → WordPut by c (wordAt lowFirst s 8) 8 out₂ out₃ → HeadPut by k s out out₃
+    → {out₁ out₂ out₃ : List ℕ} → WordPut by a (wordAt (by .order) s 0) 0 out out₁ → WordPut by 0 (wordAt (by .order) s 4) 4 out₁ out₂
+    → WordPut by c (wordAt (by .order) s 8) 8 out₂ out₃ → HeadPut by k s out out₃
 head-put {by} {s} {out} {k} room e g first second third =
     let name : Role = names (rowOf k .name) in
     let last : Role = rowOf k .thirdRole in
@@ -169,7 +169,7 @@ module _ {by : Shift} {g : Group} {s : List ℕ} {p : ℕ} {out : List ℕ} wher
   module _ {n : ℕ} {before : List ℕ} (sofar : Sofar by g s p out n before) where
     -- one word more
     pub sofar-more : p + 4 * g .words ≤ length out → n < g .words → {role p₁ : ℕ} {after : List ℕ} → p₁ ≡ p + 4 * n
-        → ((ρs : List Role) → GroupOf g ρs → role ≡ roleAt ρs n) → WordPut by role (wordAt lowFirst s p₁) p₁ before after → Sofar by g s p out (suc n) after
+        → ((ρs : List Role) → GroupOf g ρs → role ≡ roleAt ρs n) → WordPut by role (wordAt (by .order) s p₁) p₁ before after → Sofar by g s p out (suc n) after
     sofar-more room l {role} {p₁} {after} there codes word = record { puts = go }
       where
         go : (ρs : List Role) → GroupOf g ρs → suc n ≤ length ρs → after ≡ put out p (raisedFrom by s p (take (suc n) ρs))

@@ -15,7 +15,8 @@ use Rattle.paper.specs.terms.Reading.{wordsFrom, recordIn}
 use Rattle.paper.specs.rules.Rename.{renameWord, renameWords, rename, raise}
 use Rattle.paper.specs.rules.Table.{Record, wordsOf}
 use Rattle.paper.specs.rules.Walk.{flat}
-use Rattle.paper.specs.rules.Word.{lowFirst, bytesOfWords, putWord}
+use Rattle.paper.specs.declared.Order.{Order}
+use Rattle.paper.specs.rules.Word.{bytesOfWords, putWord}
 use Rattle.kindrows.specs.Codes.{roleAt, roleCode}
 
 -- the raising that a shift stands for: of a word, of a run of words, of a record
@@ -30,26 +31,26 @@ raisedRecord by r = rename (raise (by .types .0)) (raise (by .names .0)) r
 
 -- the bytes of the words from a place on, raised by their roles
 unfoldable pub raisedFrom : Shift → List ℕ → ℕ → List Role → List ℕ
-raisedFrom by s p ρs = bytesOfWords lowFirst (raisedWords by ρs (wordsFrom lowFirst s p (length ρs)))
+raisedFrom by s p ρs = bytesOfWords (by .order) (raisedWords by ρs (wordsFrom (by .order) s p (length ρs)))
 
 -- how many bytes the record has that some bytes begin with
-abbrev pub recordLength : List ℕ → ℕ
-recordLength s = 4 * length (wordsOf (recordIn lowFirst s))
+abbrev pub recordLength : Order → List ℕ → ℕ
+recordLength order s = 4 * length (wordsOf (recordIn order s))
 
 -- the bytes of a record, and of many, raised
 unfoldable pub recordBytes : Shift → Record → List ℕ
-recordBytes by r = bytesOfWords lowFirst (wordsOf (raisedRecord by r))
+recordBytes by r = bytesOfWords (by .order) (wordsOf (raisedRecord by r))
 
 -- so many records that stand one behind the other, raised, at the front of an output, as far as it has room for them
 abbrev pub raisedRun : Shift → ℕ → List ℕ → List ℕ → List ℕ
 raisedRun by zero s out = out
 raisedRun by (suc k) s out =
-    cond (leb (recordLength s) (length out))
-    (recordBytes by (recordIn lowFirst s) ++ raisedRun by k (drop (recordLength s) s) (drop (recordLength s) out))
+    cond (leb (recordLength (by .order) s) (length out))
+    (recordBytes by (recordIn (by .order) s) ++ raisedRun by k (drop (recordLength (by .order) s) s) (drop (recordLength (by .order) s) out))
     out
 
 unfoldable pub recordsBytes : Shift → List Record → List ℕ
-recordsBytes by rs = bytesOfWords lowFirst (flat (map (raisedRecord by) rs))
+recordsBytes by rs = bytesOfWords (by .order) (flat (map (raisedRecord by) rs))
 
 -- the roles of a head
 abbrev pub headRoles : ℕ → List Role
@@ -71,7 +72,7 @@ pub record WordRaised (by : Shift) (role w r : ℕ) : Type 0 where
 
 -- and put at a place
 pub record WordPut (by : Shift) (role w at : ℕ) (before after : List ℕ) : Type 0 where
-  pub puts : (ρ : Role) → role ≡ roleCode ρ → after ≡ putWord lowFirst before at (raisedWord by ρ w)
+  pub puts : (ρ : Role) → role ≡ roleCode ρ → after ≡ putWord (by .order) before at (raisedWord by ρ w)
 
 -- the words of a head, and of a group, and of so many groups, each at its place in some bytes
 pub record HeadPut (by : Shift) (kind : ℕ) (s before after : List ℕ) : Type 0 where
@@ -85,8 +86,8 @@ pub record EntriesPut (by : Shift) (g : Group) (v : ℕ) (s : List ℕ) (at : �
 
 -- the record that some bytes begin with, at the front of an output that has room for it; how many bytes it has, 0 where there is no room
 pub record RecordPut (by : Shift) (s before after : List ℕ) (r : ℕ) : Type 0 where
-  pub puts : after ≡ laid before 0 (recordBytes by (recordIn lowFirst s))
-  pub long : r ≡ cond (leb (recordLength s) (length before)) (recordLength s) 0
+  pub puts : after ≡ laid before 0 (recordBytes by (recordIn (by .order) s))
+  pub long : r ≡ cond (leb (recordLength (by .order) s) (length before)) (recordLength (by .order) s) 0
 
 -- ── what is asked ──
 
@@ -103,6 +104,6 @@ pub record EntriesAsk (g : Group) (v at room : ℕ) : Type 0 where
   pub small : room < 1000000
 
 -- just the room for the record that some bytes begin with
-pub record RecordAsk (s : List ℕ) (room : ℕ) : Type 0 where
-  pub fits : recordLength s ≡ room
+pub record RecordAsk (order : Order) (s : List ℕ) (room : ℕ) : Type 0 where
+  pub fits : recordLength order s ≡ room
   pub small : room < 1000000

@@ -1,6 +1,7 @@
 // Words are raised by their roles, a group at a time: the head of a record, the words that stand once, an entry. Each is put at the
 // place in the output that it has in the record's bytes.
 use paper::NameOff;
+use paper::Order;
 use paper::Place;
 use paper::TypeNo;
 use rows::is_name;
@@ -9,11 +10,12 @@ use rows::name_role;
 use rows::third_role;
 ghost use Prim.Native.Nat.{_≤_};
 ghost use lib.ListN.{length};
-ghost use Rattle.paper.specs.rules.Word.{lowFirst, wordAt};
+ghost use Rattle.paper.specs.rules.Word.{wordAt};
 ghost use Rattle.shift.specs.Raising.{EntriesAsk, EntriesPut, GroupAsk, GroupPut, HeadPut, WordPut, WordRaised};
 
-// By how much type numbers and name offsets are raised.
+// By how much type numbers and name offsets are raised, and the byte order of the words that are.
 pub struct Shift {
+    pub order: Order,
     pub types: TypeNo,
     pub names: NameOff,
 }
@@ -41,10 +43,11 @@ fn raised(by: Shift, role: u32, w: u32) -> u32
 
 // The word at a place.
 fn raise_word(bytes: &[u8], at: Place, role: u32, by: Shift, out: &mut [u8])
-    ensures { λ r. ⌜ WordPut by role (wordAt lowFirst (now (bytes .entry)) (at .0)) (at .0) (now (out .entry)) (now (out .exit)) ⌝ }
+    ensures { λ r. ⌜ WordPut by role (wordAt (by .order) (now (bytes .entry)) (at .0)) (at .0) (now (out .entry)) (now (out .exit)) ⌝ }
 {
-    let w = raised(by, role, words::read(bytes, at));
-    words::write(out, at, w);
+    let order = by.order;
+    let w = raised(by, role, words::read(order, bytes, at));
+    words::write(order, out, at, w);
 }
 
 // The head of a record of a kind: its name, its info word, its third word. Every record has the three, so that none is counted.

@@ -16,7 +16,6 @@ use words::rest_from;
 ghost use mathlib.Core.Path.{_≡_};
 ghost use lib.ListN.{length};
 ghost use Rattle.paper.specs.rules.Kind.{rowOf};
-ghost use Rattle.paper.specs.rules.Word.{lowFirst};
 ghost use Rattle.paper.specs.terms.Put.{put};
 ghost use Rattle.paper.specs.terms.Reading.{recordIn};
 ghost use Rattle.shift.specs.Raising.{GroupOf, RecordAsk, RecordPut, raisedRun, recordBytes};
@@ -47,10 +46,11 @@ fn entry_of(kind: u32) -> Group
 
 // The record that some bytes begin with is put into an output of just its length.
 fn put_record(bytes: &[u8], by: Shift, out: &mut [u8])
-    requires { ⌜ RecordAsk (now bytes) (length (now out)) ⌝ }
-    ensures { λ r. ⌜ now (out .exit) ≡ put (now (out .entry)) 0 (recordBytes by (recordIn lowFirst (now (bytes .entry)))) ⌝ }
+    requires { ⌜ RecordAsk (by .order) (now bytes) (length (now out)) ⌝ }
+    ensures { λ r. ⌜ now (out .exit) ≡ put (now (out .entry)) 0 (recordBytes by (recordIn (by .order) (now (bytes .entry)))) ⌝ }
 {
-    let info = words::read(bytes, Place(4));
+    let order = by.order;
+    let info = words::read(order, bytes, Place(4));
     let kind = kind_of(info);
     raise_head(bytes, kind, by, out);
     let once = once_of(kind);
@@ -66,7 +66,8 @@ fn put_record(bytes: &[u8], by: Shift, out: &mut [u8])
 fn raise_record(bytes: &[u8], by: Shift, out: &mut [u8]) -> u32
     ensures { λ r. ⌜ RecordPut by (now (bytes .entry)) (now (out .entry)) (now (out .exit)) r ⌝ }
 {
-    let size = 12 + 4 * tail_words(words::read(bytes, Place(4)));
+    let order = by.order;
+    let size = 12 + 4 * tail_words(words::read(order, bytes, Place(4)));
     let len = size as usize;
     if out.len() < len {
         return 0;

@@ -19,7 +19,8 @@ use Rattle.paper.specs.rules.Header.{orderOf}
 use Rattle.paper.specs.rules.KindNo.{ARRAY}
 use Rattle.paper.specs.rules.Table.{kindIn}
 use Rattle.paper.specs.rules.Walk.{known}
-use Rattle.paper.specs.rules.Word.{lowFirst, wordAt}
+use Rattle.paper.specs.declared.Order.{Order}
+use Rattle.paper.specs.rules.Word.{wordAt}
 
 -- ── rules as numbers ──
 
@@ -50,26 +51,26 @@ module _ (k n : ℕ) {f : Bool} (flag : f ≡ known k) where
 
 -- ── a record by the bytes from its place on ──
 
-pub stepWords-read : (s : List ℕ) {w k third element n r : ℕ} {x : Step} → w ≡ wordAt lowFirst s 4 → k ≡ kindIn w → third ≡ wordAt lowFirst s 8
-    → element ≡ wordAt lowFirst s 12 → n ≡ wordAt lowFirst s 20 → r ≡ sizeCode (rowOf k .size) → x ≡ stepBy (sizeRuleOf r) third element n → x ≡ stepWords s
-stepWords-read s {k = k} {r = r} info kind e₈ e₁₂ e₂₀ code d =
+pub stepWords-read : (order : Order) (s : List ℕ) {w k third element n r : ℕ} {x : Step} → w ≡ wordAt order s 4 → k ≡ kindIn w → third ≡ wordAt order s 8
+    → element ≡ wordAt order s 12 → n ≡ wordAt order s 20 → r ≡ sizeCode (rowOf k .size) → x ≡ stepBy (sizeRuleOf r) third element n → x ≡ stepWords order s
+stepWords-read order s {k = k} {r = r} info kind e₈ e₁₂ e₂₀ code d =
     let rule : sizeRuleOf r ≡ rowOf k .size = ap sizeRuleOf code ∙ sizeRuleOf-sizeCode _ in
     d
     ∙ (λ i. stepBy (rule i) (e₈ i) (e₁₂ i) (e₂₀ i))
-    ∙ ap (λ (j : ℕ). stepBy (rowOf j .size) (wordAt lowFirst s 8) (wordAt lowFirst s 12) (wordAt lowFirst s 20)) (kind ∙ ap kindIn info)
+    ∙ ap (λ (j : ℕ). stepBy (rowOf j .size) (wordAt order s 8) (wordAt order s 12) (wordAt order s 20)) (kind ∙ ap kindIn info)
 
-module _ (s : List ℕ) {w : ℕ} (info : w ≡ wordAt lowFirst s 4) {k : ℕ} (kind : k ≡ kindIn w) {t : Bool} (test : t ≡ not (readable k (length s))) where
+module _ (order : Order) (s : List ℕ) {w : ℕ} (info : w ≡ wordAt order s 4) {k : ℕ} (kind : k ≡ kindIn w) {t : Bool} (test : t ≡ not (readable k (length s))) where
   abbrev choose : Bool → Step
-  choose b = cond b (stepWords s) lost
+  choose b = cond b (stepWords order s) lost
 
-  stepOf-chosen : choose (readable k (length s)) ≡ stepOf s
+  stepOf-chosen : choose (readable k (length s)) ≡ stepOf order s
   unfolding stepOf
   stepOf-chosen = ap (λ (x : ℕ). choose (readable x (length s))) (kind ∙ ap kindIn info)
 
-  pub stepOf-unreadable : t ≡ true → lost ≡ stepOf s
+  pub stepOf-unreadable : t ≡ true → lost ≡ stepOf order s
   stepOf-unreadable e = sym (ap choose (not-true (readable k (length s)) (sym test ∙ e))) ∙ stepOf-chosen
 
-  pub stepOf-readable : t ≡ false → {x : Step} → x ≡ stepWords s → x ≡ stepOf s
+  pub stepOf-readable : t ≡ false → {x : Step} → x ≡ stepWords order s → x ≡ stepOf order s
   stepOf-readable e d = d ∙ sym (ap choose (not-false (readable k (length s)) (sym test ∙ e))) ∙ stepOf-chosen
 
 -- ── the record of a type ──
@@ -89,16 +90,16 @@ module _ (b index : List ℕ) (t : ℕ) where
 
   module _ (inside : t < length index) where
     pub stepAt-header : getD index t 0 < 24 → lost ≡ stepAt b index t
-    unfolding orderOf stepAt stepAtPlace
+    unfolding stepAt stepAtPlace
     stepAt-header h = rw (lt-ltb _ _ inside, lt-leb _ _ h) refl
 
     pub stepAt-cut : 24 ≤ getD index t 0 → length b < getD index t 0 + 12 → lost ≡ stepAt b index t
-    unfolding orderOf stepAt stepAtPlace
+    unfolding stepAt stepAtPlace
     stepAt-cut h c = rw (lt-ltb _ _ inside, le-leb _ _ h, lt-leb _ _ c) refl
 
     -- its words stand so far from the record's own place
-    stepAt-inside : 24 ≤ getD index t 0 → getD index t 0 + 12 ≤ length b → stepAt b index t ≡ stepOf (drop (getD index t 0) b)
-    unfolding orderOf stepAt stepAtPlace stepOf readable
+    stepAt-inside : 24 ≤ getD index t 0 → getD index t 0 + 12 ≤ length b → stepAt b index t ≡ stepOf (orderOf b) (drop (getD index t 0) b)
+    unfolding stepAt stepAtPlace stepOf readable
     stepAt-inside h c =
         let p = getD index t 0 in
         let same : leb 24 (length (drop p b)) ≡ leb (p + 24) (length b) = rw length-drop (leb-shift 24 p (length b) (omega arith)) in
@@ -106,14 +107,17 @@ module _ (b index : List ℕ) (t : ℕ) where
           lt-ltb _ _ inside,
           le-leb _ _ h,
           le-leb _ _ c,
-          wordAt-drop lowFirst b p 4,
-          wordAt-drop lowFirst b p 8,
-          wordAt-drop lowFirst b p 12,
-          wordAt-drop lowFirst b p 20,
+          wordAt-drop (orderOf b) b p 4,
+          wordAt-drop (orderOf b) b p 8,
+          wordAt-drop (orderOf b) b p 12,
+          wordAt-drop (orderOf b) b p 20,
           same,
         )
         refl
 
-    pub stepAt-part : 24 ≤ getD index t 0 → getD index t 0 + 12 ≤ length b → {x : Step}
-        → x ≡ stepOf (take (length b - getD index t 0) (drop (getD index t 0) b)) → x ≡ stepAt b index t
-    stepAt-part h c e = e ∙ ap stepOf (part-rest b (getD index t 0)) ∙ sym (stepAt-inside h c)
+    pub stepAt-part : 24 ≤ getD index t 0 → getD index t 0 + 12 ≤ length b → {x : Step} (order : Order) → order ≡ orderOf b
+        → x ≡ stepOf order (take (length b - getD index t 0) (drop (getD index t 0) b)) → x ≡ stepAt b index t
+    stepAt-part h c order o e =
+        e
+        ∙ ap (λ (q : Order). stepOf q (take (length b - getD index t 0) (drop (getD index t 0) b))) o
+        ∙ ap (stepOf (orderOf b)) (part-rest b (getD index t 0)) ∙ sym (stepAt-inside h c)

@@ -15,7 +15,8 @@ use Rattle.paper.specs.terms.Reading.{recordIn}
 use Rattle.paper.specs.rules.Size.{Step, Found, exactly, noneAt, lostAt, tooFar, scale, stepBy, sizeBy, stepIn, sizeFound, exactSize, answerOf}
 use Rattle.paper.specs.rules.Table as table
 use Rattle.paper.specs.rules.Table.{Record, Table, recordAt, kindIn, kindOf, kindAt, tailLength}
-use Rattle.paper.specs.rules.Word.{lowFirst, wordAt}
+use Rattle.paper.specs.declared.Order.{Order}
+use Rattle.paper.specs.rules.Word.{wordAt}
 use Rattle.rows.proofs.RecordWords.{getD-wordsFrom, kind-read}
 use Rattle.kindrows.specs.Codes.{sizeCode, sizeRuleOf}
 
@@ -39,17 +40,17 @@ left-shown T t e = left-all tellIn (stepIn T) (ap (λ (k : ℕ). tellIn (sizeBy 
 abbrev stepFor : Record → Step
 stepFor r = stepBy (rowOf (kindOf r) .size) (r .third) (getD (r .tail) 0 0) (getD (r .tail) 2 0)
 
-stepWords-record : (s : List ℕ) → stepWords s ≡ stepFor (recordIn lowFirst s)
+stepWords-record : (order : Order) (s : List ℕ) → stepWords order s ≡ stepFor (recordIn order s)
 unfolding recordIn tailLength
-stepWords-record s =
-    let k = kindIn (wordAt lowFirst s 4) in
-    let long = tailLength (wordAt lowFirst s 4) in
+stepWords-record order s =
+    let k = kindIn (wordAt order s 4) in
+    let long = tailLength (wordAt order s 4) in
     stepBy-same (rowOf k .size) (length (rowOf k .once)) (rowOf-counts k) refl
-    (λ h. (sym (getD-wordsFrom s 12 long 0 (omega arith)), sym (getD-wordsFrom s 12 long 2 (omega arith))))
+    (λ h. (sym (getD-wordsFrom order s 12 long 0 (omega arith)), sym (getD-wordsFrom order s 12 long 2 (omega arith))))
 
 -- by the code of the rule of its kind, and the words of the bytes that its record begins
-pub stepIn-rule : (T : Table) (t : ℕ) (s : List ℕ) → recordIn lowFirst s ≡ recordAt T t → {k r : ℕ} → k ≡ kindAt T t → r ≡ sizeCode (rowOf k .size)
-    → {x : Step} → x ≡ stepBy (sizeRuleOf r) (wordAt lowFirst s 8) (wordAt lowFirst s 12) (wordAt lowFirst s 20) → x ≡ stepIn T t
+pub stepIn-rule : (T : Table) (t : ℕ) (order : Order) (s : List ℕ) → recordIn order s ≡ recordAt T t → {k r : ℕ} → k ≡ kindAt T t → r ≡ sizeCode (rowOf k .size)
+    → {x : Step} → x ≡ stepBy (sizeRuleOf r) (wordAt order s 8) (wordAt order s 12) (wordAt order s 20) → x ≡ stepIn T t
 unfolding stepIn
-stepIn-rule T t s is kind code says =
-    stepWords-read s refl (kind ∙ sym (kind-read s is refl refl)) refl refl refl code says ∙ stepWords-record s ∙ ap stepFor is
+stepIn-rule T t order s is kind code says =
+    stepWords-read order s refl (kind ∙ sym (kind-read order s is refl refl)) refl refl refl code says ∙ stepWords-record order s ∙ ap stepFor is

@@ -12,7 +12,8 @@ use Rattle.paper.specs.rules.Size as size
 use Rattle.paper.specs.rules.Size.{is, manyOf, sizeless, lost, stepBy}
 use Rattle.paper.specs.rules.Table.{kindIn}
 use Rattle.paper.specs.rules.Walk.{known}
-use Rattle.paper.specs.rules.Word.{lowFirst, wordAt}
+use Rattle.paper.specs.declared.Order.{Order}
+use Rattle.paper.specs.rules.Word.{wordAt}
 
 abbrev pub stepAsPaper : Step → size.Step
 stepAsPaper (Is s) = is s
@@ -27,11 +28,11 @@ unfoldable pub readable : ℕ → ℕ → Bool
 readable kind len = known kind && (not (eqb kind ARRAY) || leb 24 len)
 
 -- what the words say, where the record can be read
-abbrev pub stepWords : List ℕ → size.Step
-stepWords s = stepBy (rowOf (kindIn (wordAt lowFirst s 4)) .size) (wordAt lowFirst s 8) (wordAt lowFirst s 12) (wordAt lowFirst s 20)
+abbrev pub stepWords : Order → List ℕ → size.Step
+stepWords order s = stepBy (rowOf (kindIn (wordAt order s 4)) .size) (wordAt order s 8) (wordAt order s 12) (wordAt order s 20)
 
-unfoldable pub stepOf : List ℕ → size.Step
-stepOf s = cond (readable (kindIn (wordAt lowFirst s 4)) (length s)) (stepWords s) lost
+unfoldable pub stepOf : Order → List ℕ → size.Step
+stepOf order s = cond (readable (kindIn (wordAt order s 4)) (length s)) (stepWords order s) lost
 
 -- ── counts ──
 

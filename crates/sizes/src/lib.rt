@@ -2,6 +2,7 @@
 mod shown; // of a type of the table that an index shows
 
 use kindrows::ARRAY;
+use paper::Order;
 use paper::Place;
 use paper::Sized;
 use paper::TypeNo;
@@ -15,7 +16,7 @@ ghost use mathlib.Core.Bool.{not};
 ghost use Rattle.sizes.specs.SizeStep.{cut, readable, stepAsPaper, stepOf, stepWords};
 ghost use Rattle.paper.specs.rules.Answer.{sizedAsPaper};
 ghost use Rattle.paper.specs.rules.Size.{exactly, sizeAnswer, sizeOf, stepAt, stepBy};
-ghost use Rattle.paper.specs.rules.Word.{lowFirst, wordAt};
+ghost use Rattle.paper.specs.rules.Word.{wordAt};
 ghost use Rattle.kindrows.specs.Codes.{sizeRuleOf};
 
 // What one record says of a size: it, so many times another type's, none, or that it cannot be read.
@@ -27,14 +28,17 @@ pub(crate) enum Step {
 }
 
 // By rule: from a record's third word, or its element and its element count. Only what the rule asks for is read.
-fn step_by(rule: u32, s: &[u8]) -> Step
-    ensures { λ r. ⌜ stepAsPaper r ≡ stepBy (sizeRuleOf rule) (wordAt lowFirst (now (s .entry)) 8) (wordAt lowFirst (now (s .entry)) 12) (wordAt lowFirst (now (s .entry)) 20) ⌝ }
+fn step_by(order: Order, rule: u32, s: &[u8]) -> Step
+    ensures { λ r. ⌜ stepAsPaper r ≡ stepBy (sizeRuleOf rule) (wordAt order (now (s .entry)) 8) (wordAt order (now (s .entry)) 12) (wordAt order (now (s .entry)) 20) ⌝ }
 {
     match rule {
         1 => Step::Is(8),
-        2 => Step::Is(words::read(s, Place(8))),
-        3 => Step::ManyOf(words::read(s, Place(20)), TypeNo(words::read(s, Place(12)))),
-        4 => Step::ManyOf(1, TypeNo(words::read(s, Place(8)))),
+        2 => Step::Is(words::read(order, s, Place(8))),
+        3 => Step::ManyOf(
+            words::read(order, s, Place(20)),
+            TypeNo(words::read(order, s, Place(12))),
+        ),
+        4 => Step::ManyOf(1, TypeNo(words::read(order, s, Place(8)))),
         _ => Step::Sizeless,
     }
 }
@@ -53,22 +57,22 @@ fn unreadable(kind: u32, len: usize) -> bool
 }
 
 // What a record says, by the words that its bytes begin with: any bytes are some record's.
-fn step_words(s: &[u8]) -> Step
-    ensures { λ r. ⌜ stepAsPaper r ≡ stepWords (now (s .entry)) ⌝ }
+fn step_words(order: Order, s: &[u8]) -> Step
+    ensures { λ r. ⌜ stepAsPaper r ≡ stepWords order (now (s .entry)) ⌝ }
 {
-    let kind = kind_of(words::read(s, Place(4)));
-    step_by(size_rule(kind), s)
+    let kind = kind_of(words::read(order, s, Place(4)));
+    step_by(order, size_rule(kind), s)
 }
 
 // The same, where the record can be read. Its words are read from its place on, so that no place wraps.
-fn step_of(s: &[u8]) -> Step
-    ensures { λ r. ⌜ stepAsPaper r ≡ stepOf (now (s .entry)) ⌝ }
+fn step_of(order: Order, s: &[u8]) -> Step
+    ensures { λ r. ⌜ stepAsPaper r ≡ stepOf order (now (s .entry)) ⌝ }
 {
-    let kind = kind_of(words::read(s, Place(4)));
+    let kind = kind_of(words::read(order, s, Place(4)));
     if unreadable(kind, s.len()) {
         return Step::Lost;
     }
-    step_words(s)
+    step_words(order, s)
 }
 
 // What the record of a type says: 21 where the index or the blob does not reach it.
@@ -86,7 +90,7 @@ fn step_at(b: &[u8], index: &[u32], t: TypeNo) -> Step
     if b.len() < p + 12 {
         return Step::Lost;
     }
-    step_of(&b[p..])
+    step_of(words::order_of(b), &b[p..])
 }
 
 // A product of counts, cut where every size but 0 overflows.

@@ -6,11 +6,12 @@ use mathlib.Core.Option.{Option}
 use lib.Dec.{eqb}
 use Rattle.paper.specs.rules.Span.{Member, Span, plainSpan, fieldSpan}
 use Rattle.paper.specs.rules.Table.{Record}
-use Rattle.paper.specs.rules.Word.{lowFirst, wordAt}
+use Rattle.paper.specs.declared.Order.{Order}
+use Rattle.paper.specs.rules.Word.{wordAt}
 
 -- the member whose three words stand at a place
-abbrev pub memberAt : List ℕ → ℕ → Member
-memberAt s p = record { name = wordAt lowFirst s p; type = wordAt lowFirst s (p + 4); offset = wordAt lowFirst s (p + 8) }
+abbrev pub memberAt : Order → List ℕ → ℕ → Member
+memberAt order s p = record { name = wordAt order s p; type = wordAt order s (p + 4); offset = wordAt order s (p + 8) }
 
 -- a member of which only the offset word is asked
 abbrev pub withOffset : ℕ → Member

@@ -2,6 +2,7 @@
 use kindrows::ENUM;
 use kindrows::ENUM64;
 use kindrows::INT;
+use paper::Order;
 use paper::Place;
 use rows::kind_of;
 ghost use mathlib.Core.Path.{_≡_};
@@ -14,7 +15,6 @@ ghost use Rattle.paper.specs.rules.KindNo.{ENUM, ENUM64, INT};
 ghost use Rattle.paper.specs.terms.Reading.{recordIn};
 ghost use Rattle.paper.specs.rules.Span.{bitOffset, endsBy, fieldSpan, isRegular, isRegularWord, plainSpan, wholeSpan};
 ghost use Rattle.paper.specs.rules.Table.{kindOf};
-ghost use Rattle.paper.specs.rules.Word.{lowFirst};
 
 // A width that a regular INT has.
 fn regular_width(w: u32) -> bool
@@ -37,23 +37,23 @@ fn regular_word(w: u32) -> bool
 }
 
 // A record is that of a regular INT.
-pub fn is_regular(s: &[u8]) -> bool
-    ensures { λ r. ⌜ r ≡ isRegular (recordIn lowFirst (now (s .entry))) ⌝ }
+pub fn is_regular(order: Order, s: &[u8]) -> bool
+    ensures { λ r. ⌜ r ≡ isRegular (recordIn order (now (s .entry))) ⌝ }
 {
-    if kind_of(words::read(s, Place(4))) != INT {
+    if kind_of(words::read(order, s, Place(4))) != INT {
         return false;
     }
-    regular_word(words::read(s, Place(12)))
+    regular_word(words::read(order, s, Place(12)))
 }
 
 // A base that a member of a record with kind_flag 1 may have.
-fn regular_or_other(s: &[u8]) -> bool
-    ensures { λ r. ⌜ r ≡ not (eqb (kindOf (recordIn lowFirst (now (s .entry)))) INT) || isRegular (recordIn lowFirst (now (s .entry))) ⌝ }
+fn regular_or_other(order: Order, s: &[u8]) -> bool
+    ensures { λ r. ⌜ r ≡ not (eqb (kindOf (recordIn order (now (s .entry)))) INT) || isRegular (recordIn order (now (s .entry))) ⌝ }
 {
-    if kind_of(words::read(s, Place(4))) != INT {
+    if kind_of(words::read(order, s, Place(4))) != INT {
         return true;
     }
-    is_regular(s)
+    is_regular(order, s)
 }
 
 // A kind that a field of some bits may be of.
@@ -87,21 +87,21 @@ fn whole_ends(from: u32, size: u32, end: u64) -> bool
 }
 
 // With kind_flag 0: an INT's own bits, or the whole of another base.
-fn plain_ends(bytes: &[u8], offset: u32, size: u32, end: u64) -> bool
-    ensures { λ r. ⌜ r ≡ endsBy end (plainSpan (recordIn lowFirst (now (bytes .entry))) (withOffset offset) size) ⌝ }
+fn plain_ends(order: Order, bytes: &[u8], offset: u32, size: u32, end: u64) -> bool
+    ensures { λ r. ⌜ r ≡ endsBy end (plainSpan (recordIn order (now (bytes .entry))) (withOffset offset) size) ⌝ }
 {
-    if kind_of(words::read(bytes, Place(4))) != INT {
+    if kind_of(words::read(order, bytes, Place(4))) != INT {
         return whole_ends(offset, size, end);
     }
-    let w = words::read(bytes, Place(12));
+    let w = words::read(order, bytes, Place(12));
     (offset as u64) + ((w / 65536 % 256) as u64) + ((w % 256) as u64) <= end
 }
 
 // With kind_flag 1: the whole of a base, or a field of w bits.
-fn field_ends(bytes: &[u8], offset: u32, size: u32, end: u64) -> bool
-    ensures { λ r. ⌜ r ≡ endsBy end (fieldSpan (recordIn lowFirst (now (bytes .entry))) (withOffset offset) size) ⌝ }
+fn field_ends(order: Order, bytes: &[u8], offset: u32, size: u32, end: u64) -> bool
+    ensures { λ r. ⌜ r ≡ endsBy end (fieldSpan (recordIn order (now (bytes .entry))) (withOffset offset) size) ⌝ }
 {
-    if !regular_or_other(bytes) {
+    if !regular_or_other(order, bytes) {
         return false;
     }
     let from = offset % 16777216;
@@ -109,7 +109,7 @@ fn field_ends(bytes: &[u8], offset: u32, size: u32, end: u64) -> bool
     if w == 0 {
         return whole_ends(from, size, end);
     }
-    if !takes_field(kind_of(words::read(bytes, Place(4)))) {
+    if !takes_field(kind_of(words::read(order, bytes, Place(4)))) {
         return false;
     }
     if 8 * (size as u64) < (w as u64) {
@@ -119,11 +119,11 @@ fn field_ends(bytes: &[u8], offset: u32, size: u32, end: u64) -> bool
 }
 
 // By kind_flag.
-pub fn span_ends(bytes: &[u8], flag: u32, offset: u32, size: u32, end: u64) -> bool
-    ensures { λ r. ⌜ r ≡ endsBy end (spanWith flag (recordIn lowFirst (now (bytes .entry))) offset size) ⌝ }
+pub fn span_ends(order: Order, bytes: &[u8], flag: u32, offset: u32, size: u32, end: u64) -> bool
+    ensures { λ r. ⌜ r ≡ endsBy end (spanWith flag (recordIn order (now (bytes .entry))) offset size) ⌝ }
 {
     if flag == 1 {
-        return field_ends(bytes, offset, size, end);
+        return field_ends(order, bytes, offset, size, end);
     }
-    plain_ends(bytes, offset, size, end)
+    plain_ends(order, bytes, offset, size, end)
 }

@@ -7,7 +7,8 @@ use native.Mathlib.Numerals.{add-one}
 use native.Mathlib.Omega.{arith}
 use lib.ListN.{length, getD, drop}
 use lib.Seq.{drop-cons, drop-length}
-use Rattle.paper.specs.rules.Word.{lowFirst, wordBytes, bytesOfWords}
+use Rattle.paper.specs.declared.Order.the-variants.{LowFirst}
+use Rattle.paper.specs.rules.Word.{wordBytes, bytesOfWords}
 use Rattle.sums.specs.Sum.{afterByte, sumFrom, sumOf, lentBytes, lentPlaces}
 
 -- a sum, and the sum that it comes to with the bytes that are left
@@ -30,8 +31,8 @@ summing-byte s i h g small e =
     record { small = small; comes = rw (e, add-one) (rw (drop-cons s i 0) at (g .comes)) }
 
 -- one place more of a slice
-pub summing-place : {all sum next : ℕ} (s : List ℕ) (i : ℕ) → i < length s → Summing all sum (bytesOfWords lowFirst (drop i s)) → next < 4294967291
-    → next ≡ sumFrom sum (wordBytes lowFirst (getD s i 0)) → Summing all next (bytesOfWords lowFirst (drop (i + 1) s))
+pub summing-place : {all sum next : ℕ} (s : List ℕ) (i : ℕ) → i < length s → Summing all sum (bytesOfWords LowFirst (drop i s)) → next < 4294967291
+    → next ≡ sumFrom sum (wordBytes LowFirst (getD s i 0)) → Summing all next (bytesOfWords LowFirst (drop (i + 1) s))
 summing-place s i h g small e =
     record { small = small; comes = rw (e, add-one) (rw (drop-cons s i 0) at (g .comes)) }
 
@@ -51,13 +52,13 @@ summing-lent {sum = sum} {n = n} some g small e = record { small = small; comes 
     go sum (suc n) l c = let back : suc n - 1 ≡ n = omega arith in rw back c
 
 -- and so many places
-pub summing-lent-place : {all sum next n : ℕ} → 0 < n → Summing all sum (bytesOfWords lowFirst (lentPlaces n)) → next < 4294967291
-    → next ≡ sumFrom sum (wordBytes lowFirst 4294967295)
-    → Summing all next (bytesOfWords lowFirst (lentPlaces (n - 1)))
+pub summing-lent-place : {all sum next n : ℕ} → 0 < n → Summing all sum (bytesOfWords LowFirst (lentPlaces n)) → next < 4294967291
+    → next ≡ sumFrom sum (wordBytes LowFirst 4294967295)
+    → Summing all next (bytesOfWords LowFirst (lentPlaces (n - 1)))
 summing-lent-place {sum = sum} {n = n} some g small e = record { small = small; comes = rw e (go sum n some (g .comes)) }
   where
-    go : {all : ℕ} (sum n : ℕ) → 0 < n → sumFrom sum (bytesOfWords lowFirst (lentPlaces n)) ≡ all
-        → sumFrom (sumFrom sum (wordBytes lowFirst 4294967295)) (bytesOfWords lowFirst (lentPlaces (n - 1))) ≡ all
+    go : {all : ℕ} (sum n : ℕ) → 0 < n → sumFrom sum (bytesOfWords LowFirst (lentPlaces n)) ≡ all
+        → sumFrom (sumFrom sum (wordBytes LowFirst 4294967295)) (bytesOfWords LowFirst (lentPlaces (n - 1))) ≡ all
     go sum zero l c = absurd (omega arith)
     go sum (suc n) l c = let back : suc n - 1 ≡ n = omega arith in rw back c
 
@@ -65,5 +66,5 @@ summing-lent-place {sum = sum} {n = n} some g small e = record { small = small; 
 pub lent-none : {n : ℕ} → n ≤ 0 → lentBytes n ≡ []
 lent-none {n} h = let none : n ≡ 0 = omega arith in ap lentBytes none
 
-pub lent-none-places : {n : ℕ} → n ≤ 0 → bytesOfWords lowFirst (lentPlaces n) ≡ []
-lent-none-places {n} h = let none : n ≡ 0 = omega arith in ap (λ (n : ℕ). bytesOfWords lowFirst (lentPlaces n)) none
+pub lent-none-places : {n : ℕ} → n ≤ 0 → bytesOfWords LowFirst (lentPlaces n) ≡ []
+lent-none-places {n} h = let none : n ≡ 0 = omega arith in ap (λ (n : ℕ). bytesOfWords LowFirst (lentPlaces n)) none

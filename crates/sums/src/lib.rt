@@ -2,7 +2,8 @@
 ghost use mathlib.Core.Path.{_≡_};
 ghost use Prim.Native.Nat.{_<_};
 ghost use lib.ListN.{length};
-ghost use Rattle.paper.specs.rules.Word.{lowFirst, bytesOfWords, wordBytes};
+ghost use Rattle.paper.specs.declared.Order.the-variants.{LowFirst};
+ghost use Rattle.paper.specs.rules.Word.{bytesOfWords, wordBytes};
 ghost use Rattle.sums.specs.Sum.{afterByte, lentBytes, lentPlaces, sumFrom, sumOf};
 
 // The sum of no bytes.
@@ -19,7 +20,7 @@ fn add(sum: u64, byte: u64) -> u64
 // The sum after the four bytes of a place, low byte first.
 fn add_place(sum: u64, place: u32) -> u64
     requires { ⌜ sum < 4294967291 ⌝ }
-    ensures { λ r. ⌜ (r < 4294967291) × (r ≡ sumFrom sum (wordBytes lowFirst place)) ⌝ }
+    ensures { λ r. ⌜ (r < 4294967291) × (r ≡ sumFrom sum (wordBytes LowFirst place)) ⌝ }
 {
     let w = place as u64;
     let s = add(sum, w % 256);
@@ -42,7 +43,7 @@ pub fn of_bytes(s: &[u8]) -> u32
 }
 
 pub fn of_places(s: &[u32]) -> u32
-    ensures { λ r. ⌜ r ≡ sumOf (bytesOfWords lowFirst (now (s .entry))) ⌝ }
+    ensures { λ r. ⌜ r ≡ sumOf (bytesOfWords LowFirst (now (s .entry))) ⌝ }
 {
     let mut sum = START;
     let mut i = 0;
@@ -67,7 +68,7 @@ pub fn bytes_lent(n: u32) -> u32
 }
 
 pub fn places_lent(n: u32) -> u32
-    ensures { λ r. ⌜ r ≡ sumOf (bytesOfWords lowFirst (lentPlaces n)) ⌝ }
+    ensures { λ r. ⌜ r ≡ sumOf (bytesOfWords LowFirst (lentPlaces n)) ⌝ }
 {
     let mut sum = START;
     let mut left = n;

@@ -15,7 +15,8 @@ use Rattle.paper.specs.rules.KindNo.{INT, VAR, FUNC-PROTO}
 use Rattle.paper.specs.terms.Reading.{wordsFrom, recordIn}
 use Rattle.paper.specs.rules.Table.{kindIn, vlenIn, tailLength, bits}
 use Rattle.paper.specs.rules.Tails.{widthIn, offsetIn, encodingIn, intWordOk, linkageWordOk, parametersIn, voidsLast, tailOk}
-use Rattle.paper.specs.rules.Word.{lowFirst, wordAt}
+use Rattle.paper.specs.declared.Order.{Order}
+use Rattle.paper.specs.rules.Word.{wordAt}
 use Rattle.tails.specs.Voids.{voidsLastFrom}
 
 -- ── encodings ──
@@ -65,15 +66,15 @@ module _ (w size : ℕ) where
 abbrev byKind : ℕ → Bool → Bool → Bool → Bool
 byKind k int var proto = (differ k INT || int) && (differ k VAR || var) && (differ k FUNC-PROTO || proto)
 
-module _ (s : List ℕ) {info k : ℕ} (read : info ≡ wordAt lowFirst s 4) (kind : k ≡ kindIn info) where
-  kind-here : k ≡ kindIn (wordAt lowFirst s 4)
+module _ (order : Order) (s : List ℕ) {info k : ℕ} (read : info ≡ wordAt order s 4) (kind : k ≡ kindIn info) where
+  kind-here : k ≡ kindIn (wordAt order s 4)
   kind-here = kind ∙ ap kindIn read
 
   abbrev tail : List ℕ
-  tail = wordsFrom lowFirst s 12 (tailLength (wordAt lowFirst s 4))
+  tail = wordsFrom order s 12 (tailLength (wordAt order s 4))
 
   abbrev int : Bool
-  int = intWordOk (getD tail 0 0) (wordAt lowFirst s 8)
+  int = intWordOk (getD tail 0 0) (wordAt order s 8)
 
   abbrev var : Bool
   var = linkageWordOk (getD tail 0 0)
@@ -81,54 +82,54 @@ module _ (s : List ℕ) {info k : ℕ} (read : info ≡ wordAt lowFirst s 4) (ki
   abbrev proto : Bool
   proto = voidsLast (parametersIn tail)
 
-  tailOk-kind : byKind k int var proto ≡ tailOk (recordIn lowFirst s)
+  tailOk-kind : byKind k int var proto ≡ tailOk (recordIn order s)
   unfolding tailOk recordIn
   tailOk-kind = ap (λ (j : ℕ). byKind j int var proto) kind-here
 
   -- how long the tail of such a kind is
-  tail-long : tailLength (wordAt lowFirst s 4) ≡ length (rowOf k .once) + vlenIn (wordAt lowFirst s 4) * length (rowOf k .each)
+  tail-long : tailLength (wordAt order s 4) ≡ length (rowOf k .once) + vlenIn (wordAt order s 4) * length (rowOf k .each)
   unfolding tailLength
-  tail-long = ap (λ (j : ℕ). length (rowOf j .once) + vlenIn (wordAt lowFirst s 4) * length (rowOf j .each)) (sym kind-here)
+  tail-long = ap (λ (j : ℕ). length (rowOf j .once) + vlenIn (wordAt order s 4) * length (rowOf j .each)) (sym kind-here)
 
   -- the one word of a tail that has one
-  one-word : length (rowOf k .once) ≡ 1 → length (rowOf k .each) ≡ 0 → getD tail 0 0 ≡ wordAt lowFirst s 12
+  one-word : length (rowOf k .once) ≡ 1 → length (rowOf k .each) ≡ 0 → getD tail 0 0 ≡ wordAt order s 12
   one-word once each =
-      let one : tailLength (wordAt lowFirst s 4) ≡ 1 = tail-long ∙ (λ i. once i + vlenIn (wordAt lowFirst s 4) * each i) ∙ omega arith in
-      ap (λ (n : ℕ). getD (wordsFrom lowFirst s 12 n) 0 0) one
+      let one : tailLength (wordAt order s 4) ≡ 1 = tail-long ∙ (λ i. once i + vlenIn (wordAt order s 4) * each i) ∙ omega arith in
+      ap (λ (n : ℕ). getD (wordsFrom order s 12 n) 0 0) one
 
-  pub tail-int : k ≡ INT → {w size : ℕ} → w ≡ wordAt lowFirst s 12 → size ≡ wordAt lowFirst s 8 → {r : Bool} → r ≡ intWordOk w size
-      → r ≡ tailOk (recordIn lowFirst s)
+  pub tail-int : k ≡ INT → {w size : ℕ} → w ≡ wordAt order s 12 → size ≡ wordAt order s 8 → {r : Bool} → r ≡ intWordOk w size
+      → r ≡ tailOk (recordIn order s)
   unfolding rowOf rows
   tail-int e word third d =
-      let here : getD tail 0 0 ≡ wordAt lowFirst s 12 = one-word (ap (λ (j : ℕ). length (rowOf j .once)) e) (ap (λ (j : ℕ). length (rowOf j .each)) e) in
+      let here : getD tail 0 0 ≡ wordAt order s 12 = one-word (ap (λ (j : ℕ). length (rowOf j .once)) e) (ap (λ (j : ℕ). length (rowOf j .each)) e) in
       d
       ∙ (λ i. intWordOk (word i) (third i))
-      ∙ ap (λ (x : ℕ). intWordOk x (wordAt lowFirst s 8)) (sym here)
+      ∙ ap (λ (x : ℕ). intWordOk x (wordAt order s 8)) (sym here)
       ∙ sym (ap (λ (j : ℕ). byKind j int var proto) e ∙ and-nothing (int && true) ∙ and-nothing int)
       ∙ tailOk-kind
 
-  pub tail-var : k ≡ VAR → {w : ℕ} → w ≡ wordAt lowFirst s 12 → {r : Bool} → r ≡ linkageWordOk w → r ≡ tailOk (recordIn lowFirst s)
+  pub tail-var : k ≡ VAR → {w : ℕ} → w ≡ wordAt order s 12 → {r : Bool} → r ≡ linkageWordOk w → r ≡ tailOk (recordIn order s)
   unfolding rowOf rows
   tail-var e word d =
-      let here : getD tail 0 0 ≡ wordAt lowFirst s 12 = one-word (ap (λ (j : ℕ). length (rowOf j .once)) e) (ap (λ (j : ℕ). length (rowOf j .each)) e) in
+      let here : getD tail 0 0 ≡ wordAt order s 12 = one-word (ap (λ (j : ℕ). length (rowOf j .once)) e) (ap (λ (j : ℕ). length (rowOf j .each)) e) in
       d
       ∙ ap linkageWordOk (word ∙ sym here)
       ∙ sym (ap (λ (j : ℕ). byKind j int var proto) e ∙ and-nothing var)
       ∙ tailOk-kind
 
-  pub tail-proto : k ≡ FUNC-PROTO → {v : ℕ} → v ≡ vlenIn info → {r : Bool} → r ≡ voidsLastFrom s 12 v → r ≡ tailOk (recordIn lowFirst s)
+  pub tail-proto : k ≡ FUNC-PROTO → {v : ℕ} → v ≡ vlenIn info → {r : Bool} → r ≡ voidsLastFrom order s 12 v → r ≡ tailOk (recordIn order s)
   unfolding rowOf rows voidsLastFrom
   tail-proto e {v} vlen d =
       let once : length (rowOf k .once) ≡ 0 = ap (λ (j : ℕ). length (rowOf j .once)) e in
       let each : length (rowOf k .each) ≡ 2 = ap (λ (j : ℕ). length (rowOf j .each)) e in
-      let count : v ≡ vlenIn (wordAt lowFirst s 4) = vlen ∙ ap vlenIn read in
-      let same : 0 + vlenIn (wordAt lowFirst s 4) * 2 ≡ 2 * v = omega arith in
-      let long : 2 * v ≡ tailLength (wordAt lowFirst s 4) = sym (tail-long ∙ (λ i. once i + vlenIn (wordAt lowFirst s 4) * each i) ∙ same) in
+      let count : v ≡ vlenIn (wordAt order s 4) = vlen ∙ ap vlenIn read in
+      let same : 0 + vlenIn (wordAt order s 4) * 2 ≡ 2 * v = omega arith in
+      let long : 2 * v ≡ tailLength (wordAt order s 4) = sym (tail-long ∙ (λ i. once i + vlenIn (wordAt order s 4) * each i) ∙ same) in
       d
-      ∙ ap (λ (n : ℕ). voidsLast (parametersIn (wordsFrom lowFirst s 12 n))) long
+      ∙ ap (λ (n : ℕ). voidsLast (parametersIn (wordsFrom order s 12 n))) long
       ∙ sym (ap (λ (j : ℕ). byKind j int var proto) e)
       ∙ tailOk-kind
 
-  pub tail-other : (k ≡ INT → ⊥) → (k ≡ FUNC-PROTO → ⊥) → (k ≡ VAR → ⊥) → true ≡ tailOk (recordIn lowFirst s)
+  pub tail-other : (k ≡ INT → ⊥) → (k ≡ FUNC-PROTO → ⊥) → (k ≡ VAR → ⊥) → true ≡ tailOk (recordIn order s)
   tail-other a b c =
       sym (rw (ne-eqb k INT a, ne-eqb k VAR c, ne-eqb k FUNC-PROTO b) refl) ∙ tailOk-kind

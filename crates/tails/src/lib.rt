@@ -2,6 +2,7 @@
 use kindrows::FUNC_PROTO;
 use kindrows::INT;
 use kindrows::VAR;
+use paper::Order;
 use paper::Place;
 use rows::kind_of;
 use rows::vlen_of;
@@ -11,7 +12,6 @@ ghost use Prim.Native.Nat.{_<_};
 ghost use Rattle.paper.specs.rules.Choice.{member};
 ghost use Rattle.paper.specs.terms.Reading.{recordIn};
 ghost use Rattle.paper.specs.rules.Tails.{intWordOk, linkageWordOk, tailOk};
-ghost use Rattle.paper.specs.rules.Word.{lowFirst};
 ghost use Rattle.tails.specs.Voids.{voidsLastFrom};
 
 // An encoding that an INT may have.
@@ -51,18 +51,18 @@ fn linkage_ok(w: u32) -> bool
 }
 
 // So many parameters: one of type 0 is last and has name 0.
-fn voids_last(bytes: &[u8], n: u32) -> bool
+fn voids_last(order: Order, bytes: &[u8], n: u32) -> bool
     requires { ⌜ n < 65536 ⌝ }
-    ensures { λ r. ⌜ r ≡ voidsLastFrom (now (bytes .entry)) 12 n ⌝ }
+    ensures { λ r. ⌜ r ≡ voidsLastFrom order (now (bytes .entry)) 12 n ⌝ }
 {
     let mut p: u32 = 12;
     let mut left = n;
     while 0 < left {
-        if words::read(bytes, Place(p + 4)) == 0 {
+        if words::read(order, bytes, Place(p + 4)) == 0 {
             if left != 1 {
                 return false;
             }
-            return words::read(bytes, Place(p)) == 0;
+            return words::read(order, bytes, Place(p)) == 0;
         }
         p += 8;
         left -= 1;
@@ -71,14 +71,17 @@ fn voids_last(bytes: &[u8], n: u32) -> bool
 }
 
 // The tail of the record keeps to the list.
-pub fn tail_ok(bytes: &[u8]) -> bool
-    ensures { λ r. ⌜ r ≡ tailOk (recordIn lowFirst (now (bytes .entry))) ⌝ }
+pub fn tail_ok(order: Order, bytes: &[u8]) -> bool
+    ensures { λ r. ⌜ r ≡ tailOk (recordIn order (now (bytes .entry))) ⌝ }
 {
-    let info = words::read(bytes, Place(4));
+    let info = words::read(order, bytes, Place(4));
     match kind_of(info) {
-        INT => int_ok(words::read(bytes, Place(12)), words::read(bytes, Place(8))),
-        FUNC_PROTO => voids_last(bytes, vlen_of(info)),
-        VAR => linkage_ok(words::read(bytes, Place(12))),
+        INT => int_ok(
+            words::read(order, bytes, Place(12)),
+            words::read(order, bytes, Place(8)),
+        ),
+        FUNC_PROTO => voids_last(order, bytes, vlen_of(info)),
+        VAR => linkage_ok(words::read(order, bytes, Place(12))),
         _ => true,
     }
 }

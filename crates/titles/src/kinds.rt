@@ -12,6 +12,7 @@ use lines::put_number;
 use lines::put_wide;
 use lines::put_with;
 use paper::NameOff;
+use paper::Order;
 use rows::info_of;
 use rows::is_known;
 use rows::kind_of;
@@ -64,7 +65,7 @@ fn put_named(buf: &mut [u8; ROOM], o: Out, blob: &[u8], at: NameOff) -> Out {
 
 // What the line of an entry begins with: its name, indented.
 pub fn put_entry_name(buf: &mut [u8; ROOM], o: Out, blob: &[u8], e: &[u8]) -> Out {
-    let at = name_of(e);
+    let at = name_of(words::order_of(blob), e);
     if at.0 == 0 {
         return put(buf, o, b"    (no name)");
     }
@@ -74,13 +75,14 @@ pub fn put_entry_name(buf: &mut [u8; ROOM], o: Out, blob: &[u8], e: &[u8]) -> Ou
 
 // The kind of a record and its name, if it has one.
 pub fn put_record(buf: &mut [u8; ROOM], o: Out, blob: &[u8], r: &[u8]) -> Out {
-    let kind = kind_of(info_of(r));
+    let order = words::order_of(blob);
+    let kind = kind_of(info_of(order, r));
     if !is_known(kind) {
         let o = put(buf, o, b"kind ");
         return put_number(buf, o, kind);
     }
     let o = put_kind(buf, o, kind);
-    put_named(buf, o, blob, name_of(r))
+    put_named(buf, o, blob, name_of(order, r))
 }
 
 // A type: its number, kind and name. Of a table that is refused not every record is read.
@@ -114,15 +116,22 @@ fn put_int_bits(buf: &mut [u8; ROOM], o: Out, w: u32) -> Out {
 }
 
 // How the numbers of a record are read, and how many bits an INT's have; nothing of a record that has none.
-pub fn put_numbers(buf: &mut [u8; ROOM], o: Out, before: &[u8], r: &[u8], behind: &[u8]) -> Out {
-    let sign = sign_of(r);
+pub fn put_numbers(
+    buf: &mut [u8; ROOM],
+    o: Out,
+    before: &[u8],
+    order: Order,
+    r: &[u8],
+    behind: &[u8],
+) -> Out {
+    let sign = sign_of(order, r);
     if sign == 0 {
         return o;
     }
     let o = put(buf, o, before);
     let o = put_sign(buf, o, sign);
-    if kind_of(info_of(r)) == INT {
-        let o = put_int_bits(buf, o, fourth_of(r));
+    if kind_of(info_of(order, r)) == INT {
+        let o = put_int_bits(buf, o, fourth_of(order, r));
         return put(buf, o, behind);
     }
     put(buf, o, behind)
@@ -134,7 +143,14 @@ fn put_base(buf: &mut [u8; ROOM], o: Out, blob: &[u8], index: &[u32], t: u32) ->
     if base == 0 {
         return o;
     }
-    put_numbers(buf, o, b" (", record_of(blob, index, base), b")")
+    put_numbers(
+        buf,
+        o,
+        b" (",
+        words::order_of(blob),
+        record_of(blob, index, base),
+        b")",
+    )
 }
 
 // A type that another refers to, with what its base is.

@@ -16,14 +16,15 @@ use Rattle.paper.specs.rules.Header.{headerLength, orderOf, typeLen, stringsIn}
 use Rattle.paper.specs.rules.Kind.{rows, rowOf}
 use Rattle.paper.specs.terms.Reading.{recordIn}
 use Rattle.paper.specs.rules.Table.{Table, count, nothing, recordAt, tailLength}
-use Rattle.paper.specs.rules.Word.{lowFirst, firstWord, wordAt}
+use Rattle.paper.specs.declared.Order.{Order}
+use Rattle.paper.specs.rules.Word.{firstWord, wordAt}
 use Rattle.views.specs.Shown.{outside, placeBy, within, recordBy, recordsBy, tableBy, startBy, Starts, stringsStart, ShownAs, WordOf, StringsAs}
 use Rattle.views.specs.declared.View.{View}
 
 -- no bytes are the record of no kind
-pub recordIn-empty : recordIn lowFirst [] ≡ nothing
+pub recordIn-empty : (order : Order) → recordIn order [] ≡ nothing
 unfolding recordIn wordAt tailLength rowOf rows
-recordIn-empty = refl
+recordIn-empty order = refl
 
 -- where a list has a place, what it is to have elsewhere does not matter
 pub getD-else : (s : List ℕ) (i d e : ℕ) → i < length s → getD s i d ≡ getD s i e
@@ -58,9 +59,9 @@ module _ (b : List ℕ) where
       go true e = let h = ltb-true (length b) p e in drop-length b ∙ sym (drop-of-length-le b {i = p} (omega arith))
       go false e = refl
 
-recordBy-bytes : (base b index : List ℕ) (t : ℕ) → recordIn lowFirst (drop (getD index t (length b)) b) ≡ recordBy base b index t
+recordBy-bytes : (base b index : List ℕ) (o : Order) (t : ℕ) → recordIn o (drop (getD index t (length b)) b) ≡ recordBy base b index o t
 unfolding recordBy
-recordBy-bytes base b index t = refl
+recordBy-bytes base b index o t = refl
 
 module _ (v : View) {t : ℕ} where
   outside-void : t ≡ 0 → outside v t ≡ true
@@ -74,24 +75,24 @@ module _ (v : View) {t : ℕ} where
     outside-within h = rw (ne-eqb t 0 low, le-ltb (v .n) t h) refl
 
 module _ (base b index : List ℕ) where
-  recordsBy-length : (n t : ℕ) → length (recordsBy base b index n t) ≡ n
-  recordsBy-length zero t = refl
-  recordsBy-length (suc n) t = ap suc (recordsBy-length n (suc t))
+  recordsBy-length : (o : Order) (n t : ℕ) → length (recordsBy base b index o n t) ≡ n
+  recordsBy-length o zero t = refl
+  recordsBy-length o (suc n) t = ap suc (recordsBy-length o n (suc t))
 
-  recordsBy-at : (n t i : ℕ) → i < n → getD (recordsBy base b index n t) i nothing ≡ recordBy base b index (t + i)
-  recordsBy-at zero t i h = absurd (omega arith)
-  recordsBy-at (suc n) t zero h = ap (recordBy base b index) (omega arith)
-  recordsBy-at (suc n) t (suc i) h = recordsBy-at n (suc t) i (omega arith) ∙ ap (recordBy base b index) (omega arith)
+  recordsBy-at : (o : Order) (n t i : ℕ) → i < n → getD (recordsBy base b index o n t) i nothing ≡ recordBy base b index o (t + i)
+  recordsBy-at o zero t i h = absurd (omega arith)
+  recordsBy-at o (suc n) t zero h = ap (recordBy base b index o) (omega arith)
+  recordsBy-at o (suc n) t (suc i) h = recordsBy-at o n (suc t) i (omega arith) ∙ ap (recordBy base b index o) (omega arith)
 
   module _ (v : View) where
     pub tableBy-count : count (tableBy base b index v) ≡ v .n
     unfolding tableBy
-    tableBy-count = recordsBy-length (v .n) 1
+    tableBy-count = recordsBy-length (v .order) (v .n) 1
 
-    tableBy-record : (t : ℕ) → 1 ≤ t → t ≤ v .n → recordAt (tableBy base b index v) t ≡ recordBy base b index t
+    tableBy-record : (t : ℕ) → 1 ≤ t → t ≤ v .n → recordAt (tableBy base b index v) t ≡ recordBy base b index (v .order) t
     unfolding tableBy
     tableBy-record zero low h = absurd (omega arith)
-    tableBy-record (suc t) low h = recordsBy-at (v .n) 1 t (omega arith) ∙ ap (recordBy base b index) (omega arith)
+    tableBy-record (suc t) low h = recordsBy-at (v .order) (v .n) 1 t (omega arith) ∙ ap (recordBy base b index (v .order)) (omega arith)
 
     -- ── where the bytes of a type begin ──
 
@@ -141,45 +142,45 @@ module _ (base b index : List ℕ) where
     starts {t} e = record { inside = omega (arith, e, startBy-inside t); there = e }
 
     shown-none : (t : ℕ) → outside v t ≡ true → recordAt (tableBy base b index v) t ≡ nothing
-        → recordIn lowFirst (drop (startBy base b index v t) b) ≡ recordAt (tableBy base b index v) t
+        → recordIn (v .order) (drop (startBy base b index v t) b) ≡ recordAt (tableBy base b index v) t
     shown-none t o e =
-        ap (λ (p : ℕ). recordIn lowFirst (drop p b)) (sym (startBy-outside t o)) ∙ ap (recordIn lowFirst) (drop-length b) ∙ recordIn-empty ∙ sym e
+        ap (λ (p : ℕ). recordIn (v .order) (drop p b)) (sym (startBy-outside t o)) ∙ ap (recordIn (v .order)) (drop-length b) ∙ recordIn-empty (v .order) ∙ sym e
 
-    pub startBy-record : (t : ℕ) → recordIn lowFirst (drop (startBy base b index v t) b) ≡ recordAt (tableBy base b index v) t
+    pub startBy-record : (t : ℕ) → recordIn (v .order) (drop (startBy base b index v t) b) ≡ recordAt (tableBy base b index v) t
     startBy-record zero = shown-none 0 (outside-void v refl) refl
     startBy-record (suc t) = go (ltb (v .n) (suc t)) refl
       where
-        go : (z : Bool) → ltb (v .n) (suc t) ≡ z → recordIn lowFirst (drop (startBy base b index v (suc t)) b) ≡ recordAt (tableBy base b index v) (suc t)
+        go : (z : Bool) → ltb (v .n) (suc t) ≡ z → recordIn (v .order) (drop (startBy base b index v (suc t)) b) ≡ recordAt (tableBy base b index v) (suc t)
         go true e =
             let h = ltb-true (v .n) (suc t) e in
             shown-none (suc t) (outside-above v {t = suc t} (λ z. omega arith) h)
             (recordAt-outside (tableBy base b index v) (suc t) (rw tableBy-count h))
         go false e =
             let h = ltb-false (v .n) (suc t) e in
-            ap (λ (p : ℕ). recordIn lowFirst (drop p b)) (sym (startBy-within (suc t) (outside-within v {t = suc t} (λ z. omega arith) h)))
-            ∙ ap (recordIn lowFirst) (drop-within b (getD index (suc t) (length b)))
-            ∙ recordBy-bytes base b index (suc t)
+            ap (λ (p : ℕ). recordIn (v .order) (drop p b)) (sym (startBy-within (suc t) (outside-within v {t = suc t} (λ z. omega arith) h)))
+            ∙ ap (recordIn (v .order)) (drop-within b (getD index (suc t) (length b)))
+            ∙ recordBy-bytes base b index (v .order) (suc t)
             ∙ sym (tableBy-record (suc t) (omega arith) h)
 
 -- ── a word of it ──
 
 -- no bytes, no word
-word-none : (k : ℕ) → 0 ≡ wordAt lowFirst [] k
+word-none : (order : Order) (k : ℕ) → 0 ≡ wordAt order [] k
 unfolding wordAt
-word-none k = ap (firstWord lowFirst) (sym (drop-nil k))
+word-none order k = ap (firstWord order) (sym (drop-nil k))
 
 module _ (base b index : List ℕ) (v : View) {t at : ℕ} where
   pub word-nowhere : length b ≡ startBy base b index v t → WordOf base b index v t at 0
   word-nowhere e =
       record {
-        says = word-none at ∙ ap (λ (s : List ℕ). wordAt lowFirst s at) (sym (drop-length b) ∙ ap (λ (p : ℕ). drop p b) e);
+        says = word-none (v .order) at ∙ ap (λ (s : List ℕ). wordAt (v .order) s at) (sym (drop-length b) ∙ ap (λ (p : ℕ). drop p b) e);
         shows = startBy-record base b index v t;
       }
 
-  pub word-there : {p r : ℕ} → p ≡ startBy base b index v t → r ≡ wordAt lowFirst (take (length b - p) (drop p b)) at → WordOf base b index v t at r
+  pub word-there : {p r : ℕ} → p ≡ startBy base b index v t → r ≡ wordAt (v .order) (take (length b - p) (drop p b)) at → WordOf base b index v t at r
   word-there {p} e d =
       record {
-        says = d ∙ ap (λ (s : List ℕ). wordAt lowFirst s at) (part-rest b p ∙ ap (λ (q : ℕ). drop q b) e);
+        says = d ∙ ap (λ (s : List ℕ). wordAt (v .order) s at) (part-rest b p ∙ ap (λ (q : ℕ). drop q b) e);
         shows = startBy-record base b index v t;
       }
 
@@ -208,9 +209,9 @@ module _ (index : List ℕ) (v : View) {t : ℕ} where
 
 -- ── the strings ──
 
-module _ (base b index : List ℕ) (v : View) {w : ℕ} (e : w ≡ wordAt lowFirst b 12) where
+module _ (base b index : List ℕ) (v : View) {w : ℕ} (e : w ≡ wordAt (orderOf b) b 12) where
   strings-from : within b (24 + w) ≡ stringsStart b
-  unfolding stringsStart orderOf typeLen
+  unfolding stringsStart typeLen
   strings-from = ap (λ (l : ℕ). within b (24 + l)) e
 
   pub strings-past : length b < 24 + w → length b ≡ stringsStart b
@@ -241,13 +242,13 @@ strings-one h k = (h .bytes ∙ sym (k .bytes), h .place ∙ sym (k .place))
 
 -- a table of so many types, whose records stand where the index says and whose strings are the blob's, is the table that the index shows
 pub tableBy-is : (base b index : List ℕ) (v : View) (T : Table) → v .n ≡ count T
-    → ((t : ℕ) → t < v .n → recordBy base b index (suc t) ≡ getD (T .records) t nothing)
+    → ((t : ℕ) → t < v .n → recordBy base b index (v .order) (suc t) ≡ getD (T .records) t nothing)
     → stringsIn b ≡ T .strings → tableBy base b index v ≡ T
 unfolding tableBy
 tableBy-is base b index v T counted there strings = λ i. record { records = same i; strings = strings i }
   where
-    same : recordsBy base b index (v .n) 1 ≡ T .records
+    same : recordsBy base b index (v .order) (v .n) 1 ≡ T .records
     same =
-        let many = recordsBy-length base b index (v .n) 1 in
+        let many = recordsBy-length base b index (v .order) (v .n) 1 in
         ext-getD nothing _ _ (many ∙ counted)
-        (λ t h. recordsBy-at base b index (v .n) 1 t (rw many at h) ∙ ap (recordBy base b index) (omega arith) ∙ there t (rw many at h))
+        (λ t h. recordsBy-at base b index (v .order) (v .n) 1 t (rw many at h) ∙ ap (recordBy base b index (v .order)) (omega arith) ∙ there t (rw many at h))

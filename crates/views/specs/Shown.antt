@@ -11,7 +11,8 @@ use lib.ListN.{length, getD, drop}
 use Rattle.paper.specs.rules.Header.{headerLength, typeLen, stringsIn}
 use Rattle.paper.specs.terms.Reading.{recordIn}
 use Rattle.paper.specs.rules.Table.{Record, Table, recordAt}
-use Rattle.paper.specs.rules.Word.{lowFirst, wordAt}
+use Rattle.paper.specs.declared.Order.{Order}
+use Rattle.paper.specs.rules.Word.{wordAt}
 use Rattle.views.specs.declared.View.{View}
 
 -- void, and a number above n
@@ -28,16 +29,16 @@ within b p = cond (ltb (length b) p) (length b) p
 
 module _ (base b index : List ℕ) where
   -- the record that the bytes from a type's place on begin with; no bytes, and so `nothing`, where the index or the blob has no such place
-  unfoldable pub recordBy : ℕ → Record
-  recordBy t = recordIn lowFirst (drop (getD index t (length b)) b)
+  unfoldable pub recordBy : Order → ℕ → Record
+  recordBy order t = recordIn order (drop (getD index t (length b)) b)
 
   -- those of so many types from t on
-  abbrev pub recordsBy : ℕ → ℕ → List Record
-  recordsBy zero t = []
-  recordsBy (suc n) t = recordBy t ∷ recordsBy n (suc t)
+  abbrev pub recordsBy : Order → ℕ → ℕ → List Record
+  recordsBy order zero t = []
+  recordsBy order (suc n) t = recordBy order t ∷ recordsBy order n (suc t)
 
   unfoldable pub tableBy : View → Table
-  tableBy v = record { records = recordsBy (v .n) 1; strings = stringsIn b }
+  tableBy v = record { records = recordsBy (v .order) (v .n) 1; strings = stringsIn b }
 
   -- where the bytes of a type begin: the blob's end for a number outside, and where the index or the blob has no such place
   unfoldable pub startBy : View → ℕ → ℕ
@@ -56,12 +57,12 @@ stringsStart b = within b (headerLength + typeLen b)
 pub record ShownAs (base b : RefT (List ℕ)) (index : List ℕ) (v : View) (t : ℕ) (r : RefT (List ℕ)) : Type 0 where
   pub bytes : now r ≡ drop (startBy (now base) (now b) index v t) (now b)
   pub place : ptr r ≡ (ptr b .0, startBy (now base) (now b) index v t + ptr b .1)
-  pub shows : recordIn lowFirst (now r) ≡ recordAt (tableBy (now base) (now b) index v) t
+  pub shows : recordIn (v .order) (now r) ≡ recordAt (tableBy (now base) (now b) index v) t
 
 -- the word at a place of a type's record, by the bytes that the record begins
 pub record WordOf (base b index : List ℕ) (v : View) (t at r : ℕ) : Type 0 where
-  pub says : r ≡ wordAt lowFirst (drop (startBy base b index v t) b) at
-  pub shows : recordIn lowFirst (drop (startBy base b index v t) b) ≡ recordAt (tableBy base b index v) t
+  pub says : r ≡ wordAt (v .order) (drop (startBy base b index v t) b) at
+  pub shows : recordIn (v .order) (drop (startBy base b index v t) b) ≡ recordAt (tableBy base b index v) t
 
 -- a reference to the strings
 pub record StringsAs (base b : RefT (List ℕ)) (index : List ℕ) (v : View) (r : RefT (List ℕ)) : Type 0 where

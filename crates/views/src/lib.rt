@@ -1,5 +1,6 @@
 // The table that an index shows: the one place that knows where a type's record stands. Any bytes, any index, any number of types.
 // `base` is the blob that a table may lean on; nothing of it is looked at yet.
+use paper::Order;
 use paper::Place;
 use paper::TypeNo;
 use rows::kind_of;
@@ -7,9 +8,10 @@ ghost use mathlib.Core.Path.{_≡_};
 ghost use Rattle.paper.specs.rules.Table.{kindAt};
 ghost use Rattle.views.specs.Shown.{ShownAs, Starts, StringsAs, WordOf, placeBy, tableBy};
 
-// How a blob is looked at: how many types its index shows.
+// How a blob is looked at: how many types its index shows, and the byte order of their words.
 pub struct View {
     pub n: u32,
+    pub order: Order,
 }
 
 // Where a type's record begins in the blob; the blob's end where the index or the blob has no such place.
@@ -84,7 +86,8 @@ pub fn word_of(base: &[u8], b: &[u8], index: &[u32], view: View, t: TypeNo, at: 
     if b.len() < p {
         return 0;
     }
-    words::read(&b[p..], at)
+    let order = view.order;
+    words::read(order, &b[p..], at)
 }
 
 // The kind of a type; 0 for void and for a number above n.
@@ -99,7 +102,7 @@ pub fn strings_of<'a>(base: &'a [u8], b: &'a [u8], index: &[u32], view: View) ->
     ensures { λ r. ⌜ StringsAs (base .entry) (b .entry) (now (index .entry)) view r ⌝ }
 {
     let end = b.len();
-    let from = 24 + words::read(b, Place(12)) as usize;
+    let from = 24 + words::blob_word(b, Place(12)) as usize;
     if end < from {
         return &b[end..];
     }

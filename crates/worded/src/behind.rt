@@ -8,6 +8,7 @@ use crate::tails::spot_of;
 use lines::Out;
 use lines::ROOM;
 use lines::put;
+use paper::Order;
 use paper::Place;
 use rows::entry_words;
 use rows::info_of;
@@ -21,8 +22,8 @@ ghost use Prim.Native.Nat.{_≤_};
 const MOST: u32 = 24;
 
 // How many words of a tail are there.
-fn words_there(r: &[u8]) -> u32 {
-    let n = tail_words(info_of(r));
+fn words_there(order: Order, r: &[u8]) -> u32 {
+    let n = tail_words(info_of(order, r));
     if r.len() < 12 {
         return 0;
     }
@@ -74,11 +75,12 @@ fn put_behind(
     look: Look,
     i: u32,
 ) -> Out {
+    let order = words::order_of(blob);
     let from = 12 + 4 * (i as usize);
     let at = (place as usize) + from;
     let o = put_word(buf, o, is_meant(look, at), blob, at);
-    let w = words::read(rest_from(r, from), Place(0));
-    let o = put_role(buf, o, blob, index, look, info_of(r), i, w);
+    let w = words::read(order, rest_from(r, from), Place(0));
+    let o = put_role(buf, o, blob, index, look, info_of(order, r), i, w);
     put(buf, o, b"\n")
 }
 
@@ -101,8 +103,9 @@ pub fn put_tail(
     look: Look,
 ) -> Out {
     let number = look.number;
-    let kind = kind_of(info_of(r));
-    let n = words_there(r);
+    let order = words::order_of(blob);
+    let kind = kind_of(info_of(order, r));
+    let n = words_there(order, r);
     let mut i = words_before(look, place, kind, n);
     let mut o = put_more(buf, o, i);
     let mut left = MOST;

@@ -165,11 +165,12 @@ fn put_last(
     at: usize,
     look: Look,
 ) -> Out {
+    let order = words::order_of(blob);
     if r.len() < 12 {
         return o;
     }
-    let kind = kind_of(info_of(r));
-    let w = third_of(r);
+    let kind = kind_of(info_of(order, r));
+    let w = third_of(order, r);
     let is_wrong = look.number == 10 && !third_allowed(kind, w);
     let o = put_word(buf, o, is_wrong || is_meant(look, at), blob, at);
     let o = put_third(buf, o, blob, index, look, kind, w);
@@ -186,6 +187,7 @@ pub fn put_head(
     place: u32,
     look: Look,
 ) -> Out {
+    let order = words::order_of(blob);
     let first = place as usize;
     let second = first + 4;
     let third = first + 8;
@@ -193,12 +195,12 @@ pub fn put_head(
         return o;
     }
     let o = put_word(buf, o, is_meant(look, first), blob, first);
-    let o = put_offset(buf, o, blob, name_of(r));
+    let o = put_offset(buf, o, blob, name_of(order, r));
     let o = put(buf, o, b"\n");
     if r.len() < 8 {
         return o;
     }
-    let info = info_of(r);
+    let info = info_of(order, r);
     let o = put_word(buf, o, is_info_wrong(look.number, info), blob, second);
     let o = put_info(buf, o, info);
     put_last(buf, o, blob, index, r, third, look)

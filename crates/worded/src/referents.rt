@@ -5,6 +5,7 @@ use lines::Out;
 use lines::ROOM;
 use lines::put;
 use lines::put_with;
+use paper::Order;
 use paper::Place;
 use paper::TypeNo;
 use rows::info_of;
@@ -15,11 +16,11 @@ use views::View;
 use views::record_of;
 
 // An INT's offset and width, which the layout asks for.
-fn put_int_bits(buf: &mut [u8; ROOM], o: Out, r: &[u8]) -> Out {
-    if kind_of(info_of(r)) != INT {
+fn put_int_bits(buf: &mut [u8; ROOM], o: Out, order: Order, r: &[u8]) -> Out {
+    if kind_of(info_of(order, r)) != INT {
         return o;
     }
-    let w = words::read(r, Place(12));
+    let w = words::read(order, r, Place(12));
     let o = put_with(buf, o, b", offset ", (w / 65536 % 256) as u64);
     put_with(buf, o, b", width ", (w % 256) as u64)
 }
@@ -39,7 +40,7 @@ fn put_referent_size(
     }
     let o = put(buf, o, b", ");
     let o = put_size(buf, o, sizes::size(blob, index, TypeNo(t)));
-    put_int_bits(buf, o, r)
+    put_int_bits(buf, o, words::order_of(blob), r)
 }
 
 // " (KIND name)", or that nothing stands there. Before the records are counted, at reports 6 to 8, nothing is known.
@@ -61,7 +62,10 @@ pub(crate) fn put_referent(
         return put(buf, o, b" (not there)");
     }
     let o = put(buf, o, b" (");
-    let view = View { n: look.n };
+    let view = View {
+        n: look.n,
+        order: words::order_of(blob),
+    };
     let r = record_of(&blob[..0], blob, index, view, TypeNo(t));
     let o = put_record(buf, o, blob, r);
     let o = put_referent_size(buf, o, blob, index, look, t, r);

@@ -4,8 +4,7 @@ use crate::generate::random::Random;
 use crate::generate::{damage_bytes, damage_layout, damage_references, damage_words};
 use crate::generate::{fits, large, valid, Scale};
 use crate::limits::FULL_PLACES;
-use crate::make::{blob_of, put_word, Make};
-use crate::table::word;
+use crate::make::{blob_of, put_word, word_at, Make};
 use crate::vectors::{run, Case, CHECK};
 
 /// Aims beyond the reports.
@@ -182,12 +181,12 @@ fn turned_bits(r: &mut Random, mut blob: Vec<u8>) -> Vec<u8> {
 /// A word of the type section or the header set to another value.
 fn turned_words(r: &mut Random, mut blob: Vec<u8>) -> Vec<u8> {
     for _ in 0..r.between(1, 2) {
-        let words = (24 + word(&blob, 12)) / 4;
+        let words = (24 + word_at(&blob, 12)) / 4;
         let low = if words > 6 && !r.one_in(6) { 6 } else { 0 };
         let at = 4 * r.between(low, words - 1) as usize;
         let value = match r.below(3) {
             0 => r.below(8),
-            1 => word(&blob, at).wrapping_add(r.pick(&[1, u32::MAX])),
+            1 => word_at(&blob, at).wrapping_add(r.pick(&[1, u32::MAX])),
             _ => r.word(),
         };
         put_word(&mut blob, at, value);

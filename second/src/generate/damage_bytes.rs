@@ -2,8 +2,7 @@
 
 use crate::generate::pieces::kind_of;
 use crate::generate::random::Random;
-use crate::make::{blob_of, put_word, Make};
-use crate::table::word;
+use crate::make::{blob_of, put_word, word_at, Make};
 
 /// Damage of one of the reports 1 to 5 at a blob with a whole header.
 pub fn phase_1(r: &mut Random, blob: &mut Vec<u8>, number: u32) {
@@ -23,18 +22,22 @@ pub fn phase_1(r: &mut Random, blob: &mut Vec<u8>, number: u32) {
 }
 
 fn first_word(r: &mut Random, blob: &mut [u8]) {
-    match r.below(5) {
+    match r.below(7) {
         0 => blob[3] = r.pick(&[1, 2, 128]),
         1 => blob[2] = r.pick(&[0, 2, 255]),
+        // The other order's magic before these words, or half of each.
         2 => blob.swap(0, 1),
-        3 => blob[..4].reverse(),
+        3 => blob[0] = blob[1],
+        4 => blob[..4].reverse(),
+        // Version and flags turned round, which they are in neither order.
+        5 => blob.swap(2, 3),
         _ => blob[r.below(4) as usize] ^= 1 << r.below(8),
     }
 }
 
 /// Report 4: offsets, lengths, and sums that are wrong or wrap.
 fn sections(r: &mut Random, blob: &mut Vec<u8>) {
-    let (type_len, str_len) = (word(blob, 12), word(blob, 20));
+    let (type_len, str_len) = (word_at(blob, 12), word_at(blob, 20));
     match r.below(7) {
         0 => put_word(blob, 8, r.pick(&[1, 4, 24, 1 << 31, u32::MAX])),
         1 => {
@@ -70,7 +73,7 @@ fn sections(r: &mut Random, blob: &mut Vec<u8>) {
 
 /// Report 5: no strings, or a first or last byte that isn't zero.
 fn strings(r: &mut Random, blob: &mut Vec<u8>) {
-    let str_len = word(blob, 20) as usize;
+    let str_len = word_at(blob, 20) as usize;
     if str_len == 0 || str_len > blob.len() - 24 {
         return;
     }

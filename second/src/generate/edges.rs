@@ -1,9 +1,11 @@
 //! The rules one by one at their edges, without chance: every bit of an info
 //! word, every byte of a name, every reference to every kind.
 
+use crate::generate::turn::turned_case;
 use crate::generate::{edges_faults, edges_joins, edges_layout, edges_names, edges_offsets};
-use crate::generate::{edges_pointers, edges_questions, edges_sections, edges_walks};
-use crate::make::{blob_of, info, int_word, put_word, Make};
+use crate::generate::{edges_order_joins, edges_order_sizes, edges_orders};
+use crate::generate::{edges_pointers, edges_questions, edges_sections, edges_tails, edges_walks};
+use crate::make::{blob_of, info, put_word, word_at, Make};
 use crate::reference::references;
 use crate::table::{Kind, ALL_KINDS};
 use crate::vectors::{Case, CHECK};
@@ -19,8 +21,6 @@ const PARTS: &[Part] = &[
     ("heads", |found, _| each_kind(found, heads)),
     ("cut", |found, _| each_kind(found, cut_tails)),
     ("references", |found, _| each_kind(found, turned_references)),
-    ("int", |found, _| int_tails(found)),
-    ("parameters", |found, _| linkages_and_parameters(found)),
 ];
 
 /// All of them, in a fixed order, each once.
@@ -31,15 +31,40 @@ pub fn cases(thin: bool) -> Vec<Case> {
 /// Those of one part.
 pub fn cases_of(part: &str, thin: bool) -> Vec<Case> {
     let all = in_parts(thin).into_iter();
-    all.filter(|(name, _)| *name == part)
+    all.filter(|(name, _)| name == part)
         .map(|(_, case)| case)
         .collect()
 }
 
-/// Each with the name of its part.
-pub fn in_parts(thin: bool) -> Vec<(&'static str, Case)> {
+/// Each with the name of its part. Those of the part NAME turned round are the
+/// part NAME-turned.
+pub fn in_parts(thin: bool) -> Vec<(String, Case)> {
+    let mut met = HashSet::new();
+    let mut all = Vec::new();
+    let mut put = |name: String, found: Vec<Case>| {
+        let new = found.into_iter().filter(|case| met.insert(case.clone()));
+        all.extend(new.map(|case| (name.clone(), case)));
+    };
+    for (name, add_cases) in one_order() {
+        let mut found = Vec::new();
+        add_cases(&mut found, thin);
+        let turned = found.iter().map(turned_case).collect();
+        put(name.to_string(), found);
+        put(format!("{name}-turned"), turned);
+    }
+    for (name, add_cases) in two_orders() {
+        let mut found = Vec::new();
+        add_cases(&mut found, thin);
+        put(name.to_string(), found);
+    }
+    all
+}
+
+/// The parts whose tables are made in one order.
+fn one_order() -> impl Iterator<Item = &'static Part> {
     let parts = [
         PARTS,
+        edges_tails::PARTS,
         edges_names::PARTS,
         edges_faults::PARTS,
         edges_walks::PARTS,
@@ -50,15 +75,17 @@ pub fn in_parts(thin: bool) -> Vec<(&'static str, Case)> {
         edges_questions::PARTS,
         edges_joins::PARTS,
     ];
-    let mut met = HashSet::new();
-    let mut all = Vec::new();
-    for (name, add_cases) in parts.into_iter().flatten() {
-        let mut found = Vec::new();
-        add_cases(&mut found, thin);
-        found.retain(|case| met.insert(case.clone()));
-        all.extend(found.into_iter().map(|case| (*name, case)));
-    }
-    all
+    parts.into_iter().flatten()
+}
+
+/// Those that have tables of both.
+fn two_orders() -> impl Iterator<Item = &'static Part> {
+    let parts = [
+        edges_orders::PARTS,
+        edges_order_sizes::PARTS,
+        edges_order_joins::PARTS,
+    ];
+    parts.into_iter().flatten()
 }
 
 pub fn each_kind(found: &mut Vec<Case>, add_cases: fn(&mut Vec<Case>, Kind)) {
@@ -130,7 +157,7 @@ fn headers(found: &mut Vec<Case>) {
     for place in (0..24).step_by(4) {
         for shift in [1, 2, 4, 1 << 8, 1 << 16, 1 << 24, 1 << 31, u32::MAX] {
             let mut turned = blob.clone();
-            let word = crate::table::word(&blob, place);
+            let word = word_at(&blob, place);
             put_word(&mut turned, place, word.wrapping_add(shift));
             add_blob(found, turned, 6);
         }
@@ -224,59 +251,6 @@ fn turn_each(found: &mut Vec<Case>, whole: &Make, others: &[u32]) {
                 word => m.at(5).tail[word - 3] = *to,
             }
             add(found, &m);
-        }
-    }
-}
-
-/// Every bit, every encoding, and offset and width around each limit.
-fn int_tails(found: &mut Vec<Case>) {
-    let mut with = |bytes: u32, word: u32| {
-        let mut m = Make::new();
-        m.bare(Kind::Int, 0, bytes, &[word]);
-        add(found, &m);
-    };
-    for bit in 0..32 {
-        with(4, int_word(0, 0, 32) ^ (1 << bit));
-    }
-    for encoding in 0..16 {
-        with(2, int_word(encoding, 0, 16));
-    }
-    for bytes in [1, 2, 4, 8, 16] {
-        for offset in [0, 1, 4 * bytes, 8 * bytes - 1, 8 * bytes] {
-            let rest: u32 = 8 * bytes - offset;
-            for width in [0, 1, rest.saturating_sub(1), rest, rest + 1, 255] {
-                with(bytes, int_word(1, offset, width));
-            }
-        }
-    }
-}
-
-fn linkages_and_parameters(found: &mut Vec<Case>) {
-    for linkage in [0, 1, 2, 3, 4, 256, 1 << 16, 1 << 31, u32::MAX] {
-        let mut m = one_of(Kind::Var);
-        m.at(5).tail[0] = linkage;
-        add(found, &m);
-    }
-    let choices = [
-        [0, 0],
-        [NAME, 0],
-        [3, 0],
-        [4, 0],
-        [0, 1],
-        [NAME, 1],
-        [9, 0],
-        [0, 9],
-    ];
-    for first in choices {
-        for last in choices {
-            for with_func in [false, true] {
-                let mut m = one_of(Kind::Int);
-                let prototype = m.proto(0, &[first, last]);
-                if with_func {
-                    m.func(NAME, prototype);
-                }
-                add(found, &m);
-            }
         }
     }
 }

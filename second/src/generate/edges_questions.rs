@@ -2,7 +2,9 @@
 
 use crate::generate::edges::{one_of, Part};
 use crate::generate::pieces::index_of;
+use crate::generate::turn::in_order;
 use crate::make::{put_word, Make};
+use crate::order::Order;
 use crate::table::Kind;
 use crate::vectors::{bytes_of, Case, NAME, SIZE};
 
@@ -10,8 +12,8 @@ pub const PARTS: &[Part] = &[
     ("benches", |found, _| benches(found)),
     ("uniform", |found, _| uniform_blobs(found)),
     ("kind-numbers", |found, _| every_kind_number(found)),
-    ("array-tails", |found, _| array_tails(found)),
-    ("in-strings", |found, _| in_strings(found)),
+    ("array-tails", |found, _| array_tails(found, Order::Little)),
+    ("in-strings", |found, _| in_strings(found, Order::Little)),
     ("index-lengths", |found, _| index_lengths(found)),
     ("products", |found, _| products(found)),
     ("name-offsets", |found, _| name_offsets(found)),
@@ -40,7 +42,7 @@ fn benches(found: &mut Vec<Case>) {
     }
 }
 
-fn ask_name(found: &mut Vec<Case>, blob: &[u8], offset: u32) {
+pub fn ask_name(found: &mut Vec<Case>, blob: &[u8], offset: u32) {
     found.push(Case {
         op: NAME,
         x: offset,
@@ -49,7 +51,7 @@ fn ask_name(found: &mut Vec<Case>, blob: &[u8], offset: u32) {
     });
 }
 
-fn ask_size(found: &mut Vec<Case>, blob: &[u8], index: &[u32], number: u32) {
+pub fn ask_size(found: &mut Vec<Case>, blob: &[u8], index: &[u32], number: u32) {
     let (a, b) = (blob.to_vec(), bytes_of(index));
     found.push(Case {
         op: SIZE,
@@ -89,11 +91,15 @@ fn every_kind_number(found: &mut Vec<Case>) {
     }
 }
 
-/// An array whose tail just fits or just does not, aligned or not.
-fn array_tails(found: &mut Vec<Case>) {
+/// An array whose tail just fits or just does not, aligned or not. The blob is
+/// no table; for a little-endian one it needs no magic.
+pub fn array_tails(found: &mut Vec<Case>, order: Order) {
     for at in 36..40 {
         for length in 11..=26 {
             let mut blob = vec![0; at + 26];
+            if order == Order::Big {
+                blob[..2].copy_from_slice(&order.magic());
+            }
             put_word(&mut blob, 28, 1 << 24);
             put_word(&mut blob, 32, 5);
             put_word(&mut blob, at + 4, 3 << 24);
@@ -106,13 +112,16 @@ fn array_tails(found: &mut Vec<Case>) {
 
 /// A record whose bytes are strings of a table: no question is asked of where
 /// a place lies, so it is read as any other.
-fn in_strings(found: &mut Vec<Case>) {
+pub fn in_strings(found: &mut Vec<Case>, order: Order) {
     for kind in 1..20 {
         let mut m = Make::new();
         m.ptr(0);
-        let text = [0, 0, 0, 0, 1, 1, 1, kind, 7, 1, 1, 1, 0];
+        let mut text = vec![0; 4];
+        text.extend(order.bytes((kind << 24) | 0x0001_0101));
+        text.extend(order.bytes(0x0101_0107));
+        text.push(0);
         let place = 24 + 12 + m.string(text);
-        ask_size(found, &m.blob(), &[0, 24, place], 2);
+        ask_size(found, &in_order(&m.blob(), order), &[0, 24, place], 2);
     }
 }
 

@@ -1,7 +1,8 @@
 //! Identifiers without chance: every byte at every place of a name, of the
-//! shortest names and of those on both sides of the limit.
+//! shortest names and of those on both sides of the limit, in both byte orders.
 
-use crate::generate::edges::add;
+use crate::generate::edges::add_blob;
+use crate::generate::turn::both;
 use crate::make::Make;
 use crate::table::Kind;
 use crate::vectors::Case;
@@ -20,7 +21,9 @@ pub fn cases() -> Vec<Case> {
                 let mut m = Make::new();
                 let name = m.string(text);
                 m.bare(Kind::Fwd, name, 0, &[]);
-                add(&mut found, &m);
+                for blob in both(&m.blob()) {
+                    add_blob(&mut found, blob, 2);
+                }
             }
         }
     }

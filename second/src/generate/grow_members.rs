@@ -60,7 +60,8 @@ fn member(r: &mut Random, m: &mut Make, flag: bool, at: u64) -> Option<(u32, u32
     } else if flag && kind == Some(Kind::Int) && !is_regular(m, base) {
         return None;
     } else if flag && matches!(kind, Some(Kind::Int | Kind::Enum | Kind::Enum64)) && r.one_in(2) {
-        let width = r.between(1, whole as u32);
+        // A damaged base may have no bytes.
+        let width = r.between(1, (whole as u32).max(1));
         (width, at, u64::from(width))
     } else {
         (0, aligned, whole)

@@ -2,16 +2,27 @@
 
 use crate::generate::check_cases::{aim, aimed, slices, Aimed, ACCEPTED, WILD};
 use crate::generate::random::Random;
+use crate::generate::turn::mixed;
 use crate::generate::{fits, large, valid, Scale};
 use crate::limits::{BYTE_LIMIT, FULL_PLACES, TYPE_LIMIT};
 use crate::make::Make;
 use crate::vectors::{run, Case, JOIN, MOST_BYTES};
 
+/// One in six is of two orders, whatever other ground there is.
 pub fn case(r: &mut Random, scale: Scale) -> Case {
+    let case = of_one_order(r, scale);
+    if r.one_in(6) {
+        mixed(r, case)
+    } else {
+        case
+    }
+}
+
+fn of_one_order(r: &mut Random, scale: Scale) -> Case {
     let ground = r.pick(&[0, 0, 0, 0, 0, 16, 16, 17, 17, 18, 19, 20]);
     if ground == 18 || ground == 19 {
         if scale != Scale::Full || !r.one_in(3) {
-            return case(r, scale);
+            return of_one_order(r, scale);
         }
         return large_pair(r, ground);
     }

@@ -3,20 +3,23 @@
 
 use crate::check::check;
 use crate::generate::large::{padded, pointers};
+use crate::generate::turn::turned;
 use crate::limits::{BYTE_LIMIT, FULL_PLACES, TYPE_LIMIT};
-use crate::make::{info, Make};
+use crate::make::{info, word_at, Make};
 use crate::table::Kind;
 use crate::vectors::{bytes_of, Case, CHECK, NAME, SIZE};
 
 /// All of them: each table is checked, the sizes of its first and last types
-/// are asked where it is accepted, and its names at both ends. Thinned, the
-/// tables at the two limits are checked.
+/// are asked where it is accepted, and its names at both ends; then each is
+/// checked in the other order. Thinned, the tables at the two limits are
+/// checked, and of the other order one at both and one past the bytes.
 pub fn cases(thin: bool) -> Vec<Case> {
     let tables = [
         pointers(TYPE_LIMIT).blob(),
         pointers(TYPE_LIMIT + 1).blob(),
         of_bytes(BYTE_LIMIT),
         of_bytes(BYTE_LIMIT + 1),
+        at_both_limits(),
         full(),
         chain_up(16_000).blob(),
         chain_down(16_000).blob(),
@@ -37,10 +40,13 @@ pub fn cases(thin: bool) -> Vec<Case> {
         arrays_of_arrays().blob(),
         products().blob(),
     ];
+    let turned = |blob: &Vec<u8>| checked(&turned(blob));
     if thin {
-        return tables[..4].iter().map(|blob| checked(blob)).collect();
+        let as_made = tables[..4].iter().map(|blob| checked(blob));
+        return as_made.chain(tables[3..5].iter().map(turned)).collect();
     }
-    tables.iter().flat_map(|blob| asked(blob)).collect()
+    let as_made = tables.iter().flat_map(|blob| asked(blob));
+    as_made.chain(tables.iter().map(turned)).collect()
 }
 
 fn checked(blob: &[u8]) -> Case {
@@ -70,7 +76,7 @@ fn asked(blob: &[u8]) -> Vec<Case> {
             ..Case::default()
         }));
     }
-    let strings = crate::table::word(blob, 20);
+    let strings = word_at(blob, 20);
     found.extend([1, strings - 1, strings].map(|x| Case {
         op: NAME,
         x,
@@ -85,6 +91,11 @@ pub fn of_bytes(bytes: u32) -> Vec<u8> {
     let mut m = Make::new();
     m.int(4);
     padded(&m, bytes as usize)
+}
+
+/// As many types as may be, and as many bytes.
+pub fn at_both_limits() -> Vec<u8> {
+    padded(&pointers(TYPE_LIMIT), BYTE_LIMIT as usize)
 }
 
 /// As many bytes as may be, nearly all of them types: INTs, of 16 bytes each.

@@ -5,16 +5,18 @@ use crate::generate::large::{padded, pointers};
 use crate::generate::large_fixed::{
     chain_down, chain_up, entries, full, nest, of_bytes, parameters, pointers_down, pointers_up,
 };
+use crate::generate::turn::turned;
 use crate::limits::{BYTE_LIMIT, FULL_PLACES, TYPE_LIMIT};
 use crate::make::Make;
 use crate::vectors::{Case, MOST_BYTES, MOST_PLACES};
 
 /// All of them. Thinned, the joins at the two limits and one past each.
 pub fn cases(thin: bool) -> Vec<Case> {
-    if thin {
-        return limits();
-    }
     let mut found = limits();
+    found.extend(limits_turned());
+    if thin {
+        return found;
+    }
     too_many_inside(&mut found);
     around_type_limit(&mut found);
     around_byte_limit(&mut found);
@@ -27,8 +29,9 @@ pub fn cases(thin: bool) -> Vec<Case> {
     found
 }
 
-/// Report 8 inside, as many types together as may be and one more, as many
-/// bytes and one more, and an output that is one byte too short for them.
+/// Report 8 inside, big-endian and before 24; as many types together as may be
+/// and one more, as many bytes and one more, and an output that is one byte too
+/// short for them.
 fn limits() -> Vec<Case> {
     let [none, one] = [0, 1].map(|count| pointers(count).blob());
     let [less, most, over] =
@@ -37,13 +40,30 @@ fn limits() -> Vec<Case> {
     let rest = BYTE_LIMIT + 25 - 120_000;
     let (first, second, longer) = (of_bytes(120_000), of_bytes(rest), of_bytes(rest + 1));
     vec![
-        call(&over, &none, FULL_PLACES, MOST_BYTES),
-        call(&none, &over, FULL_PLACES, MOST_BYTES),
+        call(&turned(&over), &turned(&none), FULL_PLACES, MOST_BYTES),
+        call(&none, &turned(&over), FULL_PLACES, MOST_BYTES),
         call(&one, &less, FULL_PLACES, BYTE_LIMIT),
         call(&most, &one, FULL_PLACES, BYTE_LIMIT),
         call(&first, &second, FULL_PLACES, BYTE_LIMIT),
         call(&first, &second, FULL_PLACES, BYTE_LIMIT - 1),
         call(&first, &longer, FULL_PLACES, MOST_BYTES),
+    ]
+}
+
+/// Big-endian: as many types and bytes together as may be, one type more, one
+/// byte more. Of two orders, with one more of both and no output: 24 comes
+/// before 18, 19 and 20.
+fn limits_turned() -> Vec<Case> {
+    let half = TYPE_LIMIT / 2;
+    let rest = BYTE_LIMIT + 25 - 120_000;
+    let table = |types, bytes: u32| turned(&padded(&pointers(types), bytes as usize));
+    let first = table(half, 120_000);
+    let [one, most] = [1, TYPE_LIMIT].map(|count| turned(&pointers(count).blob()));
+    vec![
+        call(&first, &table(half, rest), FULL_PLACES, BYTE_LIMIT),
+        call(&most, &one, FULL_PLACES, BYTE_LIMIT),
+        call(&first, &table(half, rest + 1), FULL_PLACES, MOST_BYTES),
+        call(&turned(&first), &table(half + 1, rest + 1), FULL_PLACES, 0),
     ]
 }
 
@@ -105,6 +125,11 @@ fn ground_before_ground(found: &mut Vec<Case>) {
     found.push(call(&few, &pointers(half + 1).blob(), FULL_PLACES, 0));
     // 19 and 20
     found.push(call(&of_bytes(140_000), &of_bytes(140_000), FULL_PLACES, 0));
+    // 24 and 18, 24 and 19
+    let [most, one] = [TYPE_LIMIT, 1].map(|count| pointers(count).blob());
+    found.push(call(&most, &turned(&one), FULL_PLACES, MOST_BYTES));
+    let (long, longer) = (of_bytes(140_000), turned(&of_bytes(140_000)));
+    found.push(call(&longer, &long, FULL_PLACES, MOST_BYTES));
     // 17 and, were the second not refused, 18 and 19
     let mut broken = pointers(TYPE_LIMIT);
     broken.at(TYPE_LIMIT).third = TYPE_LIMIT + 1;
@@ -154,12 +179,17 @@ pub fn example_tables() -> [Vec<u8>; 3] {
     ]
 }
 
+/// The old controller's table is of the other order.
 fn examples(found: &mut Vec<Case>) {
+    let old = include_bytes!("../../../example/old_controller.btf");
     for a in example_tables() {
         for b in example_tables() {
             found.push(call(&a, &b, 38, length(&a, &b)));
         }
+        found.push(call(&a, old, 38, length(&a, old)));
+        found.push(call(old, &a, 38, length(old, &a)));
     }
+    found.push(call(old, old, 38, length(old, old)));
 }
 
 /// Three tables: those of example/, and three that reach both limits together.

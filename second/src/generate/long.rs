@@ -6,6 +6,7 @@ use crate::generate::edges_joins::{call, length};
 use crate::generate::large::padded;
 use crate::generate::pieces::{kind_of, table_of};
 use crate::generate::random::Random;
+use crate::generate::turn::mixed;
 use crate::generate::{damage_bytes, valid, Scale};
 use crate::join::raised;
 use crate::limits::{BYTE_LIMIT, FULL_PLACES, TYPE_LIMIT};
@@ -111,6 +112,15 @@ fn damaged(r: &mut Random, mut m: Make) -> Vec<u8> {
 
 /// Two long tables, most of them joined; else 9 inside or one of the grounds.
 pub fn join(r: &mut Random) -> Case {
+    let case = of_one_order(r);
+    if r.one_in(8) {
+        mixed(r, case)
+    } else {
+        case
+    }
+}
+
+fn of_one_order(r: &mut Random) -> Case {
     match r.pick(&[0, 0, 0, 0, 0, 0, 9, 16, 17, 18, 19, 20]) {
         9 => with_places(r, 0),
         16 => {

@@ -12,9 +12,13 @@ pub mod edges_joins;
 pub mod edges_layout;
 pub mod edges_names;
 pub mod edges_offsets;
+pub mod edges_order_joins;
+pub mod edges_order_sizes;
+pub mod edges_orders;
 pub mod edges_pointers;
 pub mod edges_questions;
 pub mod edges_sections;
+pub mod edges_tails;
 pub mod edges_walks;
 pub mod every_byte;
 pub mod grow;
@@ -30,10 +34,12 @@ pub mod pieces;
 pub mod random;
 pub mod scene_members;
 pub mod size_cases;
+pub mod turn;
 pub mod valid;
 
 use crate::vectors::{run, Case, CHECK, JOIN, NAME, SIZE};
 use random::Random;
+use turn::in_some_order;
 
 /// How large cases may be.
 #[derive(Clone, Copy, PartialEq, Eq, Debug)]
@@ -108,7 +114,8 @@ fn asked_for(case: &Case, wanted: &Wanted) -> bool {
     wanted.ops.contains(&case.op) && wanted.only.is_none_or(|number| run(case).number == number)
 }
 
-/// Checks and joins have the most answers, so they come more often.
+/// Checks and joins have the most answers, so they come more often. Each is
+/// made of little-endian tables, and turned round as often as not.
 fn one(r: &mut Random, wanted: &Wanted) -> Case {
     let weighted = [
         CHECK, CHECK, CHECK, CHECK, SIZE, SIZE, NAME, JOIN, JOIN, JOIN,
@@ -117,14 +124,15 @@ fn one(r: &mut Random, wanted: &Wanted) -> Case {
         .into_iter()
         .filter(|op| wanted.ops.contains(op))
         .collect();
-    match (r.pick(&open), wanted.scale) {
+    let case = match (r.pick(&open), wanted.scale) {
         (CHECK, Scale::Long) => long::check(r),
         (JOIN, Scale::Long) => long::join(r),
         (CHECK, scale) => check_cases::case(r, scale),
         (SIZE, scale) => size_cases::case(r, scale),
         (NAME, scale) => name_cases::case(r, scale),
         (_, scale) => join_cases::case(r, scale),
-    }
+    };
+    in_some_order(r, case)
 }
 
 /// The slow checker takes short tables and slices only.

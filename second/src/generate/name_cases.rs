@@ -3,7 +3,7 @@
 use crate::generate::check_cases::{aim, aimed};
 use crate::generate::random::Random;
 use crate::generate::{damage_words, valid, Scale};
-use crate::table::word;
+use crate::make::word_at;
 use crate::vectors::{Case, NAME};
 
 pub fn case(r: &mut Random, scale: Scale) -> Case {
@@ -38,7 +38,7 @@ fn offset(r: &mut Random, blob: &[u8]) -> u32 {
     if blob.len() < 24 {
         return r.pick(&[0, 1, u32::MAX]);
     }
-    let (type_len, str_len) = (word(blob, 12), word(blob, 20));
+    let (type_len, str_len) = (word_at(blob, 12), word_at(blob, 20));
     match r.below(10) {
         0 => 0,
         1 => str_len.wrapping_sub(1),

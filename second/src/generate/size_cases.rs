@@ -7,6 +7,7 @@ use crate::generate::pieces::index_of;
 use crate::generate::random::Random;
 use crate::generate::{large, valid, Scale};
 use crate::make::Make;
+use crate::order::ORDERS;
 use crate::table::Kind;
 use crate::vectors::{bytes_of, run, Case, SIZE};
 
@@ -49,7 +50,7 @@ fn attempt(r: &mut Random, scale: Scale, aim: u32) -> Case {
     }
     let blob = match r.below(10) {
         0 => random_words(r),
-        1 => random_bytes(r),
+        1 => begun_bytes(r),
         _ => m.blob(),
     };
     let index = turned_index(r, index_of(&m), &blob);
@@ -61,6 +62,15 @@ fn attempt(r: &mut Random, scale: Scale, aim: u32) -> Case {
         _ => r.below(index.len() as u32 + 1),
     };
     question(blob, &index, number)
+}
+
+/// Bytes that mean nothing, half of them behind the magic of an order.
+fn begun_bytes(r: &mut Random) -> Vec<u8> {
+    let mut bytes = random_bytes(r);
+    if r.one_in(2) && bytes.len() >= 2 {
+        bytes[..2].copy_from_slice(&r.pick(&ORDERS).magic());
+    }
+    bytes
 }
 
 /// A walk of a few steps to a type without size, to zero elements, to more.

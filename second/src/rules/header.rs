@@ -1,12 +1,14 @@
 //! Phase 1: the header and the two sections, reports 1 to 5.
 
 use crate::limits::BYTE_LIMIT;
+use crate::order::{Order, ORDERS};
 use crate::report::Report;
-use crate::table::{word, HEADER_BYTES};
+use crate::table::HEADER_BYTES;
 
-/// Lengths of the two sections of a blob that passed phase 1.
+/// The order of a blob that passed phase 1, and the lengths of its sections.
 #[derive(Clone, Copy, PartialEq, Eq, Debug)]
 pub struct Sections {
+    pub order: Order,
     pub type_len: usize,
     pub str_len: usize,
 }
@@ -27,17 +29,24 @@ pub fn phase_1(blob: &[u8]) -> Result<Sections, Report> {
         }
     }
     Ok(Sections {
+        order: Order::of(blob),
         type_len: word(blob, 12) as usize,
         str_len: word(blob, 20) as usize,
     })
+}
+
+/// A word of the header, in the blob's order.
+fn word(blob: &[u8], place: usize) -> u32 {
+    Order::of(blob).word(blob, place)
 }
 
 fn report_1(blob: &[u8]) -> bool {
     blob.len() < HEADER_BYTES || blob.len() > BYTE_LIMIT as usize
 }
 
+/// Neither order's four bytes.
 fn report_2(blob: &[u8]) -> bool {
-    blob[..4] != [0x9F, 0xEB, 0x01, 0x00]
+    ORDERS.iter().all(|order| blob[..4] != order.opening())
 }
 
 fn report_3(blob: &[u8]) -> bool {

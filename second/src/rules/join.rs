@@ -7,11 +7,12 @@ use crate::reference::references;
 use crate::report::Report;
 use crate::table::{Record, Table, HEADER_BYTES, HEAD_BYTES};
 
-/// Why a join was refused, reports 16 to 20.
+/// Why a join was refused, in the order in which the grounds are asked.
 #[derive(Clone, Copy, PartialEq, Eq, Debug)]
 pub enum JoinRefusal {
     First(Report),
     Second(Report),
+    OrdersDiffer,
     TooManyTypes,
     TooLong,
     OutputTooShort,
@@ -22,6 +23,7 @@ impl JoinRefusal {
         match self {
             JoinRefusal::First(_) => 16,
             JoinRefusal::Second(_) => 17,
+            JoinRefusal::OrdersDiffer => 24,
             JoinRefusal::TooManyTypes => 18,
             JoinRefusal::TooLong => 19,
             JoinRefusal::OutputTooShort => 20,
@@ -66,6 +68,9 @@ fn try_join(
     // Each table is checked on its own with the lent slices.
     let first = judge(first, index_places, work_places).map_err(JoinRefusal::First)?;
     let second = judge(second, index_places, work_places).map_err(JoinRefusal::Second)?;
+    if first.order != second.order {
+        return Err(JoinRefusal::OrdersDiffer);
+    }
     if first.count() + second.count() > TYPE_LIMIT {
         return Err(JoinRefusal::TooManyTypes);
     }
@@ -80,7 +85,7 @@ fn try_join(
 }
 
 /// The header, the first's records, the second's raised, the first's strings,
-/// the second's without their first byte.
+/// the second's without their first byte, in the order that both have.
 fn joined_blob(first: &Table, second: &Table) -> Vec<u8> {
     let mut types = Vec::new();
     for record in &first.records {
@@ -95,10 +100,10 @@ fn joined_blob(first: &Table, second: &Table) -> Vec<u8> {
     }
     let type_len = 4 * types.len() as u32;
     let str_len = (first.strings.len() + second.strings.len() - 1) as u32;
-    let mut blob = vec![0x9F, 0xEB, 0x01, 0x00];
+    let mut blob = first.order.opening().to_vec();
     let header = [HEADER_BYTES as u32, 0, type_len, type_len, str_len];
     for word in header.into_iter().chain(types) {
-        blob.extend(word.to_le_bytes());
+        blob.extend(first.order.bytes(word));
     }
     blob.extend(&first.strings);
     blob.extend(&second.strings[1..]);

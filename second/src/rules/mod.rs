@@ -11,6 +11,7 @@ pub mod limits;
 pub mod members;
 pub mod name_at;
 pub mod names;
+pub mod order;
 pub mod reference;
 pub mod report;
 pub mod size;

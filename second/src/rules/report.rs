@@ -28,7 +28,7 @@ impl Report {
 pub fn meaning(number: u32) -> &'static str {
     match number {
         1 => "the file is under 24 bytes or over 262,144",
-        2 => "the first four bytes are not 9F EB 01 00",
+        2 => "the first four bytes are neither 9F EB 01 00 nor EB 9F 01 00",
         3 => "the header length is not 24",
         4 => "the section places and lengths do not add up to the file",
         5 => "the string section is empty or does not begin and end with a zero byte",
@@ -49,6 +49,7 @@ pub fn meaning(number: u32) -> &'static str {
         20 => "the output is too short",
         21 => "the index leads outside what can be read",
         22 => "more records would be read than the index has places",
+        24 => "the two tables have different byte orders",
         _ => "no report",
     }
 }

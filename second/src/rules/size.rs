@@ -1,6 +1,7 @@
 //! Sizes: the exact size of a type, and the size question that trusts nobody.
 
-use crate::table::{kind_number_of, word, Kind, Table, HEADER_BYTES, HEAD_BYTES};
+use crate::order::Order;
+use crate::table::{kind_number_of, Kind, Table, HEADER_BYTES, HEAD_BYTES};
 
 /// The size of a type of a table without endless walks.
 #[derive(Clone, Copy, PartialEq, Eq, Debug)]
@@ -123,16 +124,18 @@ fn answer(size: Size) -> SizeAnswer {
 }
 
 /// Reads the record the index gives for a number; nothing where report 21
-/// speaks. 12 bytes are asked of any kind but ARRAY, which needs its tail.
+/// speaks. 12 bytes are asked of any kind but ARRAY, which needs its tail. The
+/// blob's first two bytes say its order, whatever else they begin.
 fn read_share(blob: &[u8], index: &[u32], number: u32) -> Option<Share> {
     let place = *index.get(number as usize)? as usize;
     if place < HEADER_BYTES || place + HEAD_BYTES > blob.len() {
         return None;
     }
-    let kind = Kind::from_number(kind_number_of(word(blob, place + 4)))?;
+    let word = |at| Order::of(blob).word(blob, at);
+    let kind = Kind::from_number(kind_number_of(word(place + 4)))?;
     if kind == Kind::Array && place + HEAD_BYTES + 12 > blob.len() {
         return None;
     }
-    let tail = || (word(blob, place + 12), word(blob, place + 20));
-    Some(share(kind, word(blob, place + 8), tail))
+    let tail = || (word(place + 12), word(place + 20));
+    Some(share(kind, word(place + 8), tail))
 }

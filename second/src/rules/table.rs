@@ -1,18 +1,10 @@
-//! Words, kinds and records: how a table lies in its blob.
+//! Kinds and records: how a table lies in its blob.
+
+use crate::order::Order;
 
 /// The 24 bytes before the type section.
 pub const HEADER_BYTES: usize = 24;
 pub const HEAD_BYTES: usize = 12;
-
-/// The 32-bit word at a byte place, low byte first.
-pub fn word(bytes: &[u8], place: usize) -> u32 {
-    u32::from_le_bytes([
-        bytes[place],
-        bytes[place + 1],
-        bytes[place + 2],
-        bytes[place + 3],
-    ])
-}
 
 /// The kinds 1 to 19, in the paper's order.
 #[derive(Clone, Copy, PartialEq, Eq, Debug)]
@@ -146,6 +138,8 @@ impl Record {
 /// A table as the walk of phase 2 found it.
 #[derive(Clone, PartialEq, Eq, Debug)]
 pub struct Table {
+    /// That of its blob's words.
+    pub order: Order,
     /// Type k is `records[k - 1]`.
     pub records: Vec<Record>,
     pub strings: Vec<u8>,

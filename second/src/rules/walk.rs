@@ -3,7 +3,7 @@
 use crate::header::Sections;
 use crate::limits::TYPE_LIMIT;
 use crate::report::Report;
-use crate::table::{kind_number_of, vlen_of, word, Kind, Record, Table};
+use crate::table::{kind_number_of, vlen_of, Kind, Record, Table};
 use crate::table::{HEADER_BYTES, HEAD_BYTES};
 
 /// Walks the records one after the other and stops at the first fault.
@@ -17,12 +17,16 @@ pub fn phase_2(blob: &[u8], sections: Sections) -> Result<Table, Report> {
         if report_8(&records) {
             return Err(Report::new(8, TYPE_LIMIT + 1, place as u32));
         }
-        let record = read_record(blob, place, end, records.len() as u32 + 1)?;
+        let record = read_record(blob, sections, place, records.len() as u32 + 1)?;
         place += HEAD_BYTES + 4 * record.tail.len();
         records.push(record);
     }
     let strings = blob[end..].to_vec();
-    Ok(Table { records, strings })
+    Ok(Table {
+        order: sections.order,
+        records,
+        strings,
+    })
 }
 
 /// Asked where bytes remain: is the limit of records reached already?
@@ -32,12 +36,19 @@ fn report_8(records: &[Record]) -> bool {
 
 /// Reads the record at a place: 6 for a head or tail that doesn't fit, 7 for
 /// an unknown kind, which has no tail.
-fn read_record(blob: &[u8], place: usize, end: usize, number: u32) -> Result<Record, Report> {
+fn read_record(
+    blob: &[u8],
+    sections: Sections,
+    place: usize,
+    number: u32,
+) -> Result<Record, Report> {
+    let end = sections.strings_at();
+    let word = |at| sections.order.word(blob, at);
     let refused = |report| Err(Report::new(report, number, place as u32));
     if place + HEAD_BYTES > end {
         return refused(6);
     }
-    let info = word(blob, place + 4);
+    let info = word(place + 4);
     let Some(kind) = Kind::from_number(kind_number_of(info)) else {
         return refused(7);
     };
@@ -49,12 +60,10 @@ fn read_record(blob: &[u8], place: usize, end: usize, number: u32) -> Result<Rec
     Ok(Record {
         place,
         kind,
-        name: word(blob, place),
+        name: word(place),
         info,
-        third: word(blob, place + 8),
-        tail: (0..tail_words)
-            .map(|k| word(blob, tail_at + 4 * k))
-            .collect(),
+        third: word(place + 8),
+        tail: (0..tail_words).map(|k| word(tail_at + 4 * k)).collect(),
     })
 }
 

@@ -48,6 +48,12 @@ enum-told-3 c = search needs
 told-requires-3 : tie.Need-told-requires-3
 told-requires-3 c κs = search needs
 
+enum-told-4 : tie.Need-enum-told-4
+enum-told-4 c = search needs
+
+told-requires-4 : tie.Need-told-requires-4
+told-requires-4 c κs = search needs
+
 returns : tie.Need-returns
 unfolding joinedAsPaper
 returns c = c .valued .ensures ∙ sym (ap joinedAsPaper (c .before .before .j .given .1))
@@ -72,6 +78,10 @@ returns-6 : tie.Need-returns-6
 unfolding joinedAsPaper
 returns-6 c = c .told3 .ensures ∙ sym (ap joinedAsPaper (c .before .enum-told3 .given .1))
 
+returns-7 : tie.Need-returns-7
+unfolding joinedAsPaper
+returns-7 c = c .told4 .ensures ∙ sym (ap joinedAsPaper (c .before .enum-told4 .given .1))
+
 pub of-joined-spec : {M : Type 1} → statement M
 of-joined-spec =
     tie.close
@@ -90,9 +100,12 @@ of-joined-spec =
     told-requires-2
     enum-told-3
     told-requires-3
+    enum-told-4
+    told-requires-4
     returns
     returns-2
     returns-3
     returns-4
     returns-5
-    returns-6)
+    returns-6
+    returns-7)

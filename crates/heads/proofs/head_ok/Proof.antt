@@ -15,7 +15,7 @@ words-ok-requires : tie.Need-words-ok-requires
 words-ok-requires c κs = search needs
 
 returns : tie.Need-returns
-returns c = headBy-record _ (c .before .before .read .ensures) (c .before .read2 .ensures) (c .words-ok .ensures)
+returns c = headBy-record _ _ (c .before .before .read .ensures) (c .before .read2 .ensures) (c .words-ok .ensures)
 
 pub head-ok-spec : {M : Type 1} → statement M
 head-ok-spec = tie.close (tie.spec read-requires read-requires-2 words-ok-requires returns)

@@ -7,27 +7,26 @@ use Rattle.paper.specs.rules.Kind.{rowOf}
 use Rattle.rows.proofs.RoleCodes.{each-few}
 use Rattle.paper.specs.rules.Names.{nameWordOk}
 use Rattle.paper.specs.terms.Reading.{roled}
-use Rattle.paper.specs.rules.Word.{lowFirst}
 use Rattle.rows.proofs.ByRole.{three-codes, Entering, entering-done, entering-bad, entering-next}
 use borrow.Author.Needs.{needs}
 use Rattle.naming.proofs.entries_ok.Statement.{statement}
 use Rattle.naming.proofs.entries_ok.Tie as tie
 
 abbrev Inv-loop : tie.InvT-loop
-Inv-loop bytes strings kind n step r0 r1 r2 p₀ left₀ p left = Entering lowFirst (nameWordOk strings) bytes (rowOf kind .each) p₀ n p left
+Inv-loop order bytes strings kind n step r0 r1 r2 p₀ left₀ p left = Entering order (nameWordOk strings) bytes (rowOf kind .each) p₀ n p left
 
 abbrev μ-loop : tie.MeasureT-loop
-μ-loop bytes strings kind n step r0 r1 r2 p₀ left₀ p left = left
+μ-loop order bytes strings kind n step r0 r1 r2 p₀ left₀ p left = left
 
 -- the three words at a place are those of an entry
 here : (c : tie.After-three-ok Inv-loop μ-loop) → let l = c .before .before in let a = l .before .before .before .before .before .before .before .args in
-    c .three-ok .result ≡ roled lowFirst (nameWordOk (now (a .strings))) (now (a .bytes)) (l .loop .p) (rowOf (a .kind) .each)
+    c .three-ok .result ≡ roled (a .order) (nameWordOk (now (a .strings))) (now (a .bytes)) (l .loop .p) (rowOf (a .kind) .each)
 here c =
     let l = c .before .before in
     let r = l .before in
     let a = r .before .before .before .before .before .before .args in
     c .three-ok .ensures
-    ∙ three-codes lowFirst (nameWordOk (now (a .strings))) (now (a .bytes)) (λ w. refl) (l .loop .p) (rowOf (a .kind) .each) (each-few (a .kind))
+    ∙ three-codes (a .order) (nameWordOk (now (a .strings))) (now (a .bytes)) (λ w. refl) (l .loop .p) (rowOf (a .kind) .each) (each-few (a .kind))
     (r .before .before .entry-role .ensures) (r .before .entry-role2 .ensures) (r .entry-role3 .ensures)
 
 entry-words-requires : tie.Need-entry-words-requires Inv-loop μ-loop

@@ -7,7 +7,6 @@ use Rattle.paper.specs.rules.Kind.{rowOf}
 use Rattle.rows.proofs.RoleCodes.{once-few}
 use Rattle.paper.specs.rules.Names.{nameWordOk}
 use Rattle.paper.specs.terms.Reading.{roled}
-use Rattle.paper.specs.rules.Word.{lowFirst}
 use Rattle.rows.proofs.ByRole.{three-codes, tail-numbers, tail-once, tail-entries}
 use borrow.Author.Needs.{needs}
 use Rattle.naming.proofs.tail_names_ok.Statement.{statement}
@@ -15,12 +14,12 @@ use Rattle.naming.proofs.tail_names_ok.Tie as tie
 
 -- the three words behind the head are those that stand once
 once : (c : tie.After-three-ok) → let k = c .before .before .before .before .before .before in let a = k .before .before .before .args in
-    c .three-ok .result ≡ roled lowFirst (nameWordOk (now (a .strings))) (now (a .bytes)) 12 (rowOf (k .kind-of .result) .once)
+    c .three-ok .result ≡ roled (a .order) (nameWordOk (now (a .strings))) (now (a .bytes)) 12 (rowOf (k .kind-of .result) .once)
 once c =
     let k = c .before .before .before .before .before .before in
     let a = k .before .before .before .args in
     c .three-ok .ensures
-    ∙ three-codes lowFirst (nameWordOk (now (a .strings))) (now (a .bytes)) (λ w. refl) 12 (rowOf (k .kind-of .result) .once) (once-few (k .kind-of .result))
+    ∙ three-codes (a .order) (nameWordOk (now (a .strings))) (now (a .bytes)) (λ w. refl) 12 (rowOf (k .kind-of .result) .once) (once-few (k .kind-of .result))
     (c .before .before .before .once-role .ensures) (c .before .before .once-role2 .ensures) (c .before .once-role3 .ensures)
 
 kind-of-requires : tie.Need-kind-of-requires
@@ -33,7 +32,7 @@ returns : tie.Need-returns
 returns c =
     let k = c .before .before in
     let a = k .before .before .before .args in
-    tail-numbers lowFirst (nameWordOk (now (a .strings))) (now (a .bytes)) (λ w. refl) (a .info)
+    tail-numbers (a .order) (nameWordOk (now (a .strings))) (now (a .bytes)) (λ w. refl) (a .info)
     (k .kind-of .ensures) (c .before .only-numbers .ensures) (c .if1 .taken)
 
 once-role-requires : tie.Need-once-role-requires
@@ -52,7 +51,7 @@ returns-2 : tie.Need-returns-2
 returns-2 c =
     let k = c .before .before .before .before .before .before .before in
     let a = k .before .before .before .args in
-    tail-once lowFirst (nameWordOk (now (a .strings))) (now (a .bytes)) (a .info) (k .kind-of .ensures) (once (c .before)) (c .if2 .taken)
+    tail-once (a .order) (nameWordOk (now (a .strings))) (now (a .bytes)) (a .info) (k .kind-of .ensures) (once (c .before)) (c .if2 .taken)
 
 once-words-requires : tie.Need-once-words-requires
 once-words-requires c κs = search needs
@@ -78,7 +77,7 @@ returns-3 c =
     let e = o .before in
     let k = e .before .before .before .before .before .before .before in
     let a = k .before .before .before .args in
-    tail-entries lowFirst (nameWordOk (now (a .strings))) (now (a .bytes)) (a .info) (k .kind-of .ensures) (once (e .before)) (e .if2 .left)
+    tail-entries (a .order) (nameWordOk (now (a .strings))) (now (a .bytes)) (a .info) (k .kind-of .ensures) (once (e .before)) (e .if2 .left)
     (o .once-words .ensures) (c .before .vlen-of .ensures) (c .entries-ok .ensures)
 
 pub tail-names-ok-spec : {M : Type 1} → statement M

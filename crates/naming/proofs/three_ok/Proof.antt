@@ -3,7 +3,6 @@
 use Rattle.kindrows.specs.Codes.{roleOf}
 use denote.Ref.{now}
 use Rattle.paper.specs.rules.Names.{nameWordOk}
-use Rattle.paper.specs.rules.Word.{lowFirst}
 use Rattle.rows.proofs.ByRole.{three-first, three-second, three-third}
 use borrow.Author.Needs.{needs}
 use Rattle.naming.proofs.three_ok.Statement.{statement}
@@ -16,11 +15,11 @@ returns : tie.Need-returns
 returns c =
     let w = c .before in
     let a = w .before .before .before .args in
-    three-first lowFirst (nameWordOk (now (a .strings))) (now (a .bytes)) (a .at .0) (roleOf (a .r0)) (roleOf (a .r1))
+    three-first (a .order) (nameWordOk (now (a .strings))) (now (a .bytes)) (a .at .0) (roleOf (a .r0)) (roleOf (a .r1))
     (roleOf (a .r2)) (w .word-ok .ensures) (c .if1 .taken)
 
-add-t10 : tie.Need-add-t10
-add-t10 c = search needs
+add-t11 : tie.Need-add-t11
+add-t11 c = search needs
 
 word-ok-requires-2 : tie.Need-word-ok-requires-2
 word-ok-requires-2 c κs = search needs
@@ -30,12 +29,12 @@ returns-2 c =
     let e = c .before .before in
     let w = e .before in
     let a = w .before .before .before .args in
-    three-second lowFirst (nameWordOk (now (a .strings))) (now (a .bytes)) (a .at .0) (roleOf (a .r0)) (roleOf (a .r1))
+    three-second (a .order) (nameWordOk (now (a .strings))) (now (a .bytes)) (a .at .0) (roleOf (a .r0)) (roleOf (a .r1))
     (roleOf (a .r2)) (w .word-ok .ensures) (e .if1 .left)
     (c .before .word-ok2 .ensures) (c .if2 .taken)
 
-add-t10-2 : tie.Need-add-t10-2
-add-t10-2 c = search needs
+add-t11-2 : tie.Need-add-t11-2
+add-t11-2 c = search needs
 
 word-ok-requires-3 : tie.Need-word-ok-requires-3
 word-ok-requires-3 c κs = search needs
@@ -45,7 +44,7 @@ returns-3 c =
     let e = c .before .before .before in
     let w = e .before in
     let a = w .before .before .before .args in
-    three-third lowFirst (nameWordOk (now (a .strings))) (now (a .bytes)) (a .at .0) (roleOf (a .r0)) (roleOf (a .r1))
+    three-third (a .order) (nameWordOk (now (a .strings))) (now (a .bytes)) (a .at .0) (roleOf (a .r0)) (roleOf (a .r1))
     (roleOf (a .r2)) (w .word-ok .ensures) (e .if1 .left)
     (c .before .before .word-ok2 .ensures) (c .before .if2 .left) (c .word-ok3 .ensures)
 
@@ -55,9 +54,9 @@ three-ok-spec =
     (tie.spec
     word-ok-requires
     returns
-    add-t10
+    add-t11
     word-ok-requires-2
     returns-2
-    add-t10-2
+    add-t11-2
     word-ok-requires-3
     returns-3)

@@ -1,10 +1,9 @@
--- `naming::word_ok` meets its contract: a code that is no name passes, and an offset past the strings does not.
+-- `naming::word_ok` meets its contract: a code that is no name passes.
 -- Assumes nothing.
-use mathlib.Core.Path.{ap, _∙_}
+use mathlib.Core.Path.{sym, _∙_}
+use borrow.Author.Tests.{not-false}
 use denote.Ref.{now}
-use Rattle.paper.specs.rules.Names.{nameWordOk}
-use Rattle.kindrows.specs.Codes.{roleOf}
-use Rattle.naming.proofs.NameRoles.{word-other, word-outside, word-inside}
+use Rattle.naming.proofs.NameRoles.{word-other}
 use borrow.Author.Needs.{needs}
 use Rattle.naming.proofs.word_ok.Statement.{statement}
 use Rattle.naming.proofs.word_ok.Tie as tie
@@ -18,33 +17,11 @@ returns c =
     let a = i .before .before .before .args in
     word-other (now (a .strings)) (a .role) _ (i .is-name .ensures) (c .if1 .taken)
 
-read-requires : tie.Need-read-requires
-read-requires c κs = search needs
-
-cast-if2 : tie.Need-cast-if2
-cast-if2 c = search needs
+name-ok-requires : tie.Need-name-ok-requires
+name-ok-requires c κs = let i = c .before in sym (i .is-name .ensures) ∙ not-false (i .is-name .result) (c .if1 .left)
 
 returns-2 : tie.Need-returns-2
-returns-2 c =
-    let r = c .before in
-    let e = r .before in
-    let i = e .before in
-    let a = i .before .before .before .args in
-    word-outside (now (a .strings)) (a .role) (r .read .result) (i .is-name .ensures) (e .if1 .left) (c .if2 .taken)
-    ∙ ap (nameWordOk (now (a .strings)) (roleOf (a .role))) (r .read .ensures)
-
-fits-requires : tie.Need-fits-requires
-fits-requires c κs = search needs
-
-returns-3 : tie.Need-returns-3
-returns-3 c =
-    let r = c .before .before in
-    let e = r .before in
-    let i = e .before in
-    let a = i .before .before .before .args in
-    word-inside (now (a .strings)) (a .role) (r .read .result) (i .is-name .ensures) (e .if1 .left) (c .before .if2 .left) (c .fits2 .ensures)
-    ∙ ap (nameWordOk (now (a .strings)) (roleOf (a .role))) (r .read .ensures)
+returns-2 c = c .name-ok .ensures
 
 pub word-ok-spec : {M : Type 1} → statement M
-word-ok-spec =
-    tie.close (tie.spec is-name-requires returns read-requires cast-if2 returns-2 fits-requires returns-3)
+word-ok-spec = tie.close (tie.spec is-name-requires returns name-ok-requires returns-2)

@@ -14,7 +14,7 @@ use Rattle.paper.specs.declared.Checked.the-variants.{Accepted, Refused}
 use Rattle.paper.specs.declared.Sized.{Sized}
 use Rattle.paper.specs.declared.Sized.the-variants.{Exact, NoSize, Overflow, Lost, TooFar}
 use Rattle.paper.specs.declared.Joined.{Joined}
-use Rattle.paper.specs.declared.Joined.the-variants.{Whole, FirstRefused, SecondRefused, TooMany, TooLong, OutputShort}
+use Rattle.paper.specs.declared.Joined.the-variants.{Whole, FirstRefused, SecondRefused, OrdersDiffer, TooMany, TooLong, OutputShort}
 
 -- a map that another undoes sends no two things to one
 module _ {A : Type 0} (f : A → Answer) (back : Answer → A) (undoes : (a : A) → back (f a) ≡ a) where
@@ -117,14 +117,15 @@ joinedBack : Answer → Joined
 joinedBack a =
     getD (Whole (a .p) ∷ []) (a .number)
     (getD
-    (FirstRefused (reportInside a) ∷ SecondRefused (reportInside a) ∷ TooMany ∷ TooLong ∷ [])
-    (a .number - 16) OutputShort)
+    (FirstRefused (reportInside a) ∷ SecondRefused (reportInside a) ∷ TooMany ∷ TooLong ∷ OutputShort ∷ [])
+    (a .number - 16) OrdersDiffer)
 
 joined-back : (j : Joined) → joinedBack (joinedAsPaper j) ≡ j
 unfolding joinedAsPaper joinedBack reportInside reportBack checkedBack
 joined-back (Whole n) = refl
 joined-back (FirstRefused r) = ap FirstRefused (report-back r)
 joined-back (SecondRefused r) = ap SecondRefused (report-back r)
+joined-back OrdersDiffer = refl
 joined-back TooMany = refl
 joined-back TooLong = refl
 joined-back OutputShort = refl

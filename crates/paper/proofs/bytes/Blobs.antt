@@ -13,7 +13,8 @@ use Rattle.paper.specs.rules.Header.{headerLength, opening, orderOf, typ
 use Rattle.paper.specs.rules.Limits.{typeLimit}
 use Rattle.paper.specs.rules.Table.{Record, Table}
 use Rattle.paper.specs.rules.Walk.{records, recordsIn, typeWords, walk, tableOf, flat, typeLenOf, bytesOf}
-use Rattle.paper.specs.rules.Word.{Order, wordOf, wordBytes, firstWord, wordAt, bytesOfWords}
+use Rattle.paper.specs.rules.Word.{wordOf, wordBytes, firstWord, wordAt, bytesOfWords}
+use Rattle.paper.specs.declared.Order.{Order}
 use Rattle.paper.proofs.bytes.Words.{wordBytes-wordOf}
 use Rattle.paper.proofs.bytes.Bytes.{below-take, below-drop, words-fit, length-words, bytesOfWords-words}
 use Rattle.paper.proofs.bytes.Headers.{headerReport-facts}

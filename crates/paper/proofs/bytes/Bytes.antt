@@ -9,7 +9,8 @@ use lib.Seq.{take-all, drop-length}
 use mir.Syntax.{w8}
 use mir.Val.{Fits}
 use Rattle.paper.specs.terms.Fit.{Below, Bytes, wordBound}
-use Rattle.paper.specs.rules.Word.{Order, wordOf, wordBytes, words, bytesOfWords}
+use Rattle.paper.specs.rules.Word.{wordOf, wordBytes, words, bytesOfWords}
+use Rattle.paper.specs.declared.Order.{Order}
 use Rattle.paper.proofs.bytes.Words.{firstWord-wordBytes, wordBytes-wordOf, wordOf-bound}
 
 -- ── bounded lists ──

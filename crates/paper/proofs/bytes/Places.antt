@@ -11,11 +11,12 @@ use Rattle.paper.specs.terms.Fit.{Below, Bytes, wordBound, Fits}
 use Rattle.paper.specs.rules.Header.{headerLength, orderOf, headerReport}
 use Rattle.paper.specs.rules.Table.{Record, Table, count, nothing, wordsOf}
 use Rattle.paper.specs.rules.Walk.{records, walk, tableOf, flat, typeLenOf, bytesOf, placesFrom, placesOf}
-use Rattle.paper.specs.rules.Word.{Order, firstWord, wordAt, bytesOfWords}
+use Rattle.paper.specs.rules.Word.{firstWord, wordAt, bytesOfWords}
+use Rattle.paper.specs.declared.Order.{Order}
 use Rattle.paper.proofs.bytes.Words.{firstWord-wordBytes}
 use Rattle.paper.proofs.bytes.Bytes.{below-left, below-right, length-bytesOfWords, bytesOfWords-append}
 use Rattle.paper.proofs.bytes.Tables.{bytesOf-parts, length-bytesOf}
-use Rattle.paper.proofs.bytes.Blobs.{bytesOf-tableOf, tableOf-fits}
+use Rattle.paper.proofs.bytes.Blobs.{bytesOf-tableOf}
 
 -- ── the words around a record ──
 

@@ -15,7 +15,8 @@ use Rattle.paper.specs.rules.Kind.{Role, names, number, rowOf}
 use Rattle.paper.specs.terms.Reading.{wordsFrom, recordIn, roled, tailRoled}
 use Rattle.paper.specs.rules.Table.{Record, Table, count, nothing, kindIn, vlenIn, tailLength, tailRoles, wordsOf, everyRoled, everyWord}
 use Rattle.paper.specs.rules.Walk.{records, walk, tableOf, placesOf}
-use Rattle.paper.specs.rules.Word.{Order, firstWord, wordAt, bytesOfWords}
+use Rattle.paper.specs.rules.Word.{firstWord, wordAt, bytesOfWords}
+use Rattle.paper.specs.declared.Order.{Order}
 use Rattle.paper.proofs.bytes.Blobs.{bytesOf-tableOf, tableOf-fits}
 use Rattle.paper.proofs.bytes.Places.{firstWord-at, place-record, record-fits}
 use Rattle.paper.proofs.bytes.Sections.{whole-at}

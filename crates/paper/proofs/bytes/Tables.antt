@@ -13,7 +13,9 @@ use Rattle.paper.specs.rules.Header.{headerLength, opening, orderOf, typ
 use Rattle.paper.specs.rules.Limits.{byteLimit, typeLimit}
 use Rattle.paper.specs.rules.Table.{Table}
 use Rattle.paper.specs.rules.Walk.{records, recordsIn, walkFrom, typeWords, walk, tableOf, flat, typeLenOf, blobLength, bytesOf}
-use Rattle.paper.specs.rules.Word.{Order, lowFirst, words, bytesOfWords, wordAt}
+use Rattle.paper.specs.rules.Word.{words, bytesOfWords, wordAt}
+use Rattle.paper.specs.declared.Order.{Order}
+use Rattle.paper.specs.declared.Order.the-variants.{LowFirst, HighFirst}
 use Rattle.paper.proofs.bytes.Words.{firstWord-wordBytes}
 use Rattle.paper.proofs.bytes.Bytes.{below-append, length-bytesOfWords, bytes-bytesOfWords, words-bytesOfWords}
 use Rattle.paper.proofs.bytes.Headers.{facts-headerReport}
@@ -25,12 +27,14 @@ headerOf order types strings = opening order ++ bytesOfWords order (headerLength
 
 -- a header is bytes, whatever its numbers
 bytes-headerOf : (order : Order) (types strings : ℕ) → Bytes (headerOf order types strings)
-bytes-headerOf lowFirst types strings = omega arith
+bytes-headerOf LowFirst types strings = omega arith
+bytes-headerOf HighFirst types strings = omega arith
 
 -- its opening says which order it is
 orderOf-opening : (order : Order) (s : List ℕ) → orderOf (opening order ++ s) ≡ order
 unfolding orderOf
-orderOf-opening lowFirst s = refl
+orderOf-opening LowFirst s = refl
+orderOf-opening HighFirst s = refl
 
 module _ (order : Order) (T : Table) where
   -- ── the parts of the blob ──

@@ -10,12 +10,17 @@ use native.Mathlib.Omega.{arith}
 use borrow.Author.Tests.{le-leb, lt-leb}
 use lib.ListN.{length, getD, take, drop, set, length-drop}
 use lib.Seq.{drop-cons, drop-at, length-take-le, sets, sets-eq}
-use Rattle.paper.specs.rules.Word.{Order, lowFirst, wordOf, wordBytes, firstWord, wordAt, putWord}
+use Rattle.paper.specs.rules.Word.{wordOf, wordBytes, firstWord, wordAt, putWord}
+use Rattle.paper.specs.declared.Order.{Order}
+use Rattle.paper.specs.declared.Order.the-variants.{LowFirst, HighFirst}
 
 -- ── words and bytes ──
 
 pub firstWord-wordBytes : (order : Order) (w : ℕ) (s : List ℕ) → w < 4294967296 → firstWord order (wordBytes order w ++ s) ≡ w
-firstWord-wordBytes lowFirst w s h =
+firstWord-wordBytes LowFirst w s h =
+    let top : w / 16777216 % 256 ≡ w / 16777216 = omega arith in
+    omega (arith, div-div-eq-div-mul w 256 256, div-div-eq-div-mul w 65536 256)
+firstWord-wordBytes HighFirst w s h =
     let top : w / 16777216 % 256 ≡ w / 16777216 = omega arith in
     omega (arith, div-div-eq-div-mul w 256 256, div-div-eq-div-mul w 65536 256)
 
@@ -23,16 +28,24 @@ low-digit : (x q : ℕ) {w : ℕ} → x < 256 → w ≡ x + q * 256 → w % 256 
 low-digit x q h e = omega arith
 
 pub wordBytes-wordOf : (order : Order) {a b c d : ℕ} → a < 256 → b < 256 → c < 256 → d < 256 → wordBytes order (wordOf order a b c d) ≡ a ∷ b ∷ c ∷ d ∷ []
-wordBytes-wordOf lowFirst {a} {b} {c} {d} ha hb hc hd =
-    let w : ℕ = wordOf lowFirst a b c d in
+wordBytes-wordOf LowFirst {a} {b} {c} {d} ha hb hc hd =
+    let w : ℕ = wordOf LowFirst a b c d in
     let e₀ : w / 1 % 256 ≡ a = low-digit a (b + (c + d * 256) * 256) ha (omega arith) in
     let e₁ : w / 256 % 256 ≡ b = low-digit b (c + d * 256) hb (omega arith) in
     let e₂ : w / 65536 % 256 ≡ c = low-digit c d hc (omega arith) in
     let e₃ : w / 16777216 % 256 ≡ d = low-digit d 0 hd (omega arith) in
     cc
+wordBytes-wordOf HighFirst {a} {b} {c} {d} ha hb hc hd =
+    let w : ℕ = wordOf HighFirst a b c d in
+    let e₀ : w / 1 % 256 ≡ d = low-digit d (c + (b + a * 256) * 256) hd (omega arith) in
+    let e₁ : w / 256 % 256 ≡ c = low-digit c (b + a * 256) hc (omega arith) in
+    let e₂ : w / 65536 % 256 ≡ b = low-digit b a hb (omega arith) in
+    let e₃ : w / 16777216 % 256 ≡ a = low-digit a 0 ha (omega arith) in
+    cc
 
 pub wordOf-bound : (order : Order) {a b c d : ℕ} → a < 256 → b < 256 → c < 256 → d < 256 → wordOf order a b c d < 4294967296
-wordOf-bound lowFirst ha hb hc hd = omega arith
+wordOf-bound LowFirst ha hb hc hd = omega arith
+wordOf-bound HighFirst ha hb hc hd = omega arith
 
 -- ── a word at a place ──
 
@@ -89,8 +102,8 @@ module _ (order : Order) where
 
 -- the four stores of code that writes low byte first
 pub putWord-low : (b : List ℕ) (p w : ℕ) → p + 4 ≤ length b
-    → set (set (set (set b p (w % 256)) (p + 1) (w / 256 % 256)) (p + 2) (w / 65536 % 256)) (p + 3) (w / 16777216 % 256) ≡ putWord lowFirst b p w
+    → set (set (set (set b p (w % 256)) (p + 1) (w / 256 % 256)) (p + 2) (w / 65536 % 256)) (p + 3) (w / 16777216 % 256) ≡ putWord LowFirst b p w
 putWord-low b p w h =
     rw (add-one, add-two, add-three)
     (ap (λ (x : ℕ). sets b p (x % 256 ∷ w / 256 % 256 ∷ w / 65536 % 256 ∷ w / 16777216 % 256 ∷ [])) (sym (div-one w))
-    ∙ putWord-stores lowFirst b p w h)
+    ∙ putWord-stores LowFirst b p w h)

@@ -21,7 +21,7 @@ use Rattle.paper.specs.rules.Header.{headerLength, orderOf, stringsIn, h
 use Rattle.paper.specs.rules.Limits.{byteLimit, typeLimit}
 use Rattle.paper.specs.rules.Table.{Table, count}
 use Rattle.paper.specs.rules.Walk.{Walked, records, stopped, recordsIn, walkFrom, walk, tableOf, blobLength, bytesOf}
-use Rattle.paper.specs.rules.Word.{Order}
+use Rattle.paper.specs.declared.Order.{Order}
 
 -- ── phases 1 and 2, and places enough ──
 

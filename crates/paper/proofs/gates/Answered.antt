@@ -4,6 +4,7 @@ use Prim.Native.Nat.{ℕ, _≤_}
 use mathlib.Core.Path.{_≡_, refl, sym, ap, _∙_}
 use mathlib.Core.Bool.{Bool, true, false, cond}
 use mathlib.Core.List.{List}
+use mathlib.Core.Logic.{_⊎_}
 use mathlib.Core.Option.{Option, none, some}
 use native.Mathlib.Omega.{arith}
 use borrow.Author.Tests.{leb-true}
@@ -16,7 +17,7 @@ use Rattle.paper.specs.rules.Gate.{refusal, outcome, gate}
 use Rattle.paper.specs.rules.Join.{joinedBytes, joinRefusal, joinOutcome, join}
 use Rattle.paper.specs.rules.Limits.{sizeLimit}
 use Rattle.paper.specs.rules.Size.{Found, exactly, noneAt, lostAt, tooFar, answerOf, sizeAnswer}
-use Rattle.paper.specs.rules.Table.{Table, count}
+use Rattle.paper.specs.rules.Table.{count}
 use Rattle.paper.specs.rules.Walk.{tableOf}
 use Rattle.paper.specs.declared.Report.{Report}
 use Rattle.paper.specs.declared.Checked.the-variants.{Accepted, Refused}
@@ -38,9 +39,9 @@ said-some none d z h = absurd (h z)
 said-some (some a) d z h = refl
 
 -- numbers from 1 on are not 0
-says-some : (low high : ℕ) → 1 ≤ low → (o : Option Answer) → Says (λ (n : ℕ). (low ≤ n) × (n ≤ high)) o → Says (λ (n : ℕ). n ≡ 0 → ⊥) o
-says-some low high one none h = tt
-says-some low high one (some a) h = λ e. omega arith
+says-some : (low : ℕ) (P : ℕ → Type 0) → 1 ≤ low → (o : Option Answer) → Says (λ (n : ℕ). (low ≤ n) × P n) o → Says (λ (n : ℕ). n ≡ 0 → ⊥) o
+says-some low P one none h = tt
+says-some low P one (some a) h = λ e. omega (arith, h .0)
 
 -- ── a check ──
 
@@ -57,7 +58,7 @@ module _ (b : List ℕ) (places work : ℕ) where
   pub answer-accepted : {x : Answer} → x ≡ gate b places work .answer → x .number ≡ 0 → (refusal b places work ≡ none) × (x ≡ accepted (count (tableOf b)))
   answer-accepted e z =
       let s = said-none (refusal b places work) (accepted (count (tableOf b)))
-      (says-some 1 15 (omega arith) (refusal b places work) (refusal-number b places work))
+      (says-some 1 (λ (n : ℕ). n ≤ 15) (omega arith) (refusal b places work) (refusal-number b places work))
       (ap (λ (a : Answer). a .number) (sym (e ∙ gate-said)) ∙ z) in
       (s .0, e ∙ gate-said ∙ s .1)
 
@@ -94,7 +95,8 @@ module _ (a b : List ℕ) (places work : ℕ) (out : List ℕ) where
       → (joinRefusal a b places work (length out) ≡ none) × (n ≡ length (joinedBytes a b))
   unfolding joinedAsPaper
   joined-whole e =
-      let s = said-none refused (value (length (joinedBytes a b))) (says-some 16 20 (omega arith) refused (joinRefusal-number a b places work (length out)))
+      let s = said-none refused (value (length (joinedBytes a b)))
+      (says-some 16 (λ (n : ℕ). (n ≤ 20) ⊎ (n ≡ 24)) (omega arith) refused (joinRefusal-number a b places work (length out)))
       (ap (λ (x : Answer). x .number) (sym (e ∙ join-said))) in
       (s .0, ap (λ (x : Answer). x .p) (e ∙ join-said ∙ s .1))
 

@@ -1,8 +1,10 @@
 -- Which numbers are said: of a phase, of a check, of a join. Once, over any property of numbers that those of the phase have.
 -- Assumes nothing.
 use Prim.Native.Nat.{ℕ, zero, suc, _≤_}
+use mathlib.Core.Path.{_≡_, refl}
 use mathlib.Core.Bool.{Bool, true, false, cond}
 use mathlib.Core.List.{List, [], _∷_}
+use mathlib.Core.Logic.{_⊎_, inl, inr}
 use mathlib.Core.Option.{Option, none, some}
 use native.Mathlib.Omega.{arith}
 use lib.Dec.{leb}
@@ -122,7 +124,7 @@ module _ (P : ℕ → Type 0) where
     unfolding phase6
     says-phase6 p15 = says-overTypes phase6 T (λ t. (p15, tt))
 
--- ── a check's reports are 1 to 15, a join's refusals 16 to 20 ──
+-- ── a check's reports are 1 to 15, a join's refusals 16 to 20 and 24 ──
 
 abbrev Gates : ℕ → Type 0
 Gates n = (1 ≤ n) × (n ≤ 15)
@@ -140,11 +142,12 @@ refusal-number b places work =
     (says-phase6 Gates T (omega arith)))))))
 
 abbrev Joins : ℕ → Type 0
-Joins n = (16 ≤ n) × (n ≤ 20)
+Joins n = (16 ≤ n) × ((n ≤ 20) ⊎ (n ≡ 24))
 
-pub joinRefusal-number : (a b : List ℕ) (places work room : ℕ) → Says (λ (n : ℕ). (16 ≤ n) × (n ≤ 20)) (joinRefusal a b places work room)
+pub joinRefusal-number : (a b : List ℕ) (places work room : ℕ) → Says (λ (n : ℕ). (16 ≤ n) × ((n ≤ 20) ⊎ (n ≡ 24))) (joinRefusal a b places work room)
 unfolding joinRefusal limitReport
 joinRefusal-number a b places work room =
-    says-orElse Joins (refusedInside 16 (refusal a places work)) _ (says-inside Joins 16 (omega arith) (refusal a places work))
-    (says-orElse Joins (refusedInside 17 (refusal b places work)) (limitReport a b room) (says-inside Joins 17 (omega arith) (refusal b places work))
-    (says-naming Joins 0 (limitRules a b room) (omega arith, (omega arith, (omega arith, tt)))))
+    says-orElse Joins (refusedInside 16 (refusal a places work)) _ (says-inside Joins 16 (omega arith, inl (omega arith)) (refusal a places work))
+    (says-orElse Joins (refusedInside 17 (refusal b places work)) (limitReport a b room) (says-inside Joins 17 (omega arith, inl (omega arith)) (refusal b places work))
+    (says-naming Joins 0 (limitRules a b room)
+    ((omega arith, inr refl), ((omega arith, inl (omega arith)), ((omega arith, inl (omega arith)), ((omega arith, inl (omega arith)), tt))))))

@@ -24,7 +24,8 @@ use Rattle.paper.specs.rules.Size.{Step, is, manyOf, sizeless, lost, Fou
 use Rattle.paper.specs.rules.Size.{stepIn, sizeFound, exactSize, answerOf, stepAtPlace, stepAt, sizeAsked, sizeAnswer, sizeOf}
 use Rattle.paper.specs.rules.Table.{Record, Table, count, recordAt, kindIn, kindOf, tailLength, wordsOf}
 use Rattle.paper.specs.rules.Walk.{known, bytesOf, placesOf}
-use Rattle.paper.specs.rules.Word.{Order, wordAt}
+use Rattle.paper.specs.rules.Word.{wordAt}
+use Rattle.paper.specs.declared.Order.{Order}
 
 -- ── the same steps, the same size ──
 

@@ -2,7 +2,7 @@
 -- Assumes nothing.
 use Prim.Native.Nat.{ℕ, _+_, _-_}
 use mathlib.Core.Path.{_≡_, refl, sym, ap, ap₂, _∙_}
-use mathlib.Core.Bool.{Bool, true, false, cond, false≢true}
+use mathlib.Core.Bool.{Bool, true, false, cond, _&&_, false≢true}
 use mathlib.Core.List.{List, [], _∷_, _++_, map, map-map, map-append, append-assoc}
 use mathlib.Core.Option.{Option, none, some}
 use native.Mathlib.Omega.{arith}
@@ -12,7 +12,8 @@ use lib.ListN.{length, drop, length-append}
 use lib.Seq.{drop-append-le}
 use Rattle.paper.proofs.gates.Acceptance.{accepted-fits, accepted-good, good-accepted}
 use Rattle.paper.proofs.basics.Choices.{and-left, and-right, and-true}
-use Rattle.paper.proofs.joins.FullJoins.{joined-accepted, first-refused, second-refused}
+use Rattle.paper.proofs.basics.Orders.{sameOrder-true}
+use Rattle.paper.proofs.joins.FullJoins.{joined-accepted, first-refused, second-refused, mixed-refused, joinFull-order}
 use Rattle.paper.proofs.joins.Joining.{count-join, length-strings}
 use Rattle.paper.proofs.joins.JoinFits.{good-join, fits-join}
 use Rattle.paper.proofs.bytes.Places.{flat-append}
@@ -29,7 +30,8 @@ use Rattle.paper.specs.rules.Limits.{typeLimit, byteLimit, fullPlaces}
 use Rattle.paper.specs.rules.Rename.{rename, raise}
 use Rattle.paper.specs.rules.Table.{Record, Table, count, wordsOf}
 use Rattle.paper.specs.rules.Walk.{tableOf, flat, blobLength, bytesOf}
-use Rattle.paper.specs.rules.Word.{Order}
+use Rattle.paper.specs.rules.Word.{sameOrder}
+use Rattle.paper.specs.declared.Order.{Order}
 
 -- ── tables ──
 
@@ -149,7 +151,8 @@ good b p = accepted-good b fullPlaces fullPlaces p
 fits : (b : List ℕ) → Bytes b → Accepted b → Fits (tableOf b)
 fits b bytes p = accepted-fits b fullPlaces fullPlaces p bytes
 
-module _ (a b c : List ℕ) (ba : Bytes a) (bb : Bytes b) (bc : Bytes c) (p : Accepted a) (q : Accepted b) (r : Accepted c) where
+module _ (a b c : List ℕ) (ba : Bytes a) (bb : Bytes b) (bc : Bytes c) (p : Accepted a) (q : Accepted b) (r : Accepted c)
+    (s : orderOf a ≡ orderOf b) (t : orderOf b ≡ orderOf c) where
   module _ (o o′ : List ℕ) (full : length o ≡ byteLimit) (full′ : length o′ ≡ byteLimit) where
     left-grouped : andThen (joinFull o a b) (λ (ab : List ℕ). joinFull o′ ab c)
         ≡ result (orderOf a) (joinTables (joinTables (tableOf a) (tableOf b)) (tableOf c))
@@ -158,9 +161,9 @@ module _ (a b c : List ℕ) (ba : Bytes a) (bb : Bytes b) (bc : Bytes c) (p : Ac
         let J = joinTables (tableOf a) (tableOf b) in
         let g = good-join (tableOf a) (tableOf b) (good a p) (good b q) in
         let f = fits-withinLimits (tableOf a) (tableOf b) (good a p) (good b q) (fits a ba p) (fits b bb q) in
-        ap (λ (x : Option (List ℕ)). andThen x (λ (ab : List ℕ). joinFull o′ ab c)) (joined-accepted o a b full p q)
+        ap (λ (x : Option (List ℕ)). andThen x (λ (ab : List ℕ). joinFull o′ ab c)) (joined-accepted o a b full p q s)
         ∙ grouped (orderOf a) (orderOf a) J (joinTables J (tableOf c)) (λ (ab : List ℕ). joinFull o′ ab c)
-        (λ e. joined-accepted o′ (bytesOf (orderOf a) J) c full′ (withinLimits-accepted (orderOf a) J g f e) r
+        (λ e. joined-accepted o′ (bytesOf (orderOf a) J) c full′ (withinLimits-accepted (orderOf a) J g f e) r (order-bytesOf (orderOf a) J ∙ s ∙ t)
         ∙ ap₂ (λ (o : Order) (T : Table). result o (joinTables T (tableOf c))) (order-bytesOf (orderOf a) J) (withinLimits-table (orderOf a) J g f e))
         (λ e. withinLimits-parts J (tableOf c) (g .closed) (good c r .closed) e .0)
 
@@ -171,19 +174,43 @@ module _ (a b c : List ℕ) (ba : Bytes a) (bb : Bytes b) (bc : Bytes c) (p : Ac
         let J = joinTables (tableOf b) (tableOf c) in
         let g = good-join (tableOf b) (tableOf c) (good b q) (good c r) in
         let f = fits-withinLimits (tableOf b) (tableOf c) (good b q) (good c r) (fits b bb q) (fits c bc r) in
-        ap (λ (x : Option (List ℕ)). andThen x (λ (bc : List ℕ). joinFull o′ a bc)) (joined-accepted o b c full q r)
+        ap (λ (x : Option (List ℕ)). andThen x (λ (bc : List ℕ). joinFull o′ a bc)) (joined-accepted o b c full q r t)
         ∙ grouped (orderOf b) (orderOf a) J (joinTables (tableOf a) J) (λ (bc : List ℕ). joinFull o′ a bc)
-        (λ e. joined-accepted o′ a (bytesOf (orderOf b) J) full′ p (withinLimits-accepted (orderOf b) J g f e)
+        (λ e. joined-accepted o′ a (bytesOf (orderOf b) J) full′ p (withinLimits-accepted (orderOf b) J g f e) (s ∙ sym (order-bytesOf (orderOf b) J))
         ∙ ap (λ (T : Table). result (orderOf a) (joinTables (tableOf a) T)) (withinLimits-table (orderOf b) J g f e))
         (λ e. withinLimits-parts (tableOf a) J (good a p .closed) (g .closed) e .1)
 
 -- nothing is handed on where the next join refuses whatever it is given
-andThen-none : (o : Option (List ℕ)) (next : List ℕ → Option (List ℕ)) → ((b : List ℕ) → next b ≡ none) → andThen o next ≡ none
+andThen-none : (o : Option (List ℕ)) (next : List ℕ → Option (List ℕ)) → ((b : List ℕ) → o ≡ some b → next b ≡ none) → andThen o next ≡ none
 andThen-none none next h = refl
-andThen-none (some b) next h = h b
+andThen-none (some b) next h = h b refl
 
 -- Demand 3, grouping: three tables joined in either grouping, with slices of full size, give the same bytes, or both groupings refuse.
 module _ (o₁ o₂ o₃ o₄ : List ℕ) (f₁ : length o₁ ≡ byteLimit) (f₂ : length o₂ ≡ byteLimit) (f₃ : length o₃ ≡ byteLimit) (f₄ : length o₄ ≡ byteLimit) where
+  -- tables of two orders are refused in either grouping, whatever they are
+  pub mixed-grouped : (a b c : List ℕ) → sameOrder (orderOf a) (orderOf b) && sameOrder (orderOf b) (orderOf c) ≡ false
+      → (andThen (joinFull o₁ a b) (λ (ab : List ℕ). joinFull o₂ ab c) ≡ none) × (andThen (joinFull o₃ b c) (λ (bc : List ℕ). joinFull o₄ a bc) ≡ none)
+  mixed-grouped a b c e = go (sameOrder (orderOf a) (orderOf b)) refl e
+    where
+      left : Option (List ℕ)
+      left = andThen (joinFull o₁ a b) (λ (ab : List ℕ). joinFull o₂ ab c)
+
+      right : Option (List ℕ)
+      right = andThen (joinFull o₃ b c) (λ (bc : List ℕ). joinFull o₄ a bc)
+
+      go : (s : Bool) → sameOrder (orderOf a) (orderOf b) ≡ s → s && sameOrder (orderOf b) (orderOf c) ≡ false → (left ≡ none) × (right ≡ none)
+      go false s t = (
+        ap (λ (o : Option (List ℕ)). andThen o (λ (ab : List ℕ). joinFull o₂ ab c)) (mixed-refused o₁ a b f₁ s),
+        andThen-none (joinFull o₃ b c) (λ (bc : List ℕ). joinFull o₄ a bc)
+            (λ bc x. mixed-refused o₄ a bc f₄ (ap (sameOrder (orderOf a)) (joinFull-order o₃ b c f₃ bc x) ∙ s)),
+      )
+      go true s t = (
+        andThen-none (joinFull o₁ a b) (λ (ab : List ℕ). joinFull o₂ ab c)
+            (λ ab x. mixed-refused o₂ ab c f₂
+            (ap (λ (o : Order). sameOrder o (orderOf c)) (joinFull-order o₁ a b f₁ ab x ∙ sameOrder-true (orderOf a) (orderOf b) s) ∙ t)),
+        ap (λ (o : Option (List ℕ)). andThen o (λ (bc : List ℕ). joinFull o₄ a bc)) (mixed-refused o₃ b c f₃ t),
+      )
+
   pub join-assoc : (a b c : List ℕ) → Bytes a → Bytes b → Bytes c
       → andThen (joinFull o₁ a b) (λ (ab : List ℕ). joinFull o₂ ab c) ≡ andThen (joinFull o₃ b c) (λ (bc : List ℕ). joinFull o₄ a bc)
   join-assoc a b c ba bb bc = go (refusal a fullPlaces fullPlaces) refl (refusal b fullPlaces fullPlaces) refl (refusal c fullPlaces fullPlaces) refl
@@ -194,18 +221,24 @@ module _ (o₁ o₂ o₃ o₄ : List ℕ) (f₁ : length o₁ ≡ byteLimit) (f�
       right : Option (List ℕ)
       right = andThen (joinFull o₃ b c) (λ (bc : List ℕ). joinFull o₄ a bc)
 
+      accepted : Accepted a → Accepted b → Accepted c → (s : Bool) → sameOrder (orderOf a) (orderOf b) && sameOrder (orderOf b) (orderOf c) ≡ s → left ≡ right
+      accepted p q r false e = let mixed = mixed-grouped a b c e in mixed .0 ∙ sym (mixed .1)
+      accepted p q r true e =
+          let s = sameOrder-true (orderOf a) (orderOf b) (and-left (sameOrder (orderOf a) (orderOf b)) _ e) in
+          let t = sameOrder-true (orderOf b) (orderOf c) (and-right (sameOrder (orderOf a) (orderOf b)) _ e) in
+          left-grouped a b c ba bb bc p q r s t o₁ o₂ f₁ f₂
+          ∙ ap (result (orderOf a)) (joinTables-assoc (tableOf a) (tableOf b) (tableOf c) (good a p .closed) (good b q .closed))
+          ∙ sym (right-grouped a b c ba bb bc p q r s t o₃ o₄ f₃ f₄)
+
       go : (x : Option Answer) → refusal a fullPlaces fullPlaces ≡ x → (y : Option Answer) → refusal b fullPlaces fullPlaces ≡ y
           → (z : Option Answer) → refusal c fullPlaces fullPlaces ≡ z → left ≡ right
-      go none p none q none r =
-          left-grouped a b c ba bb bc p q r o₁ o₂ f₁ f₂
-          ∙ ap (result (orderOf a)) (joinTables-assoc (tableOf a) (tableOf b) (tableOf c) (good a p .closed) (good b q .closed))
-          ∙ sym (right-grouped a b c ba bb bc p q r o₃ o₄ f₃ f₄)
+      go none p none q none r = accepted p q r (sameOrder (orderOf a) (orderOf b) && sameOrder (orderOf b) (orderOf c)) refl
       go (some x) p y q z r =
           ap (λ (o : Option (List ℕ)). andThen o (λ (ab : List ℕ). joinFull o₂ ab c)) (first-refused o₁ a b f₁ p)
-          ∙ sym (andThen-none (joinFull o₃ b c) (λ (bc : List ℕ). joinFull o₄ a bc) (λ bc. first-refused o₄ a bc f₄ p))
+          ∙ sym (andThen-none (joinFull o₃ b c) (λ (bc : List ℕ). joinFull o₄ a bc) (λ bc x. first-refused o₄ a bc f₄ p))
       go none p (some y) q z r =
           ap (λ (o : Option (List ℕ)). andThen o (λ (ab : List ℕ). joinFull o₂ ab c)) (second-refused o₁ a b f₁ q)
           ∙ sym (ap (λ (o : Option (List ℕ)). andThen o (λ (bc : List ℕ). joinFull o₄ a bc)) (first-refused o₃ b c f₃ q))
       go none p none q (some z) r =
-          andThen-none (joinFull o₁ a b) (λ (ab : List ℕ). joinFull o₂ ab c) (λ ab. second-refused o₂ ab c f₂ r)
+          andThen-none (joinFull o₁ a b) (λ (ab : List ℕ). joinFull o₂ ab c) (λ ab x. second-refused o₂ ab c f₂ r)
           ∙ sym (ap (λ (o : Option (List ℕ)). andThen o (λ (bc : List ℕ). joinFull o₄ a bc)) (second-refused o₃ b c f₃ r))

@@ -24,7 +24,8 @@ use Rattle.paper.specs.rules.Limits.{typeLimit, byteLimit, fullPlaces}
 use Rattle.paper.specs.rules.Rename.{rename, raise}
 use Rattle.paper.specs.rules.Table.{Record, Table, count}
 use Rattle.paper.specs.rules.Walk.{tableOf, blobLength, bytesOf}
-use Rattle.paper.specs.rules.Word.{Order, lowFirst}
+use Rattle.paper.specs.declared.Order.{Order}
+use Rattle.paper.specs.declared.Order.the-variants.{LowFirst, HighFirst}
 
 -- ── tables ──
 
@@ -56,11 +57,13 @@ joinTables-empty-right A = λ i. record { records = append-nil (A .records) i; s
 
 pub empty-accepted : (order : Order) → Accepted (emptyBlob order)
 unfolding computes emptyBlob
-empty-accepted lowFirst = refl
+empty-accepted LowFirst = refl
+empty-accepted HighFirst = refl
 
 empty-table : (order : Order) → tableOf (emptyBlob order) ≡ emptyTable
 unfolding computes emptyBlob
-empty-table lowFirst = refl
+empty-table LowFirst = refl
+empty-table HighFirst = refl
 
 -- its words are in its order
 empty-order : (order : Order) → orderOf (emptyBlob order) ≡ order
@@ -84,13 +87,13 @@ module _ (out : List ℕ) (full : length out ≡ byteLimit) (b : List ℕ) (byte
   pub join-empty-left : joinFull out empty b ≡ some b
   unfolding joinedBytes
   join-empty-left =
-      joined-accepted out empty b full (empty-accepted (orderOf b)) p
+      joined-accepted out empty b full (empty-accepted (orderOf b)) p (empty-order (orderOf b))
       ∙ handed-back (orderOf empty) (joinTables (tableOf empty) (tableOf b)) (empty-order (orderOf b))
       (ap (λ (E : Table). joinTables E (tableOf b)) (empty-table (orderOf b)) ∙ joinTables-empty-left (tableOf b) (accepted-closed b fullPlaces fullPlaces p))
 
   pub join-empty-right : joinFull out b empty ≡ some b
   unfolding joinedBytes
   join-empty-right =
-      joined-accepted out b empty full p (empty-accepted (orderOf b))
+      joined-accepted out b empty full p (empty-accepted (orderOf b)) (sym (empty-order (orderOf b)))
       ∙ handed-back (orderOf b) (joinTables (tableOf b) (tableOf empty)) refl
       (ap (joinTables (tableOf b)) (empty-table (orderOf b)) ∙ joinTables-empty-right (tableOf b))

@@ -9,7 +9,7 @@ use Rattle.paper.specs.declared.Checked.the-variants.{Accepted, Refused}
 use Rattle.paper.specs.declared.Sized.{Sized}
 use Rattle.paper.specs.declared.Sized.the-variants.{Exact, NoSize, Overflow, Lost, TooFar}
 use Rattle.paper.specs.declared.Joined.{Joined}
-use Rattle.paper.specs.declared.Joined.the-variants.{Whole, FirstRefused, SecondRefused, TooMany, TooLong, OutputShort}
+use Rattle.paper.specs.declared.Joined.the-variants.{Whole, FirstRefused, SecondRefused, OrdersDiffer, TooMany, TooLong, OutputShort}
 
 -- the paper's number (0 where nothing is refused), the number of the report inside a join's refusal,
 -- the type count or the type that is named, and the exact size, the joined length or the place of the record that is named
@@ -70,6 +70,7 @@ unfoldable pub joinedAsPaper : Joined → Answer
 joinedAsPaper (Whole n) = value n
 joinedAsPaper (FirstRefused r) = inside 16 (reportAsPaper r)
 joinedAsPaper (SecondRefused r) = inside 17 (reportAsPaper r)
+joinedAsPaper OrdersDiffer = report 24 0
 joinedAsPaper TooMany = report 18 0
 joinedAsPaper TooLong = report 19 0
 joinedAsPaper OutputShort = report 20 0

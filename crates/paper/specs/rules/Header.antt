@@ -1,31 +1,38 @@
 -- Phase 1, reports 1 to 5: the header's numbers and the string section, of any bytes.
 use Prim.Native.Nat.{ℕ, _+_, _-_, _%_}
-use mathlib.Core.Bool.{Bool, not, _||_}
+use mathlib.Core.Bool.{Bool, not, cond, _||_}
 use mathlib.Core.List.{List, [], _∷_}
 use mathlib.Core.Option.{Option}
 use lib.Dec.{ltb, eqb}
 use lib.ListN.{length, getD, take, drop}
 use Rattle.paper.specs.rules.Choice.{differ, same, Rule, _when_, firstDue}
 use Rattle.paper.specs.rules.Limits.{byteLimit}
-use Rattle.paper.specs.rules.Word.{Order, lowFirst, wordAt}
+use Rattle.paper.specs.rules.Word.{wordAt}
+use Rattle.paper.specs.declared.Order.{Order}
+use Rattle.paper.specs.declared.Order.the-variants.{LowFirst, HighFirst}
 
 abbrev pub headerLength : ℕ
 headerLength = 24
 
--- the two bytes of the magic, 9F EB
+-- the two bytes of the magic: 9F EB, or EB 9F "all words in that order" (order 4)
 abbrev pub magicFirst : Order → ℕ
-magicFirst lowFirst = 0x9f
+magicFirst LowFirst = 0x9f
+magicFirst HighFirst = 0xeb
 
 abbrev pub magicSecond : Order → ℕ
-magicSecond lowFirst = 0xeb
+magicSecond LowFirst = 0xeb
+magicSecond HighFirst = 0x9f
 
--- magic, version 1, flags 0
+abbrev pub magic : Order → List ℕ
+magic order = magicFirst order ∷ magicSecond order ∷ []
+
+-- magic, version 1, flags 0: "the two bytes after the magic stay 01 00"
 abbrev pub opening : Order → List ℕ
 opening order = magicFirst order ∷ magicSecond order ∷ 1 ∷ 0 ∷ []
 
--- the byte order of a blob's words: low byte first, whatever the blob is
+-- the byte order of a blob's words, whatever the blob is: "big-endian words if the blob begins EB 9F, else little-endian"
 unfoldable pub orderOf : List ℕ → Order
-orderOf b = lowFirst
+orderOf b = cond (same (take 2 b) (magic HighFirst)) HighFirst LowFirst
 
 module _ (b : List ℕ) where
   unfoldable pub typeOff : ℕ
@@ -47,7 +54,7 @@ module _ (b : List ℕ) where
   unfoldable pub lengthBad : Bool
   lengthBad = ltb (length b) headerLength || ltb byteLimit (length b)
 
-  -- 2: "first four bytes are not 9F EB 01 00"
+  -- 2: "first four bytes are not 9F EB 01 00"; "Report 2 now means neither order"
   unfoldable pub openingBad : Bool
   openingBad = not (same (take 4 b) (opening (orderOf b)))
 

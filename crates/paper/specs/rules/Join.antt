@@ -1,5 +1,6 @@
 -- The join: of tables, and of any two blobs, any lent places and any output slice.
 use Prim.Native.Nat.{ℕ, _+_, _-_}
+use mathlib.Core.Bool.{not}
 use mathlib.Core.List.{List, [], _∷_, _++_, map}
 use mathlib.Core.Option.{Option, none, some}
 use lib.Dec.{ltb}
@@ -12,6 +13,7 @@ use Rattle.paper.specs.rules.Limits.{typeLimit, byteLimit}
 use Rattle.paper.specs.rules.Rename.{rename, raise}
 use Rattle.paper.specs.rules.Table.{Record, Table, count}
 use Rattle.paper.specs.rules.Walk.{tableOf, bytesOf}
+use Rattle.paper.specs.rules.Word.{sameOrder}
 
 -- a record of a second table "as demand 3 raises" it: type numbers by the first's count, name offsets by its string length less one
 abbrev pub raised : Table → Record → Record
@@ -32,10 +34,12 @@ refusedInside number (some a) = some (inside number a)
 unfoldable pub joinedBytes : List ℕ → List ℕ → List ℕ
 joinedBytes a b = bytesOf (orderOf a) (joinTables (tableOf a) (tableOf b))
 
+-- what two accepted tables are still refused for: 24, "joining two orders", "after 17 and before 18";
 -- 18, 19, 20: types together over the limit; "joined length over" the limit; "output shorter than that length; in that order"
 abbrev pub limitRules : List ℕ → List ℕ → ℕ → List Rule
 limitRules a b room =
-    18 when ltb typeLimit (count (tableOf a) + count (tableOf b))
+    24 when not (sameOrder (orderOf a) (orderOf b))
+    ∷ 18 when ltb typeLimit (count (tableOf a) + count (tableOf b))
     ∷ 19 when ltb byteLimit (length (joinedBytes a b))
     ∷ 20 when ltb room (length (joinedBytes a b))
     ∷ []

@@ -8,7 +8,8 @@ use Rattle.paper.specs.rules.Header.{headerLength, opening, orderOf, typ
 use Rattle.paper.specs.rules.KindNo.{INT, ENUM64}
 use Rattle.paper.specs.rules.Limits.{typeLimit}
 use Rattle.paper.specs.rules.Table.{Record, Table, kindIn, tailLength, wordsOf}
-use Rattle.paper.specs.rules.Word.{Order, words, bytesOfWords}
+use Rattle.paper.specs.rules.Word.{words, bytesOfWords}
+use Rattle.paper.specs.declared.Order.{Order}
 
 -- what a walk of the type section finds: its records, or a report's number, the record that it names and that record's place
 pub data Walked : Type 0 where

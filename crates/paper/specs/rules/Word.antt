@@ -1,13 +1,18 @@
 -- Words of 32 bits and their four bytes, in a byte order. The order is a parameter of all that reads or writes words;
 -- which orders there are, and what each byte counts for in one, stands here and nowhere else.
 use Prim.Native.Nat.{ℕ, _+_, _*_, _/_, _%_}
-use mathlib.Core.Bool.{cond}
+use mathlib.Core.Bool.{Bool, true, false, cond}
 use mathlib.Core.List.{List, [], _∷_, _++_}
 use lib.Dec.{leb}
 use lib.ListN.{length, take, drop}
+use Rattle.paper.specs.declared.Order.{Order}
+use Rattle.paper.specs.declared.Order.the-variants.{LowFirst, HighFirst}
 
-pub data Order : Type 0 where
-  lowFirst : Order
+abbrev pub sameOrder : Order → Order → Bool
+sameOrder LowFirst LowFirst = true
+sameOrder LowFirst HighFirst = false
+sameOrder HighFirst LowFirst = false
+sameOrder HighFirst HighFirst = true
 
 -- what the first, second, third and fourth byte of a word count for
 pub record Weights : Type 0 where
@@ -17,7 +22,8 @@ pub record Weights : Type 0 where
   pub fourth : ℕ
 
 abbrev pub weights : Order → Weights
-weights lowFirst = record { first = 1; second = 256; third = 65536; fourth = 16777216 }
+weights LowFirst = record { first = 1; second = 256; third = 65536; fourth = 16777216 }
+weights HighFirst = record { first = 16777216; second = 65536; third = 256; fourth = 1 }
 
 module _ (order : Order) where
   -- the word of four bytes: the sum of each byte times its weight

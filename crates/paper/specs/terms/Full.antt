@@ -9,7 +9,7 @@ use Rattle.paper.specs.rules.Join.{JoinOutcome, join}
 use Rattle.paper.specs.rules.Limits.{typeLimit, byteLimit, fullPlaces}
 use Rattle.paper.specs.rules.Table.{Table, count}
 use Rattle.paper.specs.rules.Walk.{blobLength, bytesOf}
-use Rattle.paper.specs.rules.Word.{Order}
+use Rattle.paper.specs.declared.Order.{Order}
 
 abbrev pub handed : JoinOutcome → Option (List ℕ)
 handed j = cond (eqb (j .answer .number) 0) (some (take (j .answer .p) (j .output))) none

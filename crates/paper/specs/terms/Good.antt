@@ -71,10 +71,11 @@ pub record Meets (b : List ℕ) (places work : ℕ) : Type 0 where
   pub readable : Readable b places work
   pub sound : Sound (tableOf b)
 
--- "Two accepted tables are joined unless limits or lent slices forbid": of two blobs, the places lent and the room for the output
+-- "Two accepted tables" of one order "are joined unless limits or lent slices forbid": of two blobs, the places lent and the room for the output
 pub record Joinable (a b : List ℕ) (places work room : ℕ) : Type 0 where
   pub first : refusal a places work ≡ none
   pub second : refusal b places work ≡ none
+  pub one-order : orderOf a ≡ orderOf b
   pub few : count (tableOf a) + count (tableOf b) ≤ typeLimit
   pub short : length (joinedBytes a b) ≤ byteLimit
   pub fits : length (joinedBytes a b) ≤ room

@@ -6,7 +6,8 @@ use lib.ListN.{length}
 use Rattle.paper.specs.rules.Choice.{times}
 use Rattle.paper.specs.rules.Kind.{Role, rowOf}
 use Rattle.paper.specs.rules.Table.{Record, kindIn, vlenIn, tailLength, everyRoled}
-use Rattle.paper.specs.rules.Word.{Order, wordAt}
+use Rattle.paper.specs.rules.Word.{wordAt}
+use Rattle.paper.specs.declared.Order.{Order}
 
 module _ (order : Order) where
   -- so many words from a place on

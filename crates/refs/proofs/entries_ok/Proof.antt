@@ -8,7 +8,6 @@ use Rattle.rows.proofs.RoleCodes.{each-few}
 use Rattle.paper.specs.rules.References.{refWordOk}
 use Rattle.views.specs.Shown.{tableBy}
 use Rattle.paper.specs.terms.Reading.{roled}
-use Rattle.paper.specs.rules.Word.{lowFirst}
 use Rattle.rows.proofs.ByRole.{three-codes, Entering, entering-done, entering-bad, entering-next}
 use borrow.Author.Needs.{needs}
 use Rattle.refs.proofs.entries_ok.Statement.{statement}
@@ -16,7 +15,7 @@ use Rattle.refs.proofs.entries_ok.Tie as tie
 
 abbrev Inv-loop : tie.InvT-loop
 Inv-loop base b index view bytes kind v step r0 r1 r2 p₀ left₀ p left =
-    Entering lowFirst (refWordOk (tableBy base b index view)) bytes (rowOf kind .each) p₀ v p left
+    Entering (view .order) (refWordOk (tableBy base b index view)) bytes (rowOf kind .each) p₀ v p left
 
 abbrev μ-loop : tie.MeasureT-loop
 μ-loop base b index view bytes kind v step r0 r1 r2 p₀ left₀ p left = left
@@ -25,13 +24,13 @@ abbrev μ-loop : tie.MeasureT-loop
 here : (c : tie.After-three-ok Inv-loop μ-loop) → let l = c .before .before in
     let a = l .before .before .before .before .before .before .before .before .before .args in
     c .three-ok .result
-    ≡ roled lowFirst (refWordOk (tableBy (now (a .base)) (now (a .b)) (now (a .index)) (a .view))) (now (a .bytes)) (l .loop .p) (rowOf (a .kind) .each)
+    ≡ roled (a .view .order) (refWordOk (tableBy (now (a .base)) (now (a .b)) (now (a .index)) (a .view))) (now (a .bytes)) (l .loop .p) (rowOf (a .kind) .each)
 here c =
     let l = c .before .before in
     let r = l .before in
     let a = r .before .before .before .before .before .before .before .before .args in
     c .three-ok .ensures
-    ∙ three-codes lowFirst (refWordOk (tableBy (now (a .base)) (now (a .b)) (now (a .index)) (a .view))) (now (a .bytes)) (λ w. refl) (l .loop .p)
+    ∙ three-codes (a .view .order) (refWordOk (tableBy (now (a .base)) (now (a .b)) (now (a .index)) (a .view))) (now (a .bytes)) (λ w. refl) (l .loop .p)
     (rowOf (a .kind) .each) (each-few (a .kind))
     (r .before .before .entry-role .ensures) (r .before .entry-role2 .ensures) (r .entry-role3 .ensures)
 

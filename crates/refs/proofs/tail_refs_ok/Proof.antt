@@ -8,7 +8,6 @@ use Rattle.rows.proofs.RoleCodes.{once-few}
 use Rattle.paper.specs.rules.References.{refWordOk}
 use Rattle.views.specs.Shown.{tableBy}
 use Rattle.paper.specs.terms.Reading.{roled}
-use Rattle.paper.specs.rules.Word.{lowFirst}
 use Rattle.rows.proofs.ByRole.{three-codes, tail-numbers, tail-once, tail-entries}
 use borrow.Author.Needs.{needs}
 use Rattle.refs.proofs.tail_refs_ok.Statement.{statement}
@@ -17,12 +16,12 @@ use Rattle.refs.proofs.tail_refs_ok.Tie as tie
 -- the three words behind the head are those that stand once
 once : (c : tie.After-three-ok) → let k = c .before .before .before .before .before .before in let a = k .before .before .before .before .before .args in
     c .three-ok .result
-    ≡ roled lowFirst (refWordOk (tableBy (now (a .base)) (now (a .b)) (now (a .index)) (a .view))) (now (a .bytes)) 12 (rowOf (k .kind-of .result) .once)
+    ≡ roled (a .view .order) (refWordOk (tableBy (now (a .base)) (now (a .b)) (now (a .index)) (a .view))) (now (a .bytes)) 12 (rowOf (k .kind-of .result) .once)
 once c =
     let k = c .before .before .before .before .before .before in
     let a = k .before .before .before .before .before .args in
     c .three-ok .ensures
-    ∙ three-codes lowFirst (refWordOk (tableBy (now (a .base)) (now (a .b)) (now (a .index)) (a .view))) (now (a .bytes)) (λ w. refl) 12
+    ∙ three-codes (a .view .order) (refWordOk (tableBy (now (a .base)) (now (a .b)) (now (a .index)) (a .view))) (now (a .bytes)) (λ w. refl) 12
     (rowOf (k .kind-of .result) .once) (once-few (k .kind-of .result))
     (c .before .before .before .once-role .ensures) (c .before .before .once-role2 .ensures) (c .before .once-role3 .ensures)
 
@@ -36,7 +35,7 @@ returns : tie.Need-returns
 returns c =
     let k = c .before .before in
     let a = k .before .before .before .before .before .args in
-    tail-numbers lowFirst (refWordOk (tableBy (now (a .base)) (now (a .b)) (now (a .index)) (a .view))) (now (a .bytes)) (λ w. refl) (a .info)
+    tail-numbers (a .view .order) (refWordOk (tableBy (now (a .base)) (now (a .b)) (now (a .index)) (a .view))) (now (a .bytes)) (λ w. refl) (a .info)
     (k .kind-of .ensures) (c .before .only-numbers .ensures) (c .if1 .taken)
 
 once-role-requires : tie.Need-once-role-requires
@@ -55,7 +54,7 @@ returns-2 : tie.Need-returns-2
 returns-2 c =
     let k = c .before .before .before .before .before .before .before in
     let a = k .before .before .before .before .before .args in
-    tail-once lowFirst (refWordOk (tableBy (now (a .base)) (now (a .b)) (now (a .index)) (a .view))) (now (a .bytes)) (a .info) (k .kind-of .ensures)
+    tail-once (a .view .order) (refWordOk (tableBy (now (a .base)) (now (a .b)) (now (a .index)) (a .view))) (now (a .bytes)) (a .info) (k .kind-of .ensures)
     (once (c .before)) (c .if2 .taken)
 
 once-words-requires : tie.Need-once-words-requires
@@ -82,7 +81,7 @@ returns-3 c =
     let e = o .before in
     let k = e .before .before .before .before .before .before .before in
     let a = k .before .before .before .before .before .args in
-    tail-entries lowFirst (refWordOk (tableBy (now (a .base)) (now (a .b)) (now (a .index)) (a .view))) (now (a .bytes)) (a .info) (k .kind-of .ensures)
+    tail-entries (a .view .order) (refWordOk (tableBy (now (a .base)) (now (a .b)) (now (a .index)) (a .view))) (now (a .bytes)) (a .info) (k .kind-of .ensures)
     (once (e .before)) (e .if2 .left)
     (o .once-words .ensures) (c .before .vlen-of .ensures) (c .entries-ok .ensures)
 

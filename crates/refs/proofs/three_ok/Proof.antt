@@ -3,7 +3,6 @@
 use denote.Ref.{now}
 use Rattle.paper.specs.rules.References.{refWordOk}
 use Rattle.views.specs.Shown.{tableBy}
-use Rattle.paper.specs.rules.Word.{lowFirst}
 use Rattle.kindrows.specs.Codes.{roleOf}
 use Rattle.rows.proofs.ByRole.{three-first, three-second, three-third}
 use borrow.Author.Needs.{needs}
@@ -17,7 +16,7 @@ returns : tie.Need-returns
 returns c =
     let w = c .before in
     let a = w .before .before .before .before .before .args in
-    three-first lowFirst (refWordOk (tableBy (now (a .base)) (now (a .b)) (now (a .index)) (a .view))) (now (a .bytes)) (a .at .0) (roleOf (a .r0))
+    three-first (a .view .order) (refWordOk (tableBy (now (a .base)) (now (a .b)) (now (a .index)) (a .view))) (now (a .bytes)) (a .at .0) (roleOf (a .r0))
     (roleOf (a .r1)) (roleOf (a .r2)) (w .word-ok .ensures) (c .if1 .taken)
 
 add-second : tie.Need-add-second
@@ -31,7 +30,7 @@ returns-2 c =
     let e = c .before .before in
     let w = e .before in
     let a = w .before .before .before .before .before .args in
-    three-second lowFirst (refWordOk (tableBy (now (a .base)) (now (a .b)) (now (a .index)) (a .view))) (now (a .bytes)) (a .at .0) (roleOf (a .r0))
+    three-second (a .view .order) (refWordOk (tableBy (now (a .base)) (now (a .b)) (now (a .index)) (a .view))) (now (a .bytes)) (a .at .0) (roleOf (a .r0))
     (roleOf (a .r1)) (roleOf (a .r2)) (w .word-ok .ensures) (e .if1 .left)
     (c .before .word-ok2 .ensures) (c .if2 .taken)
 
@@ -46,7 +45,7 @@ returns-3 c =
     let e = c .before .before .before in
     let w = e .before in
     let a = w .before .before .before .before .before .args in
-    three-third lowFirst (refWordOk (tableBy (now (a .base)) (now (a .b)) (now (a .index)) (a .view))) (now (a .bytes)) (a .at .0) (roleOf (a .r0))
+    three-third (a .view .order) (refWordOk (tableBy (now (a .base)) (now (a .b)) (now (a .index)) (a .view))) (now (a .bytes)) (a .at .0) (roleOf (a .r0))
     (roleOf (a .r1)) (roleOf (a .r2)) (w .word-ok .ensures) (e .if1 .left)
     (c .before .before .word-ok2 .ensures) (c .before .if2 .left) (c .word-ok3 .ensures)
 

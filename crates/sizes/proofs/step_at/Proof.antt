@@ -30,6 +30,9 @@ add-if3 c = omega (arith, (c .before .shared-slice-known3 .given (c .before .bef
 returns-3 : tie.Need-returns-3
 returns-3 c = stepAt-cut _ _ _ (c .before .before .before .if1 .left) (c .before .if2 .left) (c .if3 .taken)
 
+order-of-requires : tie.Need-order-of-requires
+order-of-requires c κs = search needs
+
 sub-step-of : tie.Need-sub-step-of
 sub-step-of c = search needs
 
@@ -44,8 +47,8 @@ step-of-requires c κs = search needs
 
 returns-4 : tie.Need-returns-4
 returns-4 c =
-    stepAt-part _ _ _ (c .before .before .before .before .before .if1 .left) (c .before .before .before .if2 .left)
-    (c .before .before .if3 .left) (c .step-of .ensures)
+    stepAt-part _ _ _ (c .before .before .before .before .before .before .if1 .left) (c .before .before .before .before .if2 .left)
+    (c .before .before .before .if3 .left) _ (c .before .before .order-of .ensures) (c .step-of .ensures)
 
 pub step-at-spec : {M : Type 1} → statement M
 step-at-spec =
@@ -59,6 +62,7 @@ step-at-spec =
     returns-2
     add-if3
     returns-3
+    order-of-requires
     sub-step-of
     part-step-of-start
     part-step-of-end

@@ -16,7 +16,7 @@ unreadable-requires c κs = search needs
 
 returns : tie.Need-returns
 returns c =
-    stepOf-unreadable _ (c .before .before .before .read .ensures) (c .before .before .kind-of .ensures) (c .before .unreadable .ensures) (c .if1 .taken)
+    stepOf-unreadable _ _ (c .before .before .before .read .ensures) (c .before .before .kind-of .ensures) (c .before .unreadable .ensures) (c .if1 .taken)
 
 step-words-requires : tie.Need-step-words-requires
 step-words-requires c κs = search needs
@@ -24,7 +24,7 @@ step-words-requires c κs = search needs
 returns-2 : tie.Need-returns-2
 returns-2 c =
     let d = c .before in
-    stepOf-readable _ (d .before .before .before .read .ensures) (d .before .before .kind-of .ensures) (d .before .unreadable .ensures) (d .if1 .left)
+    stepOf-readable _ _ (d .before .before .before .read .ensures) (d .before .before .kind-of .ensures) (d .before .unreadable .ensures) (d .if1 .left)
     (c .step-words .ensures)
 
 pub step-of-spec : {M : Type 1} → statement M

@@ -21,7 +21,7 @@ step-by-requires c κs = search needs
 returns : tie.Need-returns
 returns c =
     let k = c .before .before in
-    stepWords-read _ (k .before .read .ensures) (k .kind-of .ensures) refl refl refl (c .before .size-rule .ensures) (c .step-by .ensures)
+    stepWords-read _ _ (k .before .read .ensures) (k .kind-of .ensures) refl refl refl (c .before .size-rule .ensures) (c .step-by .ensures)
 
 pub step-words-spec : {M : Type 1} → statement M
 step-words-spec = tie.close (tie.spec read-requires kind-of-requires size-rule-requires step-by-requires returns)

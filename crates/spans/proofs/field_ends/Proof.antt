@@ -3,7 +3,6 @@
 use mathlib.Core.Path.{refl}
 use denote.Ref.{now}
 use Rattle.paper.specs.terms.Reading.{recordIn}
-use Rattle.paper.specs.rules.Word.{lowFirst}
 use Rattle.rows.proofs.RecordWords.{kind-read}
 use Rattle.spans.proofs.SpanTests.{field-irregular, field-whole, field-kind, field-wide, field-on}
 use borrow.Author.Needs.{needs}
@@ -17,7 +16,7 @@ returns : tie.Need-returns
 returns c =
     let g = c .before in
     let a = g .before .before .args in
-    field-irregular (recordIn lowFirst (now (a .bytes))) (a .offset) (a .size) (a .end) (g .regular-or-other .ensures) (c .if1 .taken)
+    field-irregular (recordIn (a .order) (now (a .bytes))) (a .offset) (a .size) (a .end) (g .regular-or-other .ensures) (c .if1 .taken)
 
 whole-ends-requires : tie.Need-whole-ends-requires
 whole-ends-requires c κs = search needs
@@ -27,7 +26,7 @@ returns-2 c =
     let e = c .before .before in
     let g = e .before in
     let a = g .before .before .args in
-    field-whole (recordIn lowFirst (now (a .bytes))) (a .offset) (a .size) (a .end) (g .regular-or-other .ensures) (e .if1 .left)
+    field-whole (recordIn (a .order) (now (a .bytes))) (a .offset) (a .size) (a .end) (g .regular-or-other .ensures) (e .if1 .left)
     (c .before .if2 .taken) (c .whole-ends .ensures)
 
 read-requires : tie.Need-read-requires
@@ -47,8 +46,8 @@ returns-3 c =
     let e = z .before in
     let g = e .before in
     let a = g .before .before .args in
-    field-kind (recordIn lowFirst (now (a .bytes))) (a .offset) (a .size) (a .end) (g .regular-or-other .ensures) (e .if1 .left) (z .if2 .left)
-    (kind-read _ refl (k .before .read .ensures) (k .kind-of .ensures)) (f .takes-field .ensures) (c .if3 .taken)
+    field-kind (recordIn (a .order) (now (a .bytes))) (a .offset) (a .size) (a .end) (g .regular-or-other .ensures) (e .if1 .left) (z .if2 .left)
+    (kind-read _ _ refl (k .before .read .ensures) (k .kind-of .ensures)) (f .takes-field .ensures) (c .if3 .taken)
 
 mul-if4 : tie.Need-mul-if4
 mul-if4 c = search needs
@@ -65,8 +64,8 @@ returns-4 c =
     let e = z .before in
     let g = e .before in
     let a = g .before .before .args in
-    field-wide (recordIn lowFirst (now (a .bytes))) (a .offset) (a .size) (a .end) (g .regular-or-other .ensures) (e .if1 .left) (z .if2 .left)
-    (kind-read _ refl (k .before .read .ensures) (k .kind-of .ensures)) (f .takes-field .ensures) (h .if3 .left) (c .if4 .taken)
+    field-wide (recordIn (a .order) (now (a .bytes))) (a .offset) (a .size) (a .end) (g .regular-or-other .ensures) (e .if1 .left) (z .if2 .left)
+    (kind-read _ _ refl (k .before .read .ensures) (k .kind-of .ensures)) (f .takes-field .ensures) (h .if3 .left) (c .if4 .taken)
 
 cast-result : tie.Need-cast-result
 cast-result c = search needs
@@ -86,8 +85,8 @@ returns-5 c =
     let e = z .before in
     let g = e .before in
     let a = g .before .before .args in
-    field-on (recordIn lowFirst (now (a .bytes))) (a .offset) (a .size) (a .end) (g .regular-or-other .ensures) (e .if1 .left) (z .if2 .left)
-    (kind-read _ refl (k .before .read .ensures) (k .kind-of .ensures)) (f .takes-field .ensures) (h .if3 .left) (c .if4 .left)
+    field-on (recordIn (a .order) (now (a .bytes))) (a .offset) (a .size) (a .end) (g .regular-or-other .ensures) (e .if1 .left) (z .if2 .left)
+    (kind-read _ _ refl (k .before .read .ensures) (k .kind-of .ensures)) (f .takes-field .ensures) (h .if3 .left) (c .if4 .left)
 
 pub field-ends-spec : {M : Type 1} → statement M
 field-ends-spec =

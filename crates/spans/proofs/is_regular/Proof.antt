@@ -3,7 +3,6 @@
 use mathlib.Core.Path.{refl, sym, _∙_}
 use denote.Ref.{now}
 use Rattle.paper.specs.terms.Reading.{recordIn}
-use Rattle.paper.specs.rules.Word.{lowFirst}
 use Rattle.rows.proofs.RecordWords.{kind-read, int-read}
 use Rattle.spans.proofs.SpanTests.{regular-other, regular-int}
 use borrow.Author.Needs.{needs}
@@ -19,8 +18,9 @@ kind-of-requires c κs = search needs
 returns : tie.Need-returns
 returns c =
     let k = c .before in
-    let s = now (k .before .before .before .args .s) in
-    regular-other (recordIn lowFirst s) (kind-read _ refl (k .before .read .ensures) (k .kind-of .ensures)) (c .if1 .taken)
+    let a = k .before .before .before .args in
+    let s = now (a .s) in
+    regular-other (recordIn (a .order) s) (kind-read _ _ refl (k .before .read .ensures) (k .kind-of .ensures)) (c .if1 .taken)
 
 read-requires-2 : tie.Need-read-requires-2
 read-requires-2 c κs = search needs
@@ -32,9 +32,10 @@ returns-2 : tie.Need-returns-2
 returns-2 c =
     let e = c .before .before in
     let k = e .before in
-    let s = now (k .before .before .before .args .s) in
-    let kind = kind-read s refl (k .before .read .ensures) (k .kind-of .ensures) in
-    regular-int (recordIn lowFirst s) kind (e .if1 .left) (int-read s (sym kind ∙ e .if1 .left) (c .before .read2 .ensures)) (c .regular-word .ensures)
+    let a = k .before .before .before .args in
+    let s = now (a .s) in
+    let kind = kind-read _ s refl (k .before .read .ensures) (k .kind-of .ensures) in
+    regular-int (recordIn (a .order) s) kind (e .if1 .left) (int-read _ s (sym kind ∙ e .if1 .left) (c .before .read2 .ensures)) (c .regular-word .ensures)
 
 pub is-regular-spec : {M : Type 1} → statement M
 is-regular-spec =

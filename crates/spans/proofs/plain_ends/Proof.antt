@@ -3,7 +3,6 @@
 use mathlib.Core.Path.{refl, sym, _∙_}
 use denote.Ref.{now}
 use Rattle.paper.specs.terms.Reading.{recordIn}
-use Rattle.paper.specs.rules.Word.{lowFirst}
 use Rattle.rows.proofs.RecordWords.{kind-read, int-read}
 use Rattle.spans.proofs.SpanTests.{plain-other, plain-int}
 use borrow.Author.Needs.{needs}
@@ -23,7 +22,7 @@ returns : tie.Need-returns
 returns c =
     let k = c .before .before in
     let a = k .before .before .before .args in
-    plain-other (recordIn lowFirst (now (a .bytes))) (kind-read _ refl (k .before .read .ensures) (k .kind-of .ensures)) (a .offset) (a .size) (a .end)
+    plain-other (recordIn (a .order) (now (a .bytes))) (kind-read _ _ refl (k .before .read .ensures) (k .kind-of .ensures)) (a .offset) (a .size) (a .end)
     (c .before .if1 .taken) (c .whole-ends .ensures)
 
 read-requires-2 : tie.Need-read-requires-2
@@ -46,9 +45,9 @@ returns-2 c =
     let e = c .before in
     let k = e .before in
     let a = k .before .before .before .args in
-    let kind = kind-read (now (a .bytes)) refl (k .before .read .ensures) (k .kind-of .ensures) in
-    plain-int (recordIn lowFirst (now (a .bytes))) kind (a .offset) (a .size) (a .end) (e .if1 .left)
-    (int-read (now (a .bytes)) (sym kind ∙ e .if1 .left) (c .read2 .ensures))
+    let kind = kind-read _ (now (a .bytes)) refl (k .before .read .ensures) (k .kind-of .ensures) in
+    plain-int (recordIn (a .order) (now (a .bytes))) kind (a .offset) (a .size) (a .end) (e .if1 .left)
+    (int-read _ (now (a .bytes)) (sym kind ∙ e .if1 .left) (c .read2 .ensures))
 
 pub plain-ends-spec : {M : Type 1} → statement M
 plain-ends-spec =

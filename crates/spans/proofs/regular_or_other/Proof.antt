@@ -3,7 +3,6 @@
 use mathlib.Core.Path.{refl}
 use denote.Ref.{now}
 use Rattle.paper.specs.terms.Reading.{recordIn}
-use Rattle.paper.specs.rules.Word.{lowFirst}
 use Rattle.rows.proofs.RecordWords.{kind-read}
 use Rattle.spans.proofs.SpanTests.{either-other, either-int}
 use borrow.Author.Needs.{needs}
@@ -19,8 +18,9 @@ kind-of-requires c κs = search needs
 returns : tie.Need-returns
 returns c =
     let k = c .before in
-    let s = now (k .before .before .before .args .s) in
-    either-other (recordIn lowFirst s) (kind-read _ refl (k .before .read .ensures) (k .kind-of .ensures)) (c .if1 .taken)
+    let a = k .before .before .before .args in
+    let s = now (a .s) in
+    either-other (recordIn (a .order) s) (kind-read _ _ refl (k .before .read .ensures) (k .kind-of .ensures)) (c .if1 .taken)
 
 is-regular-requires : tie.Need-is-regular-requires
 is-regular-requires c κs = search needs
@@ -29,8 +29,9 @@ returns-2 : tie.Need-returns-2
 returns-2 c =
     let e = c .before in
     let k = e .before in
-    let s = now (k .before .before .before .args .s) in
-    either-int (recordIn lowFirst s) (kind-read _ refl (k .before .read .ensures) (k .kind-of .ensures)) (e .if1 .left) (c .is-regular .ensures)
+    let a = k .before .before .before .args in
+    let s = now (a .s) in
+    either-int (recordIn (a .order) s) (kind-read _ _ refl (k .before .read .ensures) (k .kind-of .ensures)) (e .if1 .left) (c .is-regular .ensures)
 
 pub regular-or-other-spec : {M : Type 1} → statement M
 regular-or-other-spec =

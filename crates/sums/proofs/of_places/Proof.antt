@@ -4,14 +4,15 @@ use Prim.Native.Nat.{_-_, _≤_}
 use native.Mathlib.Omega.{arith}
 use borrow.Author.Needs.{needs}
 use lib.ListN.{length, drop}
-use Rattle.paper.specs.rules.Word.{lowFirst, bytesOfWords}
+use Rattle.paper.specs.declared.Order.the-variants.{LowFirst}
+use Rattle.paper.specs.rules.Word.{bytesOfWords}
 use Rattle.sums.specs.Sum.{sumOf}
 use Rattle.sums.proofs.Summing.{Summing, summing-start, summing-end, summing-place, left-none}
 use Rattle.sums.proofs.of_places.Statement.{statement}
 use Rattle.sums.proofs.of_places.Tie as tie
 
 abbrev Inv-loop : tie.InvT-loop
-Inv-loop s sum₀ i₀ sum i = (i ≤ length s) × Summing (sumOf (bytesOfWords lowFirst s)) sum (bytesOfWords lowFirst (drop i s))
+Inv-loop s sum₀ i₀ sum i = (i ≤ length s) × Summing (sumOf (bytesOfWords LowFirst s)) sum (bytesOfWords LowFirst (drop i s))
 
 abbrev μ-loop : tie.MeasureT-loop
 μ-loop s sum₀ i₀ sum i = length s - i

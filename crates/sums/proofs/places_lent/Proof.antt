@@ -1,7 +1,8 @@
 -- `sums::places_lent` meets its contract: the sum so far comes to the whole sum with what is left.
 -- Assumes nothing.
 use native.Mathlib.Omega.{arith}
-use Rattle.paper.specs.rules.Word.{lowFirst, bytesOfWords}
+use Rattle.paper.specs.declared.Order.the-variants.{LowFirst}
+use Rattle.paper.specs.rules.Word.{bytesOfWords}
 use Rattle.sums.specs.Sum.{sumOf, lentPlaces}
 use Rattle.sums.proofs.Summing.{Summing, summing-start, summing-end, summing-lent-place, lent-none-places}
 use borrow.Author.Needs.{needs}
@@ -9,7 +10,7 @@ use Rattle.sums.proofs.places_lent.Statement.{statement}
 use Rattle.sums.proofs.places_lent.Tie as tie
 
 abbrev Inv-loop : tie.InvT-loop
-Inv-loop n sum₀ left₀ sum left = Summing (sumOf (bytesOfWords lowFirst (lentPlaces n))) sum (bytesOfWords lowFirst (lentPlaces left))
+Inv-loop n sum₀ left₀ sum left = Summing (sumOf (bytesOfWords LowFirst (lentPlaces n))) sum (bytesOfWords LowFirst (lentPlaces left))
 
 abbrev μ-loop : tie.MeasureT-loop
 μ-loop n sum₀ left₀ sum left = left

@@ -37,28 +37,28 @@ returns : tie.Need-returns
 returns c =
     let m = c .before .before .before in
     let k = m .before in
-    tail-int (now (k .before .before .before .args .bytes)) (k .before .read .ensures) (k .kind-of .ensures) (m .match .keys1)
+    tail-int _ (now (k .before .before .before .args .bytes)) (k .before .read .ensures) (k .kind-of .ensures) (m .match .keys1)
     (c .before .before .read2 .ensures) (c .before .read3 .ensures) (c .int-ok .ensures)
 
 returns-2 : tie.Need-returns-2
 returns-2 c =
     let m = c .before .before in
     let k = m .before in
-    tail-proto (now (k .before .before .before .args .bytes)) (k .before .read .ensures) (k .kind-of .ensures) (m .match .keys2)
+    tail-proto _ (now (k .before .before .before .args .bytes)) (k .before .read .ensures) (k .kind-of .ensures) (m .match .keys2)
     (c .before .vlen-of .ensures) (c .voids-last .ensures)
 
 returns-3 : tie.Need-returns-3
 returns-3 c =
     let m = c .before .before in
     let k = m .before in
-    tail-var (now (k .before .before .before .args .bytes)) (k .before .read .ensures) (k .kind-of .ensures) (m .match .keys3)
+    tail-var _ (now (k .before .before .before .args .bytes)) (k .before .read .ensures) (k .kind-of .ensures) (m .match .keys3)
     (c .before .read4 .ensures) (c .linkage-ok .ensures)
 
 returns-4 : tie.Need-returns-4
 returns-4 c =
     let k = c .before in
     let r = c .match .rest in
-    tail-other (now (k .before .before .before .args .bytes)) (k .before .read .ensures) (k .kind-of .ensures) (r .0 .0 .1) (r .0 .1) (r .1)
+    tail-other _ (now (k .before .before .before .args .bytes)) (k .before .read .ensures) (k .kind-of .ensures) (r .0 .0 .1) (r .0 .1) (r .1)
 
 pub tail-ok-spec : {M : Type 1} → statement M
 tail-ok-spec =

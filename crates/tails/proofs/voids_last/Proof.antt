@@ -8,16 +8,16 @@ use Rattle.tails.proofs.voids_last.Statement.{statement}
 use Rattle.tails.proofs.voids_last.Tie as tie
 
 abbrev Inv-loop : tie.InvT-loop
-Inv-loop bytes n p₀ left₀ p left = Asking bytes n p left
+Inv-loop order bytes n p₀ left₀ p left = Asking order bytes n p left
 
 abbrev μ-loop : tie.MeasureT-loop
-μ-loop bytes n p₀ left₀ p left = left
+μ-loop order bytes n p₀ left₀ p left = left
 
 loop-holds : tie.Need-loop-holds Inv-loop μ-loop
 loop-holds c = record { few = omega arith; near = omega arith; rest = refl }
 
-add-t7 : tie.Need-add-t7 Inv-loop μ-loop
-add-t7 c = let i = c .before .loop .inv in omega (arith, i .near, i .few)
+add-t8 : tie.Need-add-t8 Inv-loop μ-loop
+add-t8 c = let i = c .before .loop .inv in omega (arith, i .near, i .few)
 
 read-requires : tie.Need-read-requires Inv-loop μ-loop
 read-requires c κs = search needs
@@ -60,7 +60,7 @@ voids-last-spec =
     Inv-loop
     μ-loop
     loop-holds
-    add-t7
+    add-t8
     read-requires
     returns
     read-requires-2

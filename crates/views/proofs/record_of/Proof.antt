@@ -7,7 +7,6 @@ use lib.ListN.{drop}
 use Rattle.paper.proofs.bytes.Bytes.{part-rest}
 use Rattle.views.proofs.Shows.{startBy-record, part-place}
 use Rattle.paper.specs.terms.Reading.{recordIn}
-use Rattle.paper.specs.rules.Word.{lowFirst}
 use borrow.Author.Needs.{needs}
 use Rattle.views.proofs.record_of.Statement.{statement}
 use Rattle.views.proofs.record_of.Tie as tie
@@ -33,7 +32,7 @@ returns c =
     record {
       bytes = bytes;
       place = part-place (a .b) (s .start-of .ensures .there);
-      shows = ap (recordIn lowFirst) bytes ∙ startBy-record (now (a .base)) b (now (a .index)) (a .view) (a .t .0);
+      shows = ap (recordIn (a .view .order)) bytes ∙ startBy-record (now (a .base)) b (now (a .index)) (a .view) (a .t .0);
     }
 
 pub record-of-spec : {M : Type 1} → statement M

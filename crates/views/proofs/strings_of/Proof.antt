@@ -10,8 +10,8 @@ use borrow.Author.Needs.{needs}
 use Rattle.views.proofs.strings_of.Statement.{statement}
 use Rattle.views.proofs.strings_of.Tie as tie
 
-read-requires : tie.Need-read-requires
-read-requires c κs = search needs
+blob-word-requires : tie.Need-blob-word-requires
+blob-word-requires c κs = search needs
 
 cast-from : tie.Need-cast-from
 cast-from c = search needs
@@ -33,7 +33,7 @@ returns c =
     let r = c .before .before in
     let a = r .before .before .before .before .args in
     let b = now (a .b) in
-    let from = strings-past (now (a .base)) b (now (a .index)) (a .view) (r .read .ensures) (c .before .if1 .taken) in
+    let from = strings-past (now (a .base)) b (now (a .index)) (a .view) (r .blob-word .ensures) (c .before .if1 .taken) in
     record {
       bytes = part-rest b (length b) ∙ ap (λ (p : ℕ). drop p b) from ∙ stringsStart-strings (now (a .base)) b (now (a .index)) (a .view);
       place = part-place (a .b) from;
@@ -53,9 +53,9 @@ returns-2 c =
     let r = c .before .before in
     let a = r .before .before .before .before .args in
     let b = now (a .b) in
-    let from = strings-inside (now (a .base)) b (now (a .index)) (a .view) (r .read .ensures) (c .before .if1 .left) in
+    let from = strings-inside (now (a .base)) b (now (a .index)) (a .view) (r .blob-word .ensures) (c .before .if1 .left) in
     record {
-      bytes = part-rest b (24 + r .read .result) ∙ ap (λ (p : ℕ). drop p b) from ∙ stringsStart-strings (now (a .base)) b (now (a .index)) (a .view);
+      bytes = part-rest b (24 + r .blob-word .result) ∙ ap (λ (p : ℕ). drop p b) from ∙ stringsStart-strings (now (a .base)) b (now (a .index)) (a .view);
       place = part-place (a .b) from;
     }
 
@@ -63,7 +63,7 @@ pub strings-of-spec : {M : Type 1} → statement M
 strings-of-spec =
     tie.close
     (tie.spec
-    read-requires
+    blob-word-requires
     cast-from
     add-from
     sub-result

@@ -1,11 +1,13 @@
 -- `words::write` meets its contract: outside the slice nothing is stored, inside four bytes are.
 -- Assumes nothing.
-use mathlib.Core.Path.{sym}
+use mathlib.Core.Path.{sym, ap, _∙_}
 use native.Mathlib.Omega.{arith}
 use denote.Ref.{now}
 use lib.ListN.{length-set}
-use Rattle.paper.specs.rules.Word.{lowFirst}
+use Rattle.paper.specs.declared.Order.the-variants.{LowFirst}
+use Rattle.paper.specs.rules.Word.{wordBytes}
 use Rattle.paper.proofs.bytes.Words.{putWord-outside, putWord-low}
+use Rattle.words.proofs.Orders.{ordered-write, putWord-bytes}
 use borrow.Author.Needs.{needs}
 use Rattle.words.proofs.write.Statement.{statement}
 use Rattle.words.proofs.write.Tie as tie
@@ -17,7 +19,10 @@ add-if1 : tie.Need-add-if1
 add-if1 c = search needs
 
 returns : tie.Need-returns
-returns c = let a = c .before .before .args in sym (putWord-outside lowFirst (now (a .b)) (a .at .0) (a .w) (c .if1 .taken))
+returns c = let a = c .before .before .before .args in sym (putWord-outside (a .order) (now (a .b)) (a .at .0) (a .w) (c .if1 .taken))
+
+ordered-requires : tie.Need-ordered-requires
+ordered-requires c κs = search needs
 
 cast-b : tie.Need-cast-b
 cast-b c = search needs
@@ -56,7 +61,10 @@ same-length : tie.Need-same-length
 same-length c = search needs
 
 returns-2 : tie.Need-returns-2
-returns-2 c = let a = c .before .before .args in putWord-low (now (a .b)) (a .at .0) (a .w) (omega arith)
+returns-2 c =
+    let a = c .before .before .before .before .args in
+    putWord-low (now (a .b)) (a .at .0) (c .ordered .result) (omega arith)
+    ∙ putWord-bytes (now (a .b)) (a .at .0) LowFirst (a .order) (c .ordered .result) (a .w) (ap (wordBytes LowFirst) (c .ordered .ensures) ∙ ordered-write (a .order) (a .w) (omega arith))
 
 pub write-spec : {M : Type 1} → statement M
 write-spec =
@@ -65,6 +73,7 @@ write-spec =
     cast-p
     add-if1
     returns
+    ordered-requires
     cast-b
     slice-write-b
     cast-b-2

@@ -15,6 +15,9 @@ abbrev μ-loop : tie.MeasureT-loop
 loop-holds : tie.Need-loop-holds Inv-loop μ-loop
 loop-holds c = following-start _ _ _
 
+order-of-requires : tie.Need-order-of-requires Inv-loop μ-loop
+order-of-requires c κs = search needs
+
 record-of-requires : tie.Need-record-of-requires Inv-loop μ-loop
 record-of-requires c κs = search needs
 
@@ -31,8 +34,8 @@ returns : tie.Need-returns Inv-loop μ-loop
 returns c =
     let a = c .before in
     let i = a .before .before in
-    let l = i .before .before .before in
-    following-base (l .loop .inv) (omega arith) (i .before .record-of .ensures .bytes) (i .info-of .ensures) (a .before .kind-of .ensures)
+    let l = i .before .before .before .before in
+    following-base (l .loop .inv) (omega arith) (i .before .before .order-of .ensures) (i .before .record-of .ensures .bytes) (i .info-of .ensures) (a .before .kind-of .ensures)
     (a .is-alias .ensures) (c .if1 .taken)
 
 third-of-requires : tie.Need-third-of-requires Inv-loop μ-loop
@@ -48,8 +51,8 @@ loop-again : tie.Need-loop-again Inv-loop μ-loop
 loop-again c =
     let a = c .before .before in
     let i = a .before .before in
-    let l = i .before .before .before in
-    following-next (l .loop .inv) (omega arith) (i .before .record-of .ensures .bytes) (i .info-of .ensures) (a .before .kind-of .ensures)
+    let l = i .before .before .before .before in
+    following-next (l .loop .inv) (omega arith) (i .before .before .order-of .ensures) (i .before .record-of .ensures .bytes) (i .info-of .ensures) (a .before .kind-of .ensures)
     (a .is-alias .ensures) (c .before .if1 .left) (c .third-of .ensures)
 
 returns-2 : tie.Need-returns-2 Inv-loop μ-loop
@@ -62,6 +65,7 @@ base-of-spec =
     Inv-loop
     μ-loop
     loop-holds
+    order-of-requires
     record-of-requires
     info-of-requires
     kind-of-requires

@@ -2,7 +2,6 @@
 -- Assumes nothing.
 use mathlib.Core.Path.{refl, sym, _∙_}
 use denote.Ref.{now}
-use Rattle.paper.specs.rules.Word.{lowFirst}
 use Rattle.paper.specs.terms.Reading.{recordIn}
 use Rattle.rows.proofs.RecordWords.{kind-read, flag-read, int-read}
 use Rattle.bases.proofs.ByKind.{sign-int, sign-enum, sign-enum64, sign-none}
@@ -25,9 +24,10 @@ add-result c = search needs
 returns : tie.Need-returns
 returns c =
     let k = c .before .before in
-    let s = now (k .before .before .before .args .s) in
-    let kind = kind-read s refl (k .before .read .ensures) (k .kind-of .ensures) in
-    sign-int (recordIn lowFirst s) kind (c .before .if1 .taken) (int-read s (sym kind ∙ c .before .if1 .taken) (c .read2 .ensures))
+    let a = k .before .before .before .args in
+    let s = now (a .s) in
+    let kind = kind-read _ s refl (k .before .read .ensures) (k .kind-of .ensures) in
+    sign-int (recordIn (a .order) s) kind (c .before .if1 .taken) (int-read _ s (sym kind ∙ c .before .if1 .taken) (c .read2 .ensures))
 
 read-requires-3 : tie.Need-read-requires-3
 read-requires-3 c κs = search needs
@@ -43,10 +43,11 @@ returns-2 c =
     let f = c .before in
     let e = f .before .before in
     let k = e .before in
-    let s = now (k .before .before .before .args .s) in
-    let kind = kind-read s refl (k .before .read .ensures) (k .kind-of .ensures) in
-    let flag = flag-read s refl (f .before .read3 .ensures) (f .flag-of .ensures) in
-    sign-enum (recordIn lowFirst s) kind (e .if1 .left) flag (c .if2 .taken)
+    let a = k .before .before .before .args in
+    let s = now (a .s) in
+    let kind = kind-read _ s refl (k .before .read .ensures) (k .kind-of .ensures) in
+    let flag = flag-read _ s refl (f .before .read3 .ensures) (f .flag-of .ensures) in
+    sign-enum (recordIn (a .order) s) kind (e .if1 .left) flag (c .if2 .taken)
 
 add-result-3 : tie.Need-add-result-3
 add-result-3 c = search needs
@@ -56,20 +57,22 @@ returns-3 c =
     let f = c .before .before in
     let e = f .before .before in
     let k = e .before in
-    let s = now (k .before .before .before .args .s) in
-    let kind = kind-read s refl (k .before .read .ensures) (k .kind-of .ensures) in
-    let flag = flag-read s refl (f .before .read3 .ensures) (f .flag-of .ensures) in
-    sign-enum64 (recordIn lowFirst s) kind (e .if1 .left) flag (c .before .if2 .left) (c .if3 .taken)
+    let a = k .before .before .before .args in
+    let s = now (a .s) in
+    let kind = kind-read _ s refl (k .before .read .ensures) (k .kind-of .ensures) in
+    let flag = flag-read _ s refl (f .before .read3 .ensures) (f .flag-of .ensures) in
+    sign-enum64 (recordIn (a .order) s) kind (e .if1 .left) flag (c .before .if2 .left) (c .if3 .taken)
 
 returns-4 : tie.Need-returns-4
 returns-4 c =
     let f = c .before .before in
     let e = f .before .before in
     let k = e .before in
-    let s = now (k .before .before .before .args .s) in
-    let kind = kind-read s refl (k .before .read .ensures) (k .kind-of .ensures) in
-    let flag = flag-read s refl (f .before .read3 .ensures) (f .flag-of .ensures) in
-    sign-none (recordIn lowFirst s) kind (e .if1 .left) flag (c .before .if2 .left) (c .if3 .left)
+    let a = k .before .before .before .args in
+    let s = now (a .s) in
+    let kind = kind-read _ s refl (k .before .read .ensures) (k .kind-of .ensures) in
+    let flag = flag-read _ s refl (f .before .read3 .ensures) (f .flag-of .ensures) in
+    sign-none (recordIn (a .order) s) kind (e .if1 .left) flag (c .before .if2 .left) (c .if3 .left)
 
 pub sign-of-spec : {M : Type 1} → statement M
 sign-of-spec =

@@ -11,6 +11,9 @@ Inv-loop buf₀ l blob index t start types₀ nexts₀ starts₀ depth₀ most l
 abbrev μ-loop : tie.MeasureT-loop
 μ-loop buf₀ l blob index t start types₀ nexts₀ starts₀ depth₀ most left₀ is-cut₀ o₀ buf types nexts starts depth left is-cut o = left + left + depth
 
+order-of-requires : tie.Need-order-of-requires Inv-loop μ-loop
+order-of-requires c κs = search needs
+
 least-requires : tie.Need-least-requires Inv-loop μ-loop
 least-requires c κs = search needs
 
@@ -123,7 +126,7 @@ loop-less-4 : tie.Need-loop-less-4 Inv-loop μ-loop
 loop-less-4 c = search needs
 
 loop-again-4 : tie.Need-loop-again-4 Inv-loop μ-loop
-loop-again-4 c = c .before .before .before .before .before .before .before .before .before .before .before .before .before .before .before .loop .inv
+loop-again-4 c = c .before .before .before .before .before .before .before .before .before .before .before .before .before .before .before .before .loop .inv
 
 loop-less-5 : tie.Need-loop-less-5 Inv-loop μ-loop
 loop-less-5 c = search needs
@@ -154,6 +157,7 @@ put-below-spec =
     record-of-requires
     mul-i
     array-read-i
+    order-of-requires
     info-of-requires
     vlen-of-requires
     loop-less

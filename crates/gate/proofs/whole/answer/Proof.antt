@@ -18,18 +18,23 @@ enum-known-r c = search needs
 enum-known-n : tie.Need-enum-known-n
 enum-known-n c = search needs
 
+order-of-requires : tie.Need-order-of-requires
+order-of-requires c κs = search needs
+
 slice-aggregate-judge : tie.Need-slice-aggregate-judge
 slice-aggregate-judge c = search needs
 
 judge-requires : tie.Need-judge-requires
 judge-requires c κs =
-    let m = c .before .before .before .before in
+    let o = c .before .before .before in
+    let m = o .before .before in
     let s = m .before .before .before .before in
     let a = s .before .before .before .before .before in
     record {
       standing =
           scan-standing _ _ _ (s .scan .result) (s .scan .ensures) (m .n .given .1)
           (slice-bytes (now (a .args .b)) (s .before .before .before .before .shared-slice-known .given));
+      ordered = o .order-of .ensures;
       room = scan-room _ _ _ (s .scan .result) (s .scan .ensures) (m .n .given .1);
     }
 
@@ -57,7 +62,7 @@ same-length-3 c = search needs
 returns-2 : tie.Need-returns-2
 returns-2 c =
     let j = c .before .before .before .before in
-    let m = j .before .before .before .before .before in
+    let m = j .before .before .before .before .before .before in
     let s = m .before .before .before .before in
     scan-accepted _ _ _ (s .scan .result) (s .scan .ensures) (m .n .given .1) (j .judge .result) (j .judge .ensures) (c .enum-told .given .1)
 
@@ -72,7 +77,7 @@ returns-3 c =
     let l = c .before .before in
     let r = l .before .before .before in
     let j = r .before .before .before .before in
-    let m = j .before .before .before .before .before in
+    let m = j .before .before .before .before .before .before in
     let s = m .before .before .before .before in
     scan-judged _ _ _ (s .scan .result) (s .scan .ensures) (m .n .given .1) (j .judge .result) (j .judge .ensures) (r .r2 .given .1)
     (l .clear .ensures ∙ ap zeros (s .scan .kept .1 .0))
@@ -84,6 +89,7 @@ answer-spec =
     scan-requires
     enum-known-r
     enum-known-n
+    order-of-requires
     slice-aggregate-judge
     judge-requires
     enum-told

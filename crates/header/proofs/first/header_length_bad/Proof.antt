@@ -3,17 +3,17 @@
 use Prim.Native.Nat.{ℕ}
 use mathlib.Core.Path.{ap}
 use Rattle.paper.specs.rules.Choice.{differ}
-use Rattle.paper.specs.rules.Header.{orderOf, headerLengthBad}
+use Rattle.paper.specs.rules.Header.{headerLengthBad}
 use borrow.Author.Needs.{needs}
 use Rattle.header.proofs.first.header_length_bad.Statement.{statement}
 use Rattle.header.proofs.first.header_length_bad.Tie as tie
 
-read-requires : tie.Need-read-requires
-read-requires c κs = search needs
+blob-word-requires : tie.Need-blob-word-requires
+blob-word-requires c κs = search needs
 
 returns : tie.Need-returns
-unfolding orderOf headerLengthBad
-returns c = ap (λ (w : ℕ). differ w 24) (c .read .ensures)
+unfolding headerLengthBad
+returns c = ap (λ (w : ℕ). differ w 24) (c .blob-word .ensures)
 
 pub header-length-bad-spec : {M : Type 1} → statement M
-header-length-bad-spec = tie.close (tie.spec read-requires returns)
+header-length-bad-spec = tie.close (tie.spec blob-word-requires returns)

@@ -1,52 +1,32 @@
--- `header::first::opening_bad` meets its contract: report 2.
+-- `header::first::opening_bad` meets its contract: report 2, by order.
 -- Assumes nothing.
-use mathlib.Core.Path.{sym}
-use Rattle.header.proofs.Headers.{openingBad-short, openingBad-first, openingBad-second, openingBad-third, openingBad-fourth}
+use mathlib.Core.Path.{sym, _∙_}
 use borrow.Author.Needs.{needs}
+use Rattle.header.proofs.Headers.{opening-by}
 use Rattle.header.proofs.first.opening_bad.Statement.{statement}
 use Rattle.header.proofs.first.opening_bad.Tie as tie
 
-returns : tie.Need-returns
-returns c = sym (openingBad-short _ (c .if1 .taken))
+order-of-requires : tie.Need-order-of-requires
+order-of-requires c κs = search needs
 
-shared-slice-read-if2 : tie.Need-shared-slice-read-if2
-shared-slice-read-if2 c = search needs
+enum-told : tie.Need-enum-told
+enum-told c = search needs
+
+opens-otherwise-requires : tie.Need-opens-otherwise-requires
+opens-otherwise-requires c κs = search needs
+
+enum-told-2 : tie.Need-enum-told-2
+enum-told-2 c = search needs
+
+opens-otherwise-requires-2 : tie.Need-opens-otherwise-requires-2
+opens-otherwise-requires-2 c κs = search needs
+
+returns : tie.Need-returns
+returns c = c .opens-otherwise .ensures ∙ opening-by _ (sym (c .before .enum-told .given .1) ∙ c .before .before .before .order-of .ensures)
 
 returns-2 : tie.Need-returns-2
-returns-2 c = openingBad-first _ (c .before .before .if1 .left) (c .if2 .taken)
-
-shared-slice-read-if3 : tie.Need-shared-slice-read-if3
-shared-slice-read-if3 c = search needs
-
-returns-3 : tie.Need-returns-3
-returns-3 c = openingBad-second _ (c .before .before .before .before .if1 .left) (c .before .before .if2 .left) (c .if3 .taken)
-
-shared-slice-read-if4 : tie.Need-shared-slice-read-if4
-shared-slice-read-if4 c = search needs
-
-returns-4 : tie.Need-returns-4
-returns-4 c =
-    let d = c .before .before .before .before in
-    openingBad-third _ (d .before .before .if1 .left) (d .if2 .left) (c .before .before .if3 .left) (c .if4 .taken)
-
-shared-slice-read-result : tie.Need-shared-slice-read-result
-shared-slice-read-result c = search needs
-
-returns-5 : tie.Need-returns-5
-returns-5 c =
-    let d = c .before .before .before .before .before in
-    openingBad-fourth _ (d .before .before .if1 .left) (d .if2 .left) (c .before .before .before .if3 .left) (c .before .if4 .left)
+returns-2 c = c .opens-otherwise2 .ensures ∙ opening-by _ (sym (c .before .enum-told2 .given .1) ∙ c .before .before .before .order-of .ensures)
 
 pub opening-bad-spec : {M : Type 1} → statement M
 opening-bad-spec =
-    tie.close
-    (tie.spec
-    returns
-    shared-slice-read-if2
-    returns-2
-    shared-slice-read-if3
-    returns-3
-    shared-slice-read-if4
-    returns-4
-    shared-slice-read-result
-    returns-5)
+    tie.close (tie.spec order-of-requires enum-told opens-otherwise-requires enum-told-2 opens-otherwise-requires-2 returns returns-2)

@@ -1,7 +1,7 @@
 -- `header::first::read` meets its contract: the first of the five tests that fails is the report.
 -- Assumes nothing.
 use Rattle.paper.specs.rules.Answer.{reportAsPaper}
-use Rattle.paper.specs.rules.Header.{orderOf, typeLen, strLen}
+use Rattle.paper.specs.rules.Header.{typeLen, strLen}
 use Rattle.header.proofs.Headers.{tells, phase1-length, phase1-opening, phase1-header, phase1-sections, phase1-strings, phase1-silent}
 use borrow.Author.Needs.{needs}
 use Rattle.header.proofs.first.read.Statement.{statement}
@@ -70,14 +70,14 @@ returns-5 c =
     (tells (c₄ .before .sections-bad .ensures) (c₄ .if4 .left))
     (tells (c .before .strings-bad .ensures) (c .if5 .taken))
 
-read-requires : tie.Need-read-requires
-read-requires c κs = search needs
+blob-word-requires : tie.Need-blob-word-requires
+blob-word-requires c κs = search needs
 
-read-requires-2 : tie.Need-read-requires-2
-read-requires-2 c κs = search needs
+blob-word-requires-2 : tie.Need-blob-word-requires-2
+blob-word-requires-2 c κs = search needs
 
 returns-6 : tie.Need-returns-6
-unfolding orderOf typeLen strLen
+unfolding typeLen strLen
 returns-6 c =
     let c₅ = c .before .before in
     let c₄ = c₅ .before .before in
@@ -91,8 +91,8 @@ returns-6 c =
           (tells (c₃ .before .header-length-bad .ensures) (c₃ .if3 .left))
           (tells (c₄ .before .sections-bad .ensures) (c₄ .if4 .left))
           (tells (c₅ .before .strings-bad .ensures) (c₅ .if5 .left));
-      types = c .before .read .ensures;
-      strings = c .read2 .ensures;
+      types = c .before .blob-word .ensures;
+      strings = c .blob-word2 .ensures;
     }
 
 pub read-spec : {M : Type 1} → statement M
@@ -109,6 +109,6 @@ read-spec =
     returns-4
     strings-bad-requires
     returns-5
-    read-requires
-    read-requires-2
+    blob-word-requires
+    blob-word-requires-2
     returns-6)

@@ -5,26 +5,26 @@ use borrow.Author.Needs.{needs}
 use Rattle.header.proofs.first.sections_bad.Statement.{statement}
 use Rattle.header.proofs.first.sections_bad.Tie as tie
 
-read-requires : tie.Need-read-requires
-read-requires c κs = search needs
+blob-word-requires : tie.Need-blob-word-requires
+blob-word-requires c κs = search needs
 
-read-requires-2 : tie.Need-read-requires-2
-read-requires-2 c κs = search needs
+blob-word-requires-2 : tie.Need-blob-word-requires-2
+blob-word-requires-2 c κs = search needs
 
-read-requires-3 : tie.Need-read-requires-3
-read-requires-3 c κs = search needs
+blob-word-requires-3 : tie.Need-blob-word-requires-3
+blob-word-requires-3 c κs = search needs
 
 returns : tie.Need-returns
-returns c = sectionsBad-offset _ (c .before .read3 .ensures) (c .if1 .taken)
+returns c = sectionsBad-offset _ (c .before .blob-word3 .ensures) (c .if1 .taken)
 
 returns-2 : tie.Need-returns-2
-returns-2 c = sectionsBad-multiple _ (c .before .before .before .before .read .ensures) (c .if2 .taken)
+returns-2 c = sectionsBad-multiple _ (c .before .before .before .before .blob-word .ensures) (c .if2 .taken)
 
-read-requires-4 : tie.Need-read-requires-4
-read-requires-4 c κs = search needs
+blob-word-requires-4 : tie.Need-blob-word-requires-4
+blob-word-requires-4 c κs = search needs
 
 returns-3 : tie.Need-returns-3
-returns-3 c = sectionsBad-apart _ (c .before .read4 .ensures) (c .before .before .before .before .before .before .read .ensures) (c .if3 .taken)
+returns-3 c = sectionsBad-apart _ (c .before .blob-word4 .ensures) (c .before .before .before .before .before .before .blob-word .ensures) (c .if3 .taken)
 
 cast-result : tie.Need-cast-result
 cast-result c = search needs
@@ -42,19 +42,19 @@ returns-4 : tie.Need-returns-4
 returns-4 c =
     let d = c .before .before .before .before in
     sectionsBad-sum _
-    (d .read3 .ensures) (d .before .before .read .ensures) (c .before .read4 .ensures) (d .before .read2 .ensures)
+    (d .blob-word3 .ensures) (d .before .before .blob-word .ensures) (c .before .blob-word4 .ensures) (d .before .blob-word2 .ensures)
     (c .before .before .before .if1 .left) (c .before .before .if2 .left) (c .if3 .left)
 
 pub sections-bad-spec : {M : Type 1} → statement M
 sections-bad-spec =
     tie.close
     (tie.spec
-    read-requires
-    read-requires-2
-    read-requires-3
+    blob-word-requires
+    blob-word-requires-2
+    blob-word-requires-3
     returns
     returns-2
-    read-requires-4
+    blob-word-requires-4
     returns-3
     cast-result
     add-result

@@ -5,8 +5,8 @@ use borrow.Author.Needs.{needs}
 use Rattle.header.proofs.first.strings_bad.Statement.{statement}
 use Rattle.header.proofs.first.strings_bad.Tie as tie
 
-read-requires : tie.Need-read-requires
-read-requires c κs = search needs
+blob-word-requires : tie.Need-blob-word-requires
+blob-word-requires c κs = search needs
 
 cast-from : tie.Need-cast-from
 cast-from c = search needs
@@ -14,20 +14,20 @@ cast-from c = search needs
 add-from : tie.Need-add-from
 add-from c = search needs
 
-read-requires-2 : tie.Need-read-requires-2
-read-requires-2 c κs = search needs
+blob-word-requires-2 : tie.Need-blob-word-requires-2
+blob-word-requires-2 c κs = search needs
 
 cast-len : tie.Need-cast-len
 cast-len c = search needs
 
 returns : tie.Need-returns
-returns c = stringsBad-empty _ (c .before .read2 .ensures) (c .if1 .taken)
+returns c = stringsBad-empty _ (c .before .blob-word2 .ensures) (c .if1 .taken)
 
 byte-requires : tie.Need-byte-requires
 byte-requires c κs = search needs
 
 returns-2 : tie.Need-returns-2
-returns-2 c = stringsBad-first _ (c .before .before .before .before .read .ensures) (c .before .byte .ensures) (c .if2 .taken)
+returns-2 c = stringsBad-first _ (c .before .before .before .before .blob-word .ensures) (c .before .byte .ensures) (c .if2 .taken)
 
 sub-byte : tie.Need-sub-byte
 sub-byte c = search needs
@@ -42,17 +42,17 @@ returns-3 : tie.Need-returns-3
 returns-3 c =
     let d = c .before .before .before .before in
     stringsBad-last _
-    (d .before .read .ensures) (d .read2 .ensures) (c .before .before .byte .ensures) (c .byte2 .ensures)
+    (d .before .blob-word .ensures) (d .blob-word2 .ensures) (c .before .before .byte .ensures) (c .byte2 .ensures)
     (c .before .before .before .if1 .left) (c .before .if2 .left)
 
 pub strings-bad-spec : {M : Type 1} → statement M
 strings-bad-spec =
     tie.close
     (tie.spec
-    read-requires
+    blob-word-requires
     cast-from
     add-from
-    read-requires-2
+    blob-word-requires-2
     cast-len
     returns
     byte-requires

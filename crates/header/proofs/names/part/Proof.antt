@@ -17,13 +17,13 @@ use Rattle.header.proofs.names.part.Statement.{statement}
 use Rattle.header.proofs.names.part.Tie as tie
 
 -- where the name begins is where the place that is computed says, inside the blob
-begins : (c : tie.After-read) → let a = c .before .before .before .before .args in 24 + c .read .result + a .at .0 ≡ nameStart (now (a .b)) (a .at .0)
-begins c = nameStart-some _ _ (tells (c .before .before .nameless .ensures) (c .before .if1 .left)) (c .read .ensures)
+begins : (c : tie.After-blob-word) → let a = c .before .before .before .before .args in 24 + c .blob-word .result + a .at .0 ≡ nameStart (now (a .b)) (a .at .0)
+begins c = nameStart-some _ _ (tells (c .before .before .nameless .ensures) (c .before .if1 .left)) (c .blob-word .ensures)
 
-inside : (c : tie.After-read) → let a = c .before .before .before .before .args in 24 + c .read .result + a .at .0 < length (now (a .b))
+inside : (c : tie.After-blob-word) → let a = c .before .before .before .before .args in 24 + c .blob-word .result + a .at .0 < length (now (a .b))
 inside c = rw (begins c) (named-inside _ _ (tells (c .before .before .nameless .ensures) (c .before .if1 .left)))
 
-short : (c : tie.After-read) → length (now (c .before .before .before .before .args .b)) ≤ byteLimit
+short : (c : tie.After-blob-word) → length (now (c .before .before .before .before .args .b)) ≤ byteLimit
 short c = named-short _ (c .before .before .before .before .args .at .0) (tells (c .before .before .nameless .ensures) (c .before .if1 .left))
 
 -- the scan from there ends where the name does
@@ -33,7 +33,7 @@ ends c =
     let r = c .before .before .before in
     let a = r .before .before .before .before .args in
     subst (λ (s : List ℕ). Ending s (c .until-zero .result))
-    (part-rest (now (a .b)) (24 + r .read .result + a .at .0) ∙ ap (λ (p : ℕ). drop p (now (a .b))) (begins r)) (c .until-zero .ensures)
+    (part-rest (now (a .b)) (24 + r .blob-word .result + a .at .0) ∙ ap (λ (p : ℕ). drop p (now (a .b))) (begins r)) (c .until-zero .ensures)
 
 nameless-requires : tie.Need-nameless-requires
 nameless-requires c κs = search needs
@@ -43,8 +43,8 @@ returns c =
     let none = tells (c .before .nameless .ensures) (c .if1 .taken) in
     record { starts = nameStart-none _ _ none; long = sym (ap length (nameAt-none _ _ none)) }
 
-read-requires : tie.Need-read-requires
-read-requires c κs = search needs
+blob-word-requires : tie.Need-blob-word-requires
+blob-word-requires c κs = search needs
 
 add-start : tie.Need-add-start
 add-start c = omega (arith, inside c, short c)
@@ -84,7 +84,7 @@ part-spec =
     (tie.spec
     nameless-requires
     returns
-    read-requires
+    blob-word-requires
     add-start
     add-start-2
     cast-from

@@ -1,7 +1,7 @@
 -- `join::blob::write` meets its contract: each part is put behind the one before.
 -- Assumes nothing.
 use Prim.Native.Nat.{ℕ, _+_, _-_}
-use mathlib.Core.Path.{refl, ap, ap₂, _∙_}
+use mathlib.Core.Path.{refl, ap, ap₂}
 use native.Mathlib.Omega.{arith}
 use denote.Ref.{now}
 use lib.ListN.{length}
@@ -11,25 +11,28 @@ use Rattle.join.proofs.blob.write.Statement.{statement}
 use Rattle.join.proofs.blob.write.Tie as tie
 
 -- the lengths as they are read
-lengths : (c : tie.After-read4) → let r = c .before .before .before in let a = r .before .before .before .before .args in
-    Lengths (r .read .result) (c .before .before .read2 .result) (c .before .read3 .result) (c .read4 .result)
+lengths : (c : tie.After-blob-word4) → let r = c .before .before .before in let a = r .before .before .before .before .before .args in
+    Lengths (r .blob-word .result) (c .before .before .blob-word2 .result) (c .before .blob-word3 .result) (c .blob-word4 .result)
     (length (now (a .a))) (length (now (a .b))) (length (now (a .out)))
 lengths c =
     let r = c .before .before .before in
-    write-lengths (r .before .before .before .before .pre) (r .read .ensures) (c .before .before .read2 .ensures)
-    (c .before .read3 .ensures) (c .read4 .ensures)
+    write-lengths (r .before .before .before .before .before .pre) (r .blob-word .ensures) (c .before .before .blob-word2 .ensures)
+    (c .before .blob-word3 .ensures) (c .blob-word4 .ensures)
 
-read-requires : tie.Need-read-requires
-read-requires c κs = search needs
+order-of-requires : tie.Need-order-of-requires
+order-of-requires c κs = search needs
 
-read-requires-2 : tie.Need-read-requires-2
-read-requires-2 c κs = search needs
+blob-word-requires : tie.Need-blob-word-requires
+blob-word-requires c κs = search needs
 
-read-requires-3 : tie.Need-read-requires-3
-read-requires-3 c κs = search needs
+blob-word-requires-2 : tie.Need-blob-word-requires-2
+blob-word-requires-2 c κs = search needs
 
-read-requires-4 : tie.Need-read-requires-4
-read-requires-4 c κs = search needs
+blob-word-requires-3 : tie.Need-blob-word-requires-3
+blob-word-requires-3 c κs = search needs
+
+blob-word-requires-4 : tie.Need-blob-word-requires-4
+blob-word-requires-4 c κs = search needs
 
 add-types : tie.Need-add-types
 add-types c = let l = lengths c in omega arith
@@ -78,14 +81,14 @@ sub-raise-records-2 c =
     let l1 = c .before .before .before in
     let h = l1 .before .before .before .before .before in
     let l = lengths (h .before .before) in
-    omega (arith, l1 .lay .kept .0, h .write-header .kept .1 .1 .1 .0)
+    omega (arith, l1 .lay .kept .0, h .write-header .kept .1 .1 .1 .1 .0)
 
 part-raise-records-start-2 : tie.Need-part-raise-records-start-2
 part-raise-records-start-2 c =
     let l1 = c .before .before .before in
     let h = l1 .before .before .before .before .before in
     let l = lengths (h .before .before) in
-    omega (arith, l1 .lay .kept .0, h .write-header .kept .1 .1 .1 .0)
+    omega (arith, l1 .lay .kept .0, h .write-header .kept .1 .1 .1 .1 .0)
 
 part-raise-records-end-2 : tie.Need-part-raise-records-end-2
 part-raise-records-end-2 c = search needs
@@ -161,22 +164,23 @@ returns c =
     let h = l1 .before .before .before .before .before in
     let r = h .before .before in
     let f = r .before .before .before in
-    let a = f .before .before .before .before in
-    write-parts (a .pre) _ refl (ap (λ (n : ℕ). n - 1) (r .before .before .read2 .ensures))
-    (ap₂ (λ (x y : ℕ). x + y) (f .read .ensures) (r .before .read3 .ensures))
-    (ap₂ (λ (x y : ℕ). x + (y - 1)) (r .before .before .read2 .ensures) (r .read4 .ensures))
-    (now (a .args .out)) (f .read .ensures) (r .before .read3 .ensures) (r .before .before .read2 .ensures) refl
+    let a = f .before .before .before .before .before in
+    write-parts (a .pre) _ (f .before .order-of .ensures) refl (ap (λ (n : ℕ). n - 1) (r .before .before .blob-word2 .ensures))
+    (ap₂ (λ (x y : ℕ). x + y) (f .blob-word .ensures) (r .before .blob-word3 .ensures))
+    (ap₂ (λ (x y : ℕ). x + (y - 1)) (r .before .before .blob-word2 .ensures) (r .blob-word4 .ensures))
+    (now (a .args .out)) (f .blob-word .ensures) (r .before .blob-word3 .ensures) (r .before .before .blob-word2 .ensures) refl
     (h .write-header .ensures) (l1 .lay .ensures) (rr .raise-records .ensures) (l2 .lay2 .ensures) (l3 .lay3 .ensures)
-    (h .write-header .kept .1 .1 .1 .0) (l1 .lay .kept .0) (l2 .lay2 .kept .0)
+    (h .write-header .kept .1 .1 .1 .1 .0) (l1 .lay .kept .0) (l2 .lay2 .kept .0)
 
 pub write-spec : {M : Type 1} → statement M
 write-spec =
     tie.close
     (tie.spec
-    read-requires
-    read-requires-2
-    read-requires-3
-    read-requires-4
+    order-of-requires
+    blob-word-requires
+    blob-word-requires-2
+    blob-word-requires-3
+    blob-word-requires-4
     add-types
     sub-strings
     add-strings

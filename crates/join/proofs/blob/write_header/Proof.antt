@@ -37,7 +37,7 @@ returns c =
     let k = w1 .before .before .before .before in
     let a = k .before .before .before .before .before in
     let twelve = length-take-le 12 (now (a .args .a)) (omega (arith, a .pre .0)) in
-    put-three (now (a .args .out)) (take 12 (now (a .args .a))) 0 _ _ _ (omega (arith, a .pre .1))
+    put-three (a .args .order) (now (a .args .out)) (take 12 (now (a .args .a))) 0 _ _ _ (omega (arith, a .pre .1))
     (k .lay .ensures ∙ sym (laid-fits (now (a .args .out)) 0 (take 12 (now (a .args .a))) (omega (arith, a .pre .1))))
     (w1 .write .ensures) (omega arith) (w2 .write2 .ensures) (omega arith) (w3 .write3 .ensures) (omega arith)
 

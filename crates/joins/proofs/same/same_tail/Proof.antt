@@ -11,6 +11,9 @@ Inv-loop a a-index a-n r b b-index b-n s info kind n i₀ i = Unit {0}
 abbrev μ-loop : tie.MeasureT-loop
 μ-loop a a-index a-n r b b-index b-n s info kind n i₀ i = n - i
 
+order-of-requires : tie.Need-order-of-requires Inv-loop μ-loop
+order-of-requires c κs = search needs
+
 info-of-requires : tie.Need-info-of-requires Inv-loop μ-loop
 info-of-requires c κs = search needs
 
@@ -23,8 +26,14 @@ tail-words-requires c κs = search needs
 loop-holds : tie.Need-loop-holds Inv-loop μ-loop
 loop-holds c = search needs
 
+order-of-requires-2 : tie.Need-order-of-requires-2 Inv-loop μ-loop
+order-of-requires-2 c κs = search needs
+
 word-behind-requires : tie.Need-word-behind-requires Inv-loop μ-loop
 word-behind-requires c κs = search needs
+
+order-of-requires-3 : tie.Need-order-of-requires-3 Inv-loop μ-loop
+order-of-requires-3 c κs = search needs
 
 word-behind-requires-2 : tie.Need-word-behind-requires-2 Inv-loop μ-loop
 word-behind-requires-2 c κs = search needs
@@ -56,11 +65,14 @@ same-tail-spec =
     (tie.spec
     Inv-loop
     μ-loop
+    order-of-requires
     info-of-requires
     kind-of-requires
     tail-words-requires
     loop-holds
+    order-of-requires-2
     word-behind-requires
+    order-of-requires-3
     word-behind-requires-2
     role-of-requires
     same-word-requires

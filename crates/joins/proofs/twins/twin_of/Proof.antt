@@ -14,6 +14,9 @@ abbrev μ-loop : tie.MeasureT-loop
 record-at-requires : tie.Need-record-at-requires Inv-loop μ-loop
 record-at-requires c κs = search needs
 
+order-of-requires : tie.Need-order-of-requires Inv-loop μ-loop
+order-of-requires c κs = search needs
+
 name-of-requires : tie.Need-name-of-requires Inv-loop μ-loop
 name-of-requires c κs = search needs
 
@@ -78,6 +81,7 @@ twin-of-spec =
     Inv-loop
     μ-loop
     record-at-requires
+    order-of-requires
     name-of-requires
     returns
     info-of-requires

@@ -51,7 +51,7 @@ loop-again c =
     let a = e .before in
     let k = a .before in
     let l = k .before .before in
-    leading-next (l .loop .inv) (omega (arith, k .before .loop-test .taken)) (k .kind-at .ensures) (a .is-alias .ensures) (e .if1 .left) _
+    leading-next (l .loop .inv) (omega (arith, k .before .loop-test .taken)) (k .kind-at .ensures) (a .is-alias .ensures) (e .if1 .left) _ _
     (c .word-of .ensures .shows) (c .word-of .ensures .says)
 
 record-of-requires-2 : tie.Need-record-of-requires-2 Inv-loop μ-loop

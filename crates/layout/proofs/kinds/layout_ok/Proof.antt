@@ -6,7 +6,6 @@ use Rattle.paper.specs.rules.Layout.{layoutOk}
 use Rattle.paper.specs.terms.Reading.{recordIn}
 use Rattle.paper.specs.rules.Table.{recordAt, kindOf}
 use Rattle.views.specs.Shown.{tableBy}
-use Rattle.paper.specs.rules.Word.{lowFirst}
 use Rattle.rows.proofs.RecordWords.{kind-read, third-read}
 use Rattle.layout.proofs.LayoutKinds.{layout-struct, layout-union, layout-array, layout-var, layout-func, layout-tag, layout-section, layout-other}
 use Rattle.paper.specs.rules.Size.{hasSmallSize}
@@ -15,13 +14,13 @@ use Rattle.layout.proofs.kinds.layout_ok.Statement.{statement}
 use Rattle.layout.proofs.kinds.layout_ok.Tie as tie
 
 -- the kind that was read is that of the type's record
-kind : (c : tie.After-kind-of) → c .kind-of .result ≡ kindOf (recordIn lowFirst (now (c .before .before .record-of .result)))
-kind c = kind-read _ refl (c .before .read .ensures) (c .kind-of .ensures)
+kind : (c : tie.After-kind-of) → c .kind-of .result ≡ kindOf (recordIn (c .before .before .before .before .before .before .args .view .order) (now (c .before .before .record-of .result)))
+kind c = kind-read _ _ refl (c .before .read .ensures) (c .kind-of .ensures)
 
 -- what the rules say of the record in the bytes, they say of the type
 of-type : (c : tie.After-kind-of) → let r = c .before .before in let a = r .before .before .before .before .args in
     let T = tableBy (now (a .base)) (now (a .b)) (now (a .index)) (a .view) in
-    layoutOk T (recordIn lowFirst (now (r .record-of .result))) ≡ layoutOk T (recordAt T (a .t .0))
+    layoutOk T (recordIn (a .view .order) (now (r .record-of .result))) ≡ layoutOk T (recordAt T (a .t .0))
 of-type c =
     let r = c .before .before in
     let a = r .before .before .before .before .args in
@@ -91,7 +90,7 @@ returns-5 c =
     let r = k .before .before in
     let a = r .before .before .before .before .args in
     let T = tableBy (now (a .base)) (now (a .b)) (now (a .index)) (a .view) in
-    let third = third-read (now (r .record-of .result)) refl (c .before .read2 .ensures) in
+    let third = third-read _ (now (r .record-of .result)) refl (c .before .read2 .ensures) in
     layout-var T _ (kind k) (m .match .keys5) (c .has-small-size .ensures ∙ ap (hasSmallSize T) third) ∙ of-type k
 
 returns-6 : tie.Need-returns-6

@@ -5,7 +5,6 @@ use native.Mathlib.Omega.{arith}
 use denote.Ref.{now}
 use Rattle.views.specs.Shown.{tableBy}
 use Rattle.paper.specs.terms.Reading.{recordIn}
-use Rattle.paper.specs.rules.Word.{lowFirst}
 use Rattle.spans.specs.Spanned.{memberAt}
 use Rattle.layout.proofs.Measured.{smallSize-told}
 use Rattle.layout.proofs.MembersLeft.{span-none, span-small}
@@ -58,10 +57,10 @@ returns c =
     let s = k .before .before in
     let start = s .before .before .before .before .before .before .before in
     let T = tableBy (now (start .args .base)) (now (start .args .b)) (now (start .args .index)) (start .args .view) in
-    span-small T (start .args .flag) (8 * start .args .size) (memberAt (now (start .args .bytes)) (start .args .at .0)) (s .before .before .read .ensures)
+    span-small T (start .args .flag) (8 * start .args .size) (memberAt (start .args .view .order) (now (start .args .bytes)) (start .args .at .0)) (s .before .before .read .ensures)
     (s .before .read2 .ensures)
     (smallSize-told T (s .before .before .read .result) (k .s .given .1) (s .size-of .ensures))
-    (recordIn lowFirst (now (c .before .base-record .result))) (c .before .base-record .ensures) (c .span-ends .ensures)
+    (recordIn (start .args .view .order) (now (c .before .base-record .result))) (c .before .base-record .ensures) (c .span-ends .ensures)
 
 returns-2 : tie.Need-returns-2
 returns-2 c =
@@ -69,7 +68,7 @@ returns-2 c =
     let start = s .before .before .before .before .before .before .before in
     let T = tableBy (now (start .args .base)) (now (start .args .b)) (now (start .args .index)) (start .args .view) in
     let type = s .before .before .read .ensures in
-    span-none T (start .args .flag) (8 * start .args .size) (memberAt (now (start .args .bytes)) (start .args .at .0)) type
+    span-none T (start .args .flag) (8 * start .args .size) (memberAt (start .args .view .order) (now (start .args .bytes)) (start .args .at .0)) type
     (smallSize-told T (s .before .before .read .result) (c .enum-told .given .1) (s .size-of .ensures))
 
 returns-3 : tie.Need-returns-3
@@ -78,7 +77,7 @@ returns-3 c =
     let start = s .before .before .before .before .before .before .before in
     let T = tableBy (now (start .args .base)) (now (start .args .b)) (now (start .args .index)) (start .args .view) in
     let type = s .before .before .read .ensures in
-    span-none T (start .args .flag) (8 * start .args .size) (memberAt (now (start .args .bytes)) (start .args .at .0)) type
+    span-none T (start .args .flag) (8 * start .args .size) (memberAt (start .args .view .order) (now (start .args .bytes)) (start .args .at .0)) type
     (smallSize-told T (s .before .before .read .result) (c .enum-told2 .given .1) (s .size-of .ensures))
 
 returns-4 : tie.Need-returns-4
@@ -87,7 +86,7 @@ returns-4 c =
     let start = s .before .before .before .before .before .before .before in
     let T = tableBy (now (start .args .base)) (now (start .args .b)) (now (start .args .index)) (start .args .view) in
     let type = s .before .before .read .ensures in
-    span-none T (start .args .flag) (8 * start .args .size) (memberAt (now (start .args .bytes)) (start .args .at .0)) type
+    span-none T (start .args .flag) (8 * start .args .size) (memberAt (start .args .view .order) (now (start .args .bytes)) (start .args .at .0)) type
     (smallSize-told T (s .before .before .read .result) (c .enum-told3 .given .1) (s .size-of .ensures))
 
 returns-5 : tie.Need-returns-5
@@ -96,7 +95,7 @@ returns-5 c =
     let start = s .before .before .before .before .before .before .before in
     let T = tableBy (now (start .args .base)) (now (start .args .b)) (now (start .args .index)) (start .args .view) in
     let type = s .before .before .read .ensures in
-    span-none T (start .args .flag) (8 * start .args .size) (memberAt (now (start .args .bytes)) (start .args .at .0)) type
+    span-none T (start .args .flag) (8 * start .args .size) (memberAt (start .args .view .order) (now (start .args .bytes)) (start .args .at .0)) type
     (smallSize-told T (s .before .before .read .result) (c .enum-told4 .given .1) (s .size-of .ensures))
 
 pub member-ok-spec : {M : Type 1} → statement M

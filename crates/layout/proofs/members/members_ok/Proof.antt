@@ -4,7 +4,6 @@ use mathlib.Core.Path.{refl}
 use native.Mathlib.Omega.{arith}
 use denote.Ref.{now}
 use Rattle.paper.specs.terms.Reading.{recordIn}
-use Rattle.paper.specs.rules.Word.{lowFirst}
 use Rattle.views.specs.Shown.{tableBy}
 use Rattle.rows.proofs.RecordWords.{kind-read, flag-read, third-read}
 use Rattle.layout.proofs.MembersLeft.{Laying, laying-start, laying-done, laying-bad, laying-falls, laying-next}
@@ -14,7 +13,7 @@ use Rattle.layout.proofs.members.members_ok.Tie as tie
 
 abbrev Inv-loop : tie.InvT-loop
 Inv-loop base b index view bytes info size flag kind p₀ left₀ before₀ p left before =
-    Laying (tableBy base b index view) (recordIn lowFirst bytes) bytes p left before
+    Laying (tableBy base b index view) (recordIn (view .order) bytes) (view .order) bytes p left before
 
 abbrev μ-loop : tie.MeasureT-loop
 μ-loop base b index view bytes info size flag kind p₀ left₀ before₀ p left before = left
@@ -38,7 +37,7 @@ loop-holds : tie.Need-loop-holds Inv-loop μ-loop
 loop-holds c =
     let r = c .before .before .before .before in
     let start = r .before .before .before .before .before in
-    laying-start (tableBy (now (start .args .base)) (now (start .args .b)) (now (start .args .index)) (start .args .view)) (now (start .args .bytes))
+    laying-start (tableBy (now (start .args .base)) (now (start .args .b)) (now (start .args .index)) (start .args .view)) (start .args .view .order) (now (start .args .bytes))
     (r .read .ensures) (c .tail-words .ensures)
 
 member-ok-requires : tie.Need-member-ok-requires Inv-loop μ-loop
@@ -53,8 +52,8 @@ returns c =
     let f = k .before in
     let r = f .before .before in
     let bytes = now (r .before .before .before .before .before .args .bytes) in
-    let flag = flag-read bytes refl (r .read .ensures) (f .flag-of .ensures) in
-    let size = third-read bytes refl (f .before .read2 .ensures) in
+    let flag = flag-read _ bytes refl (r .read .ensures) (f .flag-of .ensures) in
+    let size = third-read _ bytes refl (f .before .read2 .ensures) in
     laying-bad (l .loop .inv) (c .before .before .loop-test .taken) flag size (c .before .member-ok .ensures) (c .if1 .taken)
 
 add-third : tie.Need-add-third Inv-loop μ-loop
@@ -78,9 +77,9 @@ returns-2 c =
     let f = k .before in
     let r = f .before .before in
     let bytes = now (r .before .before .before .before .before .args .bytes) in
-    let flag = flag-read bytes refl (r .read .ensures) (f .flag-of .ensures) in
-    let size = third-read bytes refl (f .before .read2 .ensures) in
-    let kind = kind-read bytes refl (r .read .ensures) (k .kind-of .ensures) in
+    let flag = flag-read _ bytes refl (r .read .ensures) (f .flag-of .ensures) in
+    let size = third-read _ bytes refl (f .before .read2 .ensures) in
+    let kind = kind-read _ bytes refl (r .read .ensures) (k .kind-of .ensures) in
     laying-falls (l .loop .inv) (e .before .before .loop-test .taken) flag size (e .before .member-ok .ensures) (e .if1 .left)
     (o .before .read3 .ensures) (o .bit-offset .ensures) kind (c .before .follows .ensures) (c .if2 .taken)
 
@@ -99,9 +98,9 @@ loop-again c =
     let f = k .before in
     let r = f .before .before in
     let bytes = now (r .before .before .before .before .before .args .bytes) in
-    let flag = flag-read bytes refl (r .read .ensures) (f .flag-of .ensures) in
-    let size = third-read bytes refl (f .before .read2 .ensures) in
-    let kind = kind-read bytes refl (r .read .ensures) (k .kind-of .ensures) in
+    let flag = flag-read _ bytes refl (r .read .ensures) (f .flag-of .ensures) in
+    let size = third-read _ bytes refl (f .before .read2 .ensures) in
+    let kind = kind-read _ bytes refl (r .read .ensures) (k .kind-of .ensures) in
     laying-next (l .loop .inv) (e .before .before .loop-test .taken) flag size (e .before .member-ok .ensures) (e .if1 .left)
     (o .before .read3 .ensures) (o .bit-offset .ensures) kind (c .before .follows .ensures) (c .if2 .left)
 

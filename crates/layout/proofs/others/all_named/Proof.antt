@@ -8,10 +8,10 @@ use Rattle.layout.proofs.others.all_named.Statement.{statement}
 use Rattle.layout.proofs.others.all_named.Tie as tie
 
 abbrev Inv-loop : tie.InvT-loop
-Inv-loop bytes p₀ left₀ p left = Naming bytes p left
+Inv-loop order bytes p₀ left₀ p left = Naming order bytes p left
 
 abbrev μ-loop : tie.MeasureT-loop
-μ-loop bytes p₀ left₀ p left = left
+μ-loop order bytes p₀ left₀ p left = left
 
 read-requires : tie.Need-read-requires Inv-loop μ-loop
 read-requires c κs = search needs
@@ -20,7 +20,7 @@ tail-words-requires : tie.Need-tail-words-requires Inv-loop μ-loop
 tail-words-requires c κs = search needs
 
 loop-holds : tie.Need-loop-holds Inv-loop μ-loop
-loop-holds c = let r = c .before in naming-start (now (r .before .before .args .bytes)) (r .read .ensures) (c .tail-words .ensures)
+loop-holds c = let r = c .before in naming-start _ (now (r .before .before .args .bytes)) (r .read .ensures) (c .tail-words .ensures)
 
 read-requires-2 : tie.Need-read-requires-2 Inv-loop μ-loop
 read-requires-2 c κs = search needs
@@ -30,8 +30,8 @@ returns c =
     let d = c .before .before in
     naming-inner (d .before .before .loop .inv) (d .before .loop-test .taken) (d .read2 .ensures) (c .before .if1 .taken) (c .if2 .taken)
 
-add-t11 : tie.Need-add-t11 Inv-loop μ-loop
-add-t11 c = omega (arith, c .before .before .before .before .loop .inv .near)
+add-t12 : tie.Need-add-t12 Inv-loop μ-loop
+add-t12 c = omega (arith, c .before .before .before .before .loop .inv .near)
 
 read-requires-3 : tie.Need-read-requires-3 Inv-loop μ-loop
 read-requires-3 c κs = search needs
@@ -65,7 +65,7 @@ all-named-spec =
     loop-holds
     read-requires-2
     returns
-    add-t11
+    add-t12
     read-requires-3
     returns-2
     add-p

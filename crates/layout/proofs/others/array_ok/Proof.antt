@@ -3,7 +3,6 @@
 use denote.Ref.{now}
 use Rattle.views.specs.Shown.{tableBy}
 use Rattle.paper.specs.terms.Reading.{recordIn}
-use Rattle.paper.specs.rules.Word.{lowFirst}
 use Rattle.rows.proofs.RecordWords.{element-read, index-read}
 use Rattle.layout.proofs.OtherTests.{array-sizeless, array-index}
 use borrow.Author.Needs.{needs}
@@ -21,8 +20,8 @@ returns c =
     let h = c .before in
     let start = h .before .before .before .before .before .before in
     let bytes = now (start .args .bytes) in
-    array-sizeless (tableBy (now (start .args .base)) (now (start .args .b)) (now (start .args .index)) (start .args .view)) (recordIn lowFirst bytes)
-    (element-read bytes (start .pre) (h .before .read .ensures)) (h .has-size .ensures) (c .if1 .taken)
+    array-sizeless (tableBy (now (start .args .base)) (now (start .args .b)) (now (start .args .index)) (start .args .view)) (recordIn (start .args .view .order) bytes)
+    (element-read _ bytes (start .pre) (h .before .read .ensures)) (h .has-size .ensures) (c .if1 .taken)
 
 read-requires-2 : tie.Need-read-requires-2
 read-requires-2 c κs = search needs
@@ -40,9 +39,9 @@ returns-2 c =
     let h = e .before in
     let start = h .before .before .before .before .before .before in
     let bytes = now (start .args .bytes) in
-    array-index (tableBy (now (start .args .base)) (now (start .args .b)) (now (start .args .index)) (start .args .view)) (recordIn lowFirst bytes)
-    (element-read bytes (start .pre) (h .before .read .ensures)) (h .has-size .ensures) (e .if1 .left)
-    (index-read bytes (start .pre) (q .before .read2 .ensures)) (recordIn lowFirst (now (q .record-of .result)))
+    array-index (tableBy (now (start .args .base)) (now (start .args .b)) (now (start .args .index)) (start .args .view)) (recordIn (start .args .view .order) bytes)
+    (element-read _ bytes (start .pre) (h .before .read .ensures)) (h .has-size .ensures) (e .if1 .left)
+    (index-read _ bytes (start .pre) (q .before .read2 .ensures)) (recordIn (start .args .view .order) (now (q .record-of .result)))
     (q .record-of .ensures .shows) (c .is-regular .ensures)
 
 pub array-ok-spec : {M : Type 1} → statement M

@@ -4,7 +4,6 @@ use mathlib.Core.Path.{refl}
 use denote.Ref.{now}
 use Rattle.views.specs.Shown.{tableBy}
 use Rattle.paper.specs.terms.Reading.{recordIn}
-use Rattle.paper.specs.rules.Word.{lowFirst}
 use Rattle.rows.proofs.RecordWords.{kind-read, vlen-read, third-read}
 use Rattle.layout.proofs.OtherTests.{components-struct, components-union, components-none, components-func}
 use borrow.Author.Needs.{needs}
@@ -26,9 +25,9 @@ returns c =
     let r = k .before in
     let start = r .before .before .before .before .before in
     let target = now (start .args .target) in
-    let kind = kind-read target refl (r .read .ensures) (k .kind-of .ensures) in
+    let kind = kind-read _ target refl (r .read .ensures) (k .kind-of .ensures) in
     let T = tableBy (now (start .args .base)) (now (start .args .b)) (now (start .args .index)) (start .args .view) in
-    components-struct T (recordIn lowFirst target) kind (c .before .if1 .taken) (vlen-read target refl (r .read .ensures) (c .vlen-of .ensures))
+    components-struct T (recordIn (start .args .view .order) target) kind (c .before .if1 .taken) (vlen-read _ target refl (r .read .ensures) (c .vlen-of .ensures))
 
 vlen-of-requires-2 : tie.Need-vlen-of-requires-2
 vlen-of-requires-2 c κs = search needs
@@ -39,9 +38,9 @@ returns-2 c =
     let r = k .before in
     let start = r .before .before .before .before .before in
     let target = now (start .args .target) in
-    let kind = kind-read target refl (r .read .ensures) (k .kind-of .ensures) in
+    let kind = kind-read _ target refl (r .read .ensures) (k .kind-of .ensures) in
     let T = tableBy (now (start .args .base)) (now (start .args .b)) (now (start .args .index)) (start .args .view) in
-    components-union T (recordIn lowFirst target) kind (c .before .if2 .taken) (vlen-read target refl (r .read .ensures) (c .vlen-of2 .ensures))
+    components-union T (recordIn (start .args .view .order) target) kind (c .before .if2 .taken) (vlen-read _ target refl (r .read .ensures) (c .vlen-of2 .ensures))
 
 returns-3 : tie.Need-returns-3
 returns-3 c =
@@ -49,9 +48,9 @@ returns-3 c =
     let r = k .before in
     let start = r .before .before .before .before .before in
     let target = now (start .args .target) in
-    let kind = kind-read target refl (r .read .ensures) (k .kind-of .ensures) in
+    let kind = kind-read _ target refl (r .read .ensures) (k .kind-of .ensures) in
     let T = tableBy (now (start .args .base)) (now (start .args .b)) (now (start .args .index)) (start .args .view) in
-    components-none T (recordIn lowFirst target) kind (c .before .before .if1 .left) (c .before .if2 .left) (c .if3 .taken)
+    components-none T (recordIn (start .args .view .order) target) kind (c .before .before .if1 .left) (c .before .if2 .left) (c .if3 .taken)
 
 read-requires-2 : tie.Need-read-requires-2
 read-requires-2 c κs = search needs
@@ -73,12 +72,12 @@ returns-4 c =
     let r = k .before in
     let start = r .before .before .before .before .before in
     let target = now (start .args .target) in
-    let kind = kind-read target refl (r .read .ensures) (k .kind-of .ensures) in
+    let kind = kind-read _ target refl (r .read .ensures) (k .kind-of .ensures) in
     let T = tableBy (now (start .args .base)) (now (start .args .b)) (now (start .args .index)) (start .args .view) in
     let proto = now (q .record-of .result) in
-    components-func T (recordIn lowFirst target) kind (e .before .before .if1 .left) (e .before .if2 .left) (e .if3 .left)
-    (third-read target refl (q .before .read2 .ensures)) (recordIn lowFirst proto) (q .record-of .ensures .shows)
-    (vlen-read proto refl (c .before .read3 .ensures) (c .vlen-of3 .ensures))
+    components-func T (recordIn (start .args .view .order) target) kind (e .before .before .if1 .left) (e .before .if2 .left) (e .if3 .left)
+    (third-read _ target refl (q .before .read2 .ensures)) (recordIn (start .args .view .order) proto) (q .record-of .ensures .shows)
+    (vlen-read _ proto refl (c .before .read3 .ensures) (c .vlen-of3 .ensures))
 
 pub components-of-spec : {M : Type 1} → statement M
 components-of-spec =

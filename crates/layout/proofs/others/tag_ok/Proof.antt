@@ -4,7 +4,6 @@ use mathlib.Core.Path.{refl}
 use denote.Ref.{now}
 use Rattle.views.specs.Shown.{tableBy}
 use Rattle.paper.specs.terms.Reading.{recordIn}
-use Rattle.paper.specs.rules.Word.{lowFirst}
 use Rattle.rows.proofs.RecordWords.{third-read, component-read}
 use Rattle.layout.proofs.OtherTests.{tag-whole, tag-part}
 use borrow.Author.Needs.{needs}
@@ -19,8 +18,8 @@ returns c =
     let r = c .before in
     let start = r .before .before .before .before .before in
     let bytes = now (start .args .bytes) in
-    tag-whole (tableBy (now (start .args .base)) (now (start .args .b)) (now (start .args .index)) (start .args .view)) (recordIn lowFirst bytes)
-    (component-read bytes (start .pre) (r .read .ensures)) (c .if1 .taken)
+    tag-whole (tableBy (now (start .args .base)) (now (start .args .b)) (now (start .args .index)) (start .args .view)) (recordIn (start .args .view .order) bytes)
+    (component-read _ bytes (start .pre) (r .read .ensures)) (c .if1 .taken)
 
 read-requires-2 : tie.Need-read-requires-2
 read-requires-2 c κs = search needs
@@ -38,9 +37,9 @@ returns-2 c =
     let r = e .before in
     let start = r .before .before .before .before .before in
     let bytes = now (start .args .bytes) in
-    tag-part (tableBy (now (start .args .base)) (now (start .args .b)) (now (start .args .index)) (start .args .view)) (recordIn lowFirst bytes)
-    (component-read bytes (start .pre) (r .read .ensures)) (e .if1 .left)
-    (third-read bytes refl (q .before .read2 .ensures)) (recordIn lowFirst (now (q .record-of .result))) (q .record-of .ensures .shows)
+    tag-part (tableBy (now (start .args .base)) (now (start .args .b)) (now (start .args .index)) (start .args .view)) (recordIn (start .args .view .order) bytes)
+    (component-read _ bytes (start .pre) (r .read .ensures)) (e .if1 .left)
+    (third-read _ bytes refl (q .before .read2 .ensures)) (recordIn (start .args .view .order) (now (q .record-of .result))) (q .record-of .ensures .shows)
     (c .components-of .ensures)
 
 pub tag-ok-spec : {M : Type 1} → statement M

@@ -4,7 +4,6 @@ use mathlib.Core.Path.{refl}
 use native.Mathlib.Omega.{arith}
 use denote.Ref.{now}
 use Rattle.paper.specs.terms.Reading.{recordIn}
-use Rattle.paper.specs.rules.Word.{lowFirst}
 use Rattle.views.specs.Shown.{tableBy}
 use Rattle.rows.proofs.RecordWords.{third-read}
 use Rattle.layout.proofs.EntriesLeft.{Setting, setting-start, setting-done, setting-short, setting-out, setting-next}
@@ -13,7 +12,8 @@ use Rattle.layout.proofs.sections.section_ok.Statement.{statement}
 use Rattle.layout.proofs.sections.section_ok.Tie as tie
 
 abbrev Inv-loop : tie.InvT-loop
-Inv-loop base b index view bytes end p₀ left₀ free₀ p left free = Setting (tableBy base b index view) (recordIn lowFirst bytes) bytes p left free
+Inv-loop base b index view bytes end p₀ left₀ free₀ p left free =
+    Setting (tableBy base b index view) (recordIn (view .order) bytes) (view .order) bytes p left free
 
 abbrev μ-loop : tie.MeasureT-loop
 μ-loop base b index view bytes end p₀ left₀ free₀ p left free = left
@@ -31,7 +31,7 @@ loop-holds : tie.Need-loop-holds Inv-loop μ-loop
 loop-holds c =
     let r = c .before in
     let start = r .before .before .before .before .before .before in
-    setting-start (tableBy (now (start .args .base)) (now (start .args .b)) (now (start .args .index)) (start .args .view)) (now (start .args .bytes))
+    setting-start (tableBy (now (start .args .base)) (now (start .args .b)) (now (start .args .index)) (start .args .view)) (start .args .view .order) (now (start .args .bytes))
     (r .read2 .ensures) (c .tail-words .ensures)
 
 read-requires-3 : tie.Need-read-requires-3 Inv-loop μ-loop
@@ -72,7 +72,7 @@ returns-2 c =
     let z = l .before .before .before in
     let bytes = now (z .before .before .before .before .before .args .bytes) in
     setting-out (l .loop .inv) (i .loop-test .taken) (v .before .before .read3 .ensures) (v .before .read4 .ensures) (v .read5 .ensures)
-    (e .before .covers .ensures) (e .if1 .left) (third-read bytes refl (z .read .ensures)) (c .before .placed .ensures) (c .if2 .taken)
+    (e .before .covers .ensures) (e .if1 .left) (third-read _ bytes refl (z .read .ensures)) (c .before .placed .ensures) (c .if2 .taken)
 
 cast-free : tie.Need-cast-free Inv-loop μ-loop
 cast-free c = search needs
@@ -98,7 +98,7 @@ loop-again c =
     let z = l .before .before .before in
     let bytes = now (z .before .before .before .before .before .args .bytes) in
     setting-next (l .loop .inv) (i .loop-test .taken) (v .before .before .read3 .ensures) (v .before .read4 .ensures) (v .read5 .ensures)
-    (e .before .covers .ensures) (e .if1 .left) (third-read bytes refl (z .read .ensures)) (c .before .placed .ensures) (c .if2 .left)
+    (e .before .covers .ensures) (e .if1 .left) (third-read _ bytes refl (z .read .ensures)) (c .before .placed .ensures) (c .if2 .left)
 
 returns-3 : tie.Need-returns-3 Inv-loop μ-loop
 returns-3 c = setting-done (c .before .loop .inv) (c .loop-test .left)

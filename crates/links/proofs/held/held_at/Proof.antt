@@ -16,7 +16,7 @@ is-held-requires c κs = search needs
 returns : tie.Need-returns
 returns c =
     let h = c .before in
-    held-not _ (h .before .before .before .pre) (h .before .role-of .ensures) (h .is-held .ensures) (c .if1 .taken)
+    held-not _ _ (h .before .before .before .pre) (h .before .role-of .ensures) (h .is-held .ensures) (c .if1 .taken)
 
 mul-at : tie.Need-mul-at
 mul-at c = let s = c .before .before .before .before in omega (arith, s .pre .within, length-rolesBy (s .args .info), tailLength-few (s .args .info))
@@ -28,7 +28,7 @@ returns-2 : tie.Need-returns-2
 returns-2 c =
     let h = c .before .before in
     let r = h .before in
-    held-word _ (r .before .before .pre) (r .role-of .ensures) (h .is-held .ensures) (c .before .if1 .left) (c .read .ensures)
+    held-word _ _ (r .before .before .pre) (r .role-of .ensures) (h .is-held .ensures) (c .before .if1 .left) (c .read .ensures)
 
 pub held-at-spec : {M : Type 1} → statement M
 held-at-spec = tie.close (tie.spec role-of-requires is-held-requires returns mul-at read-requires returns-2)

@@ -6,7 +6,6 @@ use native.Mathlib.Omega.{arith}
 use denote.Ref.{now}
 use Rattle.paper.specs.terms.Reading.{recordIn}
 use Rattle.paper.specs.rules.Table.{tailLength}
-use Rattle.paper.specs.rules.Word.{lowFirst}
 use Rattle.paper.proofs.bytes.Reading.{length-recordIn}
 use Rattle.rows.proofs.RoleCodes.{tailLength-few}
 use Rattle.links.proofs.Holds.{Looking, looking-start, looking-next, looking-found, looking-done, length-rolesBy}
@@ -15,10 +14,10 @@ use Rattle.links.proofs.held.next_held.Statement.{statement}
 use Rattle.links.proofs.held.next_held.Tie as tie
 
 abbrev Inv-loop : tie.InvT-loop
-Inv-loop bytes from info end i₀ i = Looking (recordIn lowFirst bytes) from i
+Inv-loop order bytes from info end i₀ i = Looking (recordIn order bytes) from i
 
 abbrev μ-loop : tie.MeasureT-loop
-μ-loop bytes from info end i₀ i = end - i
+μ-loop order bytes from info end i₀ i = end - i
 
 read-requires : tie.Need-read-requires Inv-loop μ-loop
 read-requires c κs = search needs
@@ -45,7 +44,7 @@ returns c =
     let h = c .before in
     let w = h .before .before .before in
     looking-found (h .before .before .loop .inv) (h .held-at .ensures) (c .if1 .taken)
-    (omega (arith, length-recordIn lowFirst (now (w .before .before .before .args .bytes)), w .tail-words .ensures, ap tailLength (w .before .read .ensures)))
+    (omega (arith, length-recordIn (w .before .before .before .args .order) (now (w .before .before .before .args .bytes)), w .tail-words .ensures, ap tailLength (w .before .read .ensures)))
 
 loop-less : tie.Need-loop-less Inv-loop μ-loop
 loop-less c = search needs
@@ -54,7 +53,7 @@ loop-again : tie.Need-loop-again Inv-loop μ-loop
 loop-again c = let h = c .before in looking-next (h .before .before .loop .inv) (h .held-at .ensures) (c .if1 .left)
 
 returns-2 : tie.Need-returns-2 Inv-loop μ-loop
-returns-2 c = let w = c .before .before in looking-done _ (c .before .loop .inv) (w .before .read .ensures) (w .tail-words .ensures) (c .loop-test .left)
+returns-2 c = let w = c .before .before in looking-done _ _ (c .before .loop .inv) (w .before .read .ensures) (w .tail-words .ensures) (c .loop-test .left)
 
 pub next-held-spec : {M : Type 1} → statement M
 next-held-spec =

@@ -25,7 +25,7 @@ returns c =
     let l = c .before .before in
     let k = l .before in
     let r = k .before .before in
-    link-leads _ _ _ (r .record-of .ensures .shows) (k .before .read .ensures) (k .kind-of .ensures) (l .is-link .ensures)
+    link-leads _ _ _ _ (r .record-of .ensures .shows) (k .before .read .ensures) (k .kind-of .ensures) (l .is-link .ensures)
     (c .before .if1 .taken) (c .read2 .ensures)
 
 returns-2 : tie.Need-returns-2
@@ -33,7 +33,7 @@ returns-2 c =
     let l = c .before in
     let k = l .before in
     let r = k .before .before in
-    link-none _ _ _ (r .record-of .ensures .shows) (k .before .read .ensures) (k .kind-of .ensures) (l .is-link .ensures) (c .if1 .left)
+    link-none _ _ _ _ (r .record-of .ensures .shows) (k .before .read .ensures) (k .kind-of .ensures) (l .is-link .ensures) (c .if1 .left)
 
 pub pointed-spec : {M : Type 1} → statement M
 pointed-spec =

@@ -13,6 +13,9 @@ Inv-loop blob index₀ n place₀ t₀ end₀ index place t end = (length index 
 abbrev μ-loop : tie.MeasureT-loop
 μ-loop blob index₀ n place₀ t₀ end₀ index place t end = end - t
 
+order-of-requires : tie.Need-order-of-requires Inv-loop μ-loop
+order-of-requires c κs = search needs
+
 loop-holds : tie.Need-loop-holds Inv-loop μ-loop
 loop-holds c = search needs
 
@@ -104,6 +107,7 @@ walk-spec =
     cast-index
     mul-index
     slice-write-index
+    order-of-requires
     info-of-requires
     tail-words-requires
     cast-place

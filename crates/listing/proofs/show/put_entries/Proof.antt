@@ -1,7 +1,6 @@
 -- `listing::show::put_entries` is safe and ends.
 -- Assumes nothing.
 use Prim.Native.Nat.{_-_}
-use native.Mathlib.Omega.{arith}
 use borrow.Author.Needs.{needs}
 use Rattle.listing.proofs.show.put_entries.Statement.{statement}
 use Rattle.listing.proofs.show.put_entries.Tie as tie
@@ -11,6 +10,9 @@ Inv-loop buf₀ blob index r info n o₀ i₀ buf o i = Unit {0}
 
 abbrev μ-loop : tie.MeasureT-loop
 μ-loop buf₀ blob index r info n o₀ i₀ buf o i = n - i
+
+order-of-requires : tie.Need-order-of-requires Inv-loop μ-loop
+order-of-requires c κs = search needs
 
 info-of-requires : tie.Need-info-of-requires Inv-loop μ-loop
 info-of-requires c κs = search needs
@@ -51,6 +53,7 @@ put-entries-spec =
     (tie.spec
     Inv-loop
     μ-loop
+    order-of-requires
     info-of-requires
     kind-of-requires
     entry-words-requires

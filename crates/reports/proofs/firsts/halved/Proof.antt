@@ -6,10 +6,10 @@ use Rattle.reports.proofs.firsts.halved.Statement.{statement}
 use Rattle.reports.proofs.firsts.halved.Tie as tie
 
 abbrev Inv-loop : tie.InvT-loop
-Inv-loop cut₀ len index work₀ n t number at info low₀ high₀ cut work low high = (low ≤ high) × (high ≤ 65536)
+Inv-loop cut₀ len index work₀ n t number order at info low₀ high₀ cut work low high = (low ≤ high) × (high ≤ 65536)
 
 abbrev μ-loop : tie.MeasureT-loop
-μ-loop cut₀ len index work₀ n t number at info low₀ high₀ cut work low high = high - low
+μ-loop cut₀ len index work₀ n t number order at info low₀ high₀ cut work low high = high - low
 
 vlen-of-requires : tie.Need-vlen-of-requires Inv-loop μ-loop
 vlen-of-requires c κs = search needs

@@ -7,8 +7,8 @@ use borrow.Author.Needs.{needs}
 use Rattle.reports.proofs.records.types_of.Statement.{statement}
 use Rattle.reports.proofs.records.types_of.Tie as tie
 
-read-requires : tie.Need-read-requires
-read-requires c κs = search needs
+blob-word-requires : tie.Need-blob-word-requires
+blob-word-requires c κs = search needs
 
 cast-end : tie.Need-cast-end
 cast-end c = search needs
@@ -32,7 +32,7 @@ pub types-of-spec : {M : Type 1} → statement M
 types-of-spec =
     tie.close
     (tie.spec
-    read-requires
+    blob-word-requires
     cast-end
     add-end
     slice-aggregate-result

@@ -2,7 +2,6 @@
 -- Assumes nothing.
 use denote.Ref.{now}
 use Rattle.paper.specs.terms.Reading.{recordIn}
-use Rattle.paper.specs.rules.Word.{lowFirst}
 use Rattle.rules.proofs.Dues.{due-head, due-named, due-tail, due-none}
 use borrow.Author.Needs.{needs}
 use Rattle.rules.proofs.phase.phase3.Statement.{statement}
@@ -15,7 +14,7 @@ returns : tie.Need-returns
 returns c =
     let h = c .before in
     let a = h .before .before .before .args in
-    let r = recordIn lowFirst (now (a .bytes)) in
+    let r = recordIn (a .order) (now (a .bytes)) in
     due-head (now (a .strings)) r (h .head-ok .ensures) (c .if1 .taken)
 
 names-ok-requires : tie.Need-names-ok-requires
@@ -26,7 +25,7 @@ returns-2 c =
     let e = c .before .before in
     let h = e .before in
     let a = h .before .before .before .args in
-    let r = recordIn lowFirst (now (a .bytes)) in
+    let r = recordIn (a .order) (now (a .bytes)) in
     due-named (now (a .strings)) r (h .head-ok .ensures) (e .if1 .left) (c .before .names-ok .ensures) (c .if2 .taken)
 
 tail-ok-requires : tie.Need-tail-ok-requires
@@ -38,7 +37,7 @@ returns-3 c =
     let e = n .before .before in
     let h = e .before in
     let a = h .before .before .before .args in
-    let r = recordIn lowFirst (now (a .bytes)) in
+    let r = recordIn (a .order) (now (a .bytes)) in
     due-tail (now (a .strings)) r (h .head-ok .ensures) (e .if1 .left) (n .before .names-ok .ensures) (n .if2 .left)
     (c .before .tail-ok .ensures) (c .if3 .taken)
 
@@ -48,7 +47,7 @@ returns-4 c =
     let e = n .before .before in
     let h = e .before in
     let a = h .before .before .before .args in
-    let r = recordIn lowFirst (now (a .bytes)) in
+    let r = recordIn (a .order) (now (a .bytes)) in
     due-none (now (a .strings)) r (h .head-ok .ensures) (e .if1 .left) (n .before .names-ok .ensures) (n .if2 .left)
     (c .before .tail-ok .ensures) (c .if3 .left)
 

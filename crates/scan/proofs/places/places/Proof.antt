@@ -7,9 +7,10 @@ use borrow.Author.Needs.{needs}
 use denote.Ref.{now}
 use lib.ListN.{length}
 use Rattle.paper.specs.rules.Gate.{indexOf}
+use Rattle.paper.specs.rules.Header.{orderOf}
 use Rattle.paper.specs.rules.Limits.{byteLimit}
 use Rattle.paper.specs.rules.Table.{tailLength}
-use Rattle.paper.specs.rules.Word.{lowFirst, wordAt}
+use Rattle.paper.specs.rules.Word.{wordAt}
 use Rattle.scan.proofs.Placing.{Placing, placing-start, placing-length, placing-inside, placing-room, placing-step, placing-done}
 use Rattle.scan.proofs.places.places.Statement.{statement}
 use Rattle.scan.proofs.places.places.Tie as tie
@@ -23,8 +24,8 @@ abbrev μ-loop : tie.MeasureT-loop
 -- the tail that was asked for is that of the record at the place
 tail-here : (c : tie.After-tail-words Inv-loop μ-loop) → let l = c .before .before .before in
     let a = l .before .before .before .before .before .before .before .args in
-    c .tail-words .result ≡ tailLength (wordAt lowFirst (now (a .b)) (l .loop .at + 4))
-tail-here c = c .tail-words .ensures ∙ ap tailLength (c .before .read .ensures)
+    c .tail-words .result ≡ tailLength (wordAt (orderOf (now (a .b))) (now (a .b)) (l .loop .at + 4))
+tail-here c = c .tail-words .ensures ∙ ap tailLength (c .before .blob-word .ensures)
 
 -- so that what is added stays small
 inside : (c : tie.After-tail-words Inv-loop μ-loop) → c .before .before .before .loop .at + (12 + 4 * c .tail-words .result) ≤ byteLimit
@@ -51,8 +52,8 @@ slice-write-index c = placing-room (c .before .loop .inv) (c .loop-test .taken)
 add-t15 : tie.Need-add-t15 Inv-loop μ-loop
 add-t15 c = omega (arith, placing-inside (c .before .loop .inv) (c .loop-test .taken))
 
-read-requires : tie.Need-read-requires Inv-loop μ-loop
-read-requires c κs = search needs
+blob-word-requires : tie.Need-blob-word-requires Inv-loop μ-loop
+blob-word-requires c κs = search needs
 
 tail-words-requires : tie.Need-tail-words-requires Inv-loop μ-loop
 tail-words-requires c κs = search needs
@@ -93,7 +94,7 @@ places-spec =
     mul-index
     slice-write-index
     add-t15
-    read-requires
+    blob-word-requires
     tail-words-requires
     mul-at
     add-at

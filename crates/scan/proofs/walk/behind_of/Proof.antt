@@ -18,12 +18,12 @@ use Rattle.scan.proofs.walk.behind_of.Tie as tie
 known-here : (c : tie.After-is-known) → let a = c .before .before .before .before .before .before .before .before .args in
     knownAt (now (a .b)) (a .at .0) ≡ c .is-known .result
 known-here c =
-    sym (c .is-known .ensures ∙ ap known (c .before .kind-of .ensures ∙ ap kindIn (c .before .before .read .ensures)))
+    sym (c .is-known .ensures ∙ ap known (c .before .kind-of .ensures ∙ ap kindIn (c .before .before .blob-word .ensures)))
 
 -- and so is the tail
 next-here : (c : tie.After-tail-words) → let a = c .before .before .before .before .before .before .before .before .before .before .args in
     nextPlace (now (a .b)) (a .at .0) ≡ a .at .0 + 12 + 4 * c .tail-words .result
-next-here c = omega (arith, c .tail-words .ensures ∙ ap tailLength (c .before .before .before .before .read .ensures))
+next-here c = omega (arith, c .tail-words .ensures ∙ ap tailLength (c .before .before .before .before .blob-word .ensures))
 
 sub-room : tie.Need-sub-room
 sub-room c = search needs
@@ -34,8 +34,8 @@ returns c = sym (way-behindOf (head-cut (omega arith)))
 add-is-known : tie.Need-add-is-known
 add-is-known c = search needs
 
-read-requires : tie.Need-read-requires
-read-requires c κs = search needs
+blob-word-requires : tie.Need-blob-word-requires
+blob-word-requires c κs = search needs
 
 kind-of-requires : tie.Need-kind-of-requires
 kind-of-requires c κs = search needs
@@ -50,7 +50,7 @@ tail-words-requires : tie.Need-tail-words-requires
 tail-words-requires c κs = search needs
 
 mul-tail : tie.Need-mul-tail
-mul-tail c = omega (arith, tailLength-few (c .before .before .before .before .read .result))
+mul-tail c = omega (arith, tailLength-few (c .before .before .before .before .blob-word .result))
 
 returns-3 : tie.Need-returns-3
 returns-3 c =
@@ -78,7 +78,7 @@ behind-of-spec =
     sub-room
     returns
     add-is-known
-    read-requires
+    blob-word-requires
     kind-of-requires
     is-known-requires
     returns-2

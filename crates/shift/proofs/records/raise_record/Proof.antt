@@ -30,7 +30,7 @@ returns : tie.Need-returns
 returns c =
     let w = c .before in
     let s = now (w .before .before .before .before .args .bytes) in
-    front-short s (recordLength-read s (w .before .read .ensures) (w .tail-words .ensures)) (omega (arith, c .if1 .taken))
+    front-short s (recordLength-read _ s (w .before .read .ensures) (w .tail-words .ensures)) (omega (arith, c .if1 .taken))
 
 slice-relend-prefix-put-record : tie.Need-slice-relend-prefix-put-record
 slice-relend-prefix-put-record c = search needs
@@ -44,7 +44,7 @@ put-record-requires c κs =
     let s = now (w .before .before .before .before .args .bytes) in
     let l = length-take-le (12 + 4 * w .tail-words .result) (w .before .before .before .before .args .out .now) (c .before .if1 .left) in
     record {
-      fits = sym (recordLength-read s (w .before .read .ensures) (w .tail-words .ensures)) ∙ sym l;
+      fits = sym (recordLength-read _ s (w .before .read .ensures) (w .tail-words .ensures)) ∙ sym l;
       small = omega (arith, l, w .tail-words .ensures, tailLength-few (w .before .read .result));
     }
 
@@ -56,7 +56,7 @@ returns-2 c =
     let p = c .before .before in
     let w = p .before .before .before in
     let s = now (w .before .before .before .before .args .bytes) in
-    front-fits s (recordLength-read s (w .before .read .ensures) (w .tail-words .ensures))
+    front-fits s (recordLength-read _ s (w .before .read .ensures) (w .tail-words .ensures))
     (omega (arith, p .before .before .if1 .left)) (p .put-record .ensures)
 
 pub raise-record-spec : {M : Type 1} → statement M

@@ -5,8 +5,8 @@ use mathlib.Core.Path.{_≡_, refl, ap, ap₂}
 use mathlib.Core.List.{List}
 use denote.Ref.{now}
 use lib.ListN.{drop}
-use Rattle.paper.specs.rules.Size.{Step, is, manyOf, sizeless, stepBy, stepIn}
-use Rattle.paper.specs.rules.Word.{lowFirst, wordAt}
+use Rattle.paper.specs.rules.Size.{Step, is, manyOf, stepBy, stepIn}
+use Rattle.paper.specs.rules.Word.{wordAt}
 use Rattle.kindrows.specs.Codes.{sizeRuleOf}
 use Rattle.sizes.proofs.SizeSteps.{sizeRuleOf-other}
 use Rattle.sizes.proofs.TableSizes.{stepIn-rule}
@@ -24,11 +24,12 @@ bytes c =
 
 -- what its words say by the rule is what it says
 told : (c : tie.After-size-rule) {x : Step}
-    → x ≡ stepBy (sizeRuleOf (c .size-rule .result)) (wordAt lowFirst (bytes c) 8) (wordAt lowFirst (bytes c) 12) (wordAt lowFirst (bytes c) 20)
-    → let a = c .before .before .before .before .before .args in x ≡ stepIn (tableBy (now (a .base)) (now (a .b)) (now (a .index)) (a .view)) (a .t .0)
+    → let a = c .before .before .before .before .before .args in
+    x ≡ stepBy (sizeRuleOf (c .size-rule .result)) (wordAt (a .view .order) (bytes c) 8) (wordAt (a .view .order) (bytes c) 12) (wordAt (a .view .order) (bytes c) 20)
+    → x ≡ stepIn (tableBy (now (a .base)) (now (a .b)) (now (a .index)) (a .view)) (a .t .0)
 told c says =
     let a = c .before .before .before .before .before .args in
-    stepIn-rule _ (a .t .0) (bytes c)
+    stepIn-rule _ (a .t .0) (a .view .order) (bytes c)
     (startBy-record (now (a .base)) (now (a .b)) (now (a .index)) (a .view) (a .t .0)) (c .before .kind-at .ensures) (c .size-rule .ensures) says
 
 kind-at-requires : tie.Need-kind-at-requires

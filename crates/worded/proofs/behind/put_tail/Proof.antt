@@ -11,6 +11,9 @@ Inv-loop buf₀ blob index r place look number kind n i₀ o₀ left₀ buf i o 
 abbrev μ-loop : tie.MeasureT-loop
 μ-loop buf₀ blob index r place look number kind n i₀ o₀ left₀ buf i o left = n - i
 
+order-of-requires : tie.Need-order-of-requires Inv-loop μ-loop
+order-of-requires c κs = search needs
+
 info-of-requires : tie.Need-info-of-requires Inv-loop μ-loop
 info-of-requires c κs = search needs
 
@@ -65,6 +68,7 @@ put-tail-spec =
     (tie.spec
     Inv-loop
     μ-loop
+    order-of-requires
     info-of-requires
     kind-of-requires
     words-there-requires
