@@ -114,7 +114,7 @@ module _ {A B : Table} {type name : ℕ → ℕ} (R : Renaming A B type name)
   -- ── members ──
 
   -- STRUCT and UNION are alike but for their offsets
-  members-kind : (r : Record) → member (kindOf r) (STRUCT ∷ UNION ∷ []) ≡ true
+  pub members-kind : (r : Record) → member (kindOf r) (STRUCT ∷ UNION ∷ []) ≡ true
       → (rename type name r .third ≡ r .third) × (tailRoles r ≡ times (vlenOf r) memberRoles) × (Whole r → length (r .tail) ≡ 0 + vlenOf r * 3)
   unfolding memberRoles rowOf rows
   members-kind r e =
@@ -132,20 +132,33 @@ module _ {A B : Table} {type name : ℕ → ℕ} (R : Renaming A B type name)
   memberOk-rename r m third h =
       ap₂ (λ (n : ℕ) (s : Option Span). endsBy (8 * n) s) third (spanOf-rename R sound-refs ends (flagOf r) m h)
 
+  -- the members of a renamed record are its members renamed
+  pub members-rename : (r : Record) → Whole r → member (kindOf r) (STRUCT ∷ UNION ∷ []) ≡ true
+      → membersOf (rename type name r) ≡ map (renameMember type name) (membersOf r)
+  unfolding rename
+  members-rename r w e =
+      let k = members-kind r e in
+      let len = k .2 w in
+      ap (λ (ρs : List Role). membersIn (renameWords type name ρs (r .tail))) (k .1) ∙ membersIn-rename type name (vlenOf r) (r .tail) (omega arith)
+
+  -- two tests that agree at members whose type is inside the table agree at a record's
+  pub members-agree : (r : Record) → Inside A r → Whole r → member (kindOf r) (STRUCT ∷ UNION ∷ []) ≡ true
+      → (f g : Member → Bool) → ((m : Member) → m .type ≤ count A → g m ≡ f m) → every g (membersOf r) ≡ every f (membersOf r)
+  members-agree r in-A w e f g h =
+      let k = members-kind r e in
+      let len = k .2 w in
+      members-every A f g h (vlenOf r) (r .tail) (omega arith) (ap (λ (ρs : List Role). everyRoled (inside A) ρs (r .tail)) (sym (k .1)) ∙ inside-tail A r in-A)
+
   membersOk-rename : (r : Record) → Inside A r → Whole r → member (kindOf r) (STRUCT ∷ UNION ∷ []) ≡ true
       → membersOk B (rename type name r) ≡ membersOk A r
   unfolding membersOk offsetsOk rename
   membersOk-rename r in-A w e =
-      let k = members-kind r e in
-      let len = k .2 w in
-      let short : length (r .tail) ≤ vlenOf r * 3 = omega arith in
-      let same : membersOf (rename type name r) ≡ map (renameMember type name) (membersOf r) =
-      ap (λ (ρs : List Role). membersIn (renameWords type name ρs (r .tail))) (k .1) ∙ membersIn-rename type name (vlenOf r) (r .tail) short in
+      let same = members-rename r w e in
       ap₂ _&&_
       (ap (every (memberOk B (rename type name r))) same
       ∙ every-map (memberOk B (rename type name r)) (renameMember type name) (membersOf r)
-      ∙ members-every A (memberOk A r) (λ (m : Member). memberOk B (rename type name r) (renameMember type name m)) (λ m h. memberOk-rename r m (k .0) h)
-      (vlenOf r) (r .tail) short (ap (λ (ρs : List Role). everyRoled (inside A) ρs (r .tail)) (sym (k .1)) ∙ inside-tail A r in-A))
+      ∙ members-agree r in-A w e (memberOk A r) (λ (m : Member). memberOk B (rename type name r) (renameMember type name m))
+      (λ m h. memberOk-rename r m (members-kind r e .0) h))
       (ap (λ (os : List ℕ). cond (eqb (kindOf r) UNION) (every (eqb 0) os) (notFalling 0 os))
       (ap (map (bitOffset (flagOf r))) same ∙ offsets-rename type name (flagOf r) (membersOf r)))
 
