@@ -4,7 +4,6 @@ pub mod walks
 pub mod renaming
 pub mod gates
 pub mod joins
-pub mod values
 pub mod Demands
 pub mod Outcomes
 pub mod Questions

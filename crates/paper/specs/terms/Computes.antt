@@ -20,7 +20,6 @@ use Rattle.paper.specs.rules.Layout.{memberOk, offsetsOk, membersOk, arr
 use Rattle.paper.specs.rules.Gate.{phase1, phase2, shortSlices, phase3, phase4, phase5, phase6, overTypes, tableReport, refusal, indexOf, gate}
 use Rattle.paper.specs.rules.Rename.{rename}
 use Rattle.paper.specs.rules.Join.{joinTables, joinedBytes, limitReport, joinRefusal, join}
-use Rattle.paper.specs.rules.Value.{valueOf, filled, spanBits, isNumeric, isSigned, readMember}
 
 unfoldable pub computes : Unit {0}
 unfolding reportAsPaper checkedAsPaper sizedAsPaper joinedAsPaper wordAt putWord rows rowOf tailLength tailRoles orderOf typeOff typeLen strOff
@@ -29,5 +28,5 @@ unfolding reportAsPaper checkedAsPaper sizedAsPaper joinedAsPaper wordAt putWord
     linkageWordOk isLast00 tailOk tailBad isPlain refOk refsOk refBad heldBy pointedBy endless stepIn exactSize hasSize smallSize hasSmallSize
     stepAtPlace stepAt sizeAsked sizeOf baseOf isRegularWord isRegular wholeSpan plainSpan fieldSpan spanOf entryCovers sectionOk
     memberOk offsetsOk membersOk arrayOk functionOk componentsOf tagOk layoutOk layoutBad phase1 phase2 shortSlices phase3 phase4 phase5
-    phase6 overTypes tableReport refusal indexOf gate rename joinTables joinedBytes limitReport joinRefusal join valueOf filled spanBits isNumeric isSigned readMember
+    phase6 overTypes tableReport refusal indexOf gate rename joinTables joinedBytes limitReport joinRefusal join
 computes = tt

@@ -6,11 +6,11 @@ use mathlib.Core.List.{List, [], _∷_}
 use lib.Dec.{eqb}
 use lib.IntN.{ℤ, pos, negsuc}
 use lib.ListN.{replicate}
 use Rattle.paper.proofs.Bench.{failing}
 use Rattle.paper.specs.rules.KindNo.{INT, PTR, STRUCT, ENUM, TYPEDEF}
 use Rattle.paper.specs.rules.Table.{Record, Table}
-use Rattle.paper.specs.rules.Value.{Read, refused, reads, numberOf, valueOf, filled, readMember}
+use Rattle.values.specs.Value.{Read, refused, reads, bitsNumber, valueOf, filledUp, spanBits, isNumeric, isSigned, readMember}
 use Rattle.paper.specs.terms.Computes.{computes}
 
 -- ── a table, and what is asked of it ──
 
@@ -66,9 +66,9 @@ readBenches =
     ∷ isRead 2 3 (pos 2) (readMember T 10 0 (0xeb ∷ 0xff ∷ []))
     -- 9: a span of 128 bits
     ∷ isRead 64 128 (negsuc 1) (readMember T 9 7 (0 ∷ 0 ∷ 0 ∷ 0 ∷ 0 ∷ 0 ∷ 0 ∷ 0 ∷ 0xfe ∷ replicate 15 0xff))
-    -- 10, 11: filled to 128 bits with the sign, or with zeros
-    ∷ eqb (numberOf (filled true (1 ∷ 0 ∷ 1 ∷ []))) (2 ^ 128 - 3)
-    ∷ eqb (numberOf (filled false (1 ∷ 0 ∷ 1 ∷ []))) 5
+    -- 10, 11: filled up to 128 bits with the sign, or with zeros
+    ∷ eqb (bitsNumber (filledUp true (1 ∷ 0 ∷ 1 ∷ []))) (2 ^ 128 - 3)
+    ∷ eqb (bitsNumber (filledUp false (1 ∷ 0 ∷ 1 ∷ []))) 5
     -- 12 to 17: 21; 31 of void and before 30; 30 before 32; 32; 33 of a pointer
     ∷ isRefused 21 (readMember T 11 0 [])
     ∷ isRefused 31 (readMember T 0 0 [])
@@ -79,5 +79,5 @@ readBenches =
     ∷ []
 
 pub read-benches-hold : failing 1 readBenches ≡ []
-unfolding computes
+unfolding computes valueOf filledUp spanBits isNumeric isSigned readMember
 read-benches-hold = refl

@@ -9,24 +9,24 @@ use native.Mathlib.Omega.{arith}
 use borrow.Author.Tests.{eqb-true, leb-true, le-leb, lt-leb, le-ltb, lt-ltb}
 use lib.Dec.{eqb, leb, ltb}
 use lib.ListN.{length, getD, List·getD-map}
 use Rattle.paper.proofs.basics.Choices.{cond-cong, every-getD}
 use Rattle.paper.proofs.joins.Joining.{good-whole}
 use Rattle.paper.proofs.renaming.Renaming.{Renaming, Inside}
 use Rattle.paper.proofs.renaming.RenamingBases.{baseOf-rename}
 use Rattle.paper.proofs.renaming.RenamingLayout.{members-kind, members-rename, members-agree}
 use Rattle.paper.proofs.renaming.RenamingSizes.{type-0, name-0}
 use Rattle.paper.proofs.renaming.RenamingSpans.{renameMember, spanOf-rename}
 use Rattle.paper.proofs.renaming.RenamingTails.{intWord-rename}
 use Rattle.paper.proofs.walks.Insides.{sound-refs, sound-ends, sound-inside}
 use Rattle.paper.specs.rules.Choice.{_when_, firstDue, member, every}
 use Rattle.paper.specs.rules.KindNo.{INT, STRUCT, UNION}
 use Rattle.paper.specs.rules.Rename.{rename}
 use Rattle.paper.specs.rules.Span.{Member, Span, membersOf, baseOf, spanOf}
 use Rattle.paper.specs.rules.Table.{Record, Table, count, recordAt, kindOf, vlenOf, flagOf}
 use Rattle.paper.specs.rules.Tails.{encodingIn}
-use Rattle.paper.specs.rules.Value.{isNumeric, isSigned, noMember, memberOf, Read, refused, readSpan, readUnless, readRecord, readMember}
+use Rattle.values.specs.Value.{isNumeric, isSigned, noMember, memberOf, Read, refused, readSpan, readUnless, readRecord, readMember}
 use Rattle.paper.specs.terms.Fit.{Whole}
 use Rattle.paper.specs.terms.Good.{Good}
 
 abbrev structs : List ℕ
 structs = STRUCT ∷ UNION ∷ []

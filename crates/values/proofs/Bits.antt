@@ -11,10 +11,10 @@ use lib.Dec.{eqb}
 use lib.IntN.{ℤ, pos, negsuc}
 use lib.Pow.{pow-add}
 use lib.ListN.{length, replicate, length-append, length-replicate}
 use Rattle.paper.specs.rules.Span.{Span}
-use Rattle.paper.specs.rules.Value.{bitsOf, recordBits, numberOf, topBit, valueOf, filled, spanBits}
+use Rattle.values.specs.Value.{bitsOf, recordBits, bitsNumber, topBit, valueOf, filledUp, spanBits}
 use Rattle.paper.specs.terms.Fit.{Below}
 use Rattle.paper.proofs.bytes.Bytes.{below-append, below-take, below-drop}
 
 -- ── how many, and each 0 or 1 ──
 
@@ -43,16 +43,16 @@ bits-spanBits p s = below-take 2 (p .size) _ (below-drop 2 (p .from) _ (bits-rec
 -- ── numbers ──
 
 -- an unsigned value is below 2^bits
-pub number-bound : (xs : List ℕ) → Below 2 xs → numberOf xs < 2 ^ length xs
+pub number-bound : (xs : List ℕ) → Below 2 xs → bitsNumber xs < 2 ^ length xs
 number-bound [] h = omega arith
 number-bound (x ∷ xs) h =
     let rest = number-bound xs (h .1) in let twice = pow-suc 2 (length xs) in let low = h .0 in omega arith
 
-pub number-append : (xs ys : List ℕ) → numberOf (xs ++ ys) ≡ numberOf xs + 2 ^ length xs * numberOf ys
+pub number-append : (xs ys : List ℕ) → bitsNumber (xs ++ ys) ≡ bitsNumber xs + 2 ^ length xs * bitsNumber ys
 number-append [] ys = omega arith
 number-append (x ∷ xs) ys =
     let rest = number-append xs ys in
-    let twice = ap (λ (p : ℕ). p * numberOf ys) (pow-suc 2 (length xs)) ∙ mul-right-comm (2 ^ length xs) 2 (numberOf ys) in
+    let twice = ap (λ (p : ℕ). p * bitsNumber ys) (pow-suc 2 (length xs)) ∙ mul-right-comm (2 ^ length xs) 2 (bitsNumber ys) in
     omega arith
 
 -- ── the sign ──
@@ -67,12 +67,12 @@ not-one zero h e = refl
 not-one (suc zero) h e = absurd (eqb-false 1 1 e refl)
 not-one (suc (suc b)) h e = absurd (omega arith)
 
-top-low : (x : ℕ) (xs : List ℕ) → Below 2 (x ∷ xs) → topBit (x ∷ xs) ≡ 0 → numberOf (x ∷ xs) < 2 ^ length xs
+top-low : (x : ℕ) (xs : List ℕ) → Below 2 (x ∷ xs) → topBit (x ∷ xs) ≡ 0 → bitsNumber (x ∷ xs) < 2 ^ length xs
 top-low x [] h e = omega arith
 top-low x (y ∷ ys) h e =
     let rest = top-low y ys (h .1) e in let twice = pow-suc 2 (length ys) in let low = h .0 in omega arith
 
-top-high : (x : ℕ) (xs : List ℕ) → topBit (x ∷ xs) ≡ 1 → 2 ^ length xs ≤ numberOf (x ∷ xs)
+top-high : (x : ℕ) (xs : List ℕ) → topBit (x ∷ xs) ≡ 1 → 2 ^ length xs ≤ bitsNumber (x ∷ xs)
 top-high x [] e = omega arith
 top-high x (y ∷ ys) e = let rest = top-high y ys e in let twice = pow-suc 2 (length ys) in omega arith
 
@@ -90,24 +90,24 @@ value-signed n (x ∷ xs) h e =
     subst (λ (k : ℕ). Signed k (valueOf true (x ∷ xs))) same (go (eqb (topBit (x ∷ xs)) 1) refl)
   where
     go : (b : Bool) → eqb (topBit (x ∷ xs)) 1 ≡ b
-        → Signed (length xs) (cond b (negsuc (2 ^ suc (length xs) - suc (numberOf (x ∷ xs)))) (pos (numberOf (x ∷ xs))))
+        → Signed (length xs) (cond b (negsuc (2 ^ suc (length xs) - suc (bitsNumber (x ∷ xs)))) (pos (bitsNumber (x ∷ xs))))
     go true e =
         let high = top-high x xs (eqb-true _ _ e) in let twice = pow-suc 2 (length xs) in let all = number-bound (x ∷ xs) h in omega arith
     go false e = top-low x xs h (not-one (topBit (x ∷ xs)) (top-bit (x ∷ xs) h) e)
 
--- ── filled to 128 bits ──
+-- ── filled up to 128 bits ──
 
-pub length-filled : (signed : Bool) (xs : List ℕ) → length xs ≤ 128 → length (filled signed xs) ≡ 128
-unfolding filled
+pub length-filled : (signed : Bool) (xs : List ℕ) → length xs ≤ 128 → length (filledUp signed xs) ≡ 128
+unfolding filledUp
 length-filled signed xs h =
     let fill = length-replicate (128 - length xs) (cond signed (topBit xs) 0) in
     length-append xs (replicate (128 - length xs) (cond signed (topBit xs) 0)) ∙ omega arith
 
-zeros-number : (n : ℕ) → numberOf (replicate n 0) ≡ 0
+zeros-number : (n : ℕ) → bitsNumber (replicate n 0) ≡ 0
 zeros-number zero = refl
 zeros-number (suc n) = let rest = zeros-number n in omega arith
 
-ones-number : (n : ℕ) → suc (numberOf (replicate n 1)) ≡ 2 ^ n
+ones-number : (n : ℕ) → suc (bitsNumber (replicate n 1)) ≡ 2 ^ n
 ones-number zero = refl
 ones-number (suc n) = let rest = ones-number n in let twice = pow-suc 2 n in omega arith
 
@@ -117,28 +117,28 @@ StandsFor x (pos k) = x ≡ k
 StandsFor x (negsuc k) = x + suc k ≡ 2 ^ 128
 
 module _ (xs : List ℕ) (bits : Below 2 xs) where
-  with-zeros : (n : ℕ) → numberOf (xs ++ replicate n 0) ≡ numberOf xs
+  with-zeros : (n : ℕ) → bitsNumber (xs ++ replicate n 0) ≡ bitsNumber xs
   with-zeros n =
-      number-append xs (replicate n 0) ∙ ap (λ (k : ℕ). numberOf xs + 2 ^ length xs * k) (zeros-number n) ∙ omega arith
+      number-append xs (replicate n 0) ∙ ap (λ (k : ℕ). bitsNumber xs + 2 ^ length xs * k) (zeros-number n) ∙ omega arith
 
   with-ones : (n : ℕ) → length xs ≤ n
-      → numberOf (xs ++ replicate (n - length xs) 1) + suc (2 ^ length xs - suc (numberOf xs)) ≡ 2 ^ n
+      → bitsNumber (xs ++ replicate (n - length xs) 1) + suc (2 ^ length xs - suc (bitsNumber xs)) ≡ 2 ^ n
   with-ones n few =
       let below = number-bound xs bits in
-      let more = mul-suc (2 ^ length xs) (numberOf (replicate (n - length xs) 1)) in
+      let more = mul-suc (2 ^ length xs) (bitsNumber (replicate (n - length xs) 1)) in
       let ones = ap (λ (k : ℕ). 2 ^ length xs * k) (ones-number (n - length xs)) in
       let whole = sym (pow-add 2 (length xs) (n - length xs)) ∙ ap (λ (k : ℕ). 2 ^ k) (add-sub-of-le few) in
       let said = number-append xs (replicate (n - length xs) 1) in
       omega arith
 
   -- the sixteen bytes that a span is filled up to are the value's
-  pub filled-value : length xs ≤ 128 → (signed : Bool) → StandsFor (numberOf (filled signed xs)) (valueOf signed xs)
-  unfolding filled valueOf
+  pub filled-value : length xs ≤ 128 → (signed : Bool) → StandsFor (bitsNumber (filledUp signed xs)) (valueOf signed xs)
+  unfolding filledUp valueOf
   filled-value few false = with-zeros (128 - length xs)
   filled-value few true = go (topBit xs) (top-bit xs bits)
     where
       go : (b : ℕ) → b < 2
-          → StandsFor (numberOf (xs ++ replicate (128 - length xs) b)) (cond (eqb b 1) (negsuc (2 ^ length xs - suc (numberOf xs))) (pos (numberOf xs)))
+          → StandsFor (bitsNumber (xs ++ replicate (128 - length xs) b)) (cond (eqb b 1) (negsuc (2 ^ length xs - suc (bitsNumber xs))) (pos (bitsNumber xs)))
       go zero h = with-zeros (128 - length xs)
       go (suc zero) h = with-ones 128 few
       go (suc (suc b)) h = absurd (omega arith)

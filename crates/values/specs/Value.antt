@@ -25,9 +25,9 @@ recordBits [] = []
 recordBits (x ∷ xs) = bitsOf 8 x ++ recordBits xs
 
 -- the number that bits are
-abbrev pub numberOf : List ℕ → ℕ
-numberOf [] = 0
-numberOf (x ∷ xs) = x + 2 * numberOf xs
+abbrev pub bitsNumber : List ℕ → ℕ
+bitsNumber [] = 0
+bitsNumber (x ∷ xs) = x + 2 * bitsNumber xs
 
 abbrev pub topBit : List ℕ → ℕ
 topBit [] = 0
@@ -37,11 +37,11 @@ topBit (x ∷ y ∷ ys) = topBit (y ∷ ys)
 -- "exact values, minus ones included": with the top bit as sign, 2^bits less than the number where it is 1 (`negsuc k` is -(k + 1))
 unfoldable pub valueOf : Bool → List ℕ → ℤ
 valueOf signed xs =
-    cond (signed && eqb (topBit xs) 1) (negsuc (2 ^ length xs - suc (numberOf xs))) (pos (numberOf xs))
+    cond (signed && eqb (topBit xs) 1) (negsuc (2 ^ length xs - suc (bitsNumber xs))) (pos (bitsNumber xs))
 
 -- "filled up with zero bits, or with its top bit where it is signed", to 128
-unfoldable pub filled : Bool → List ℕ → List ℕ
-filled signed xs = xs ++ replicate (128 - length xs) (cond signed (topBit xs) 0)
+unfoldable pub filledUp : Bool → List ℕ → List ℕ
+filledUp signed xs = xs ++ replicate (128 - length xs) (cond signed (topBit xs) 0)
 
 -- "The bits of paper 01's span are the value"
 unfoldable pub spanBits : Span → List ℕ → List ℕ

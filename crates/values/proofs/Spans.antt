@@ -9,21 +9,21 @@ use native.Mathlib.Omega.{arith}
 use borrow.Author.Tests.{leb-true}
 use lib.ListN.{length, getD, take, drop, length-drop}
 use lib.Seq.{getD-drop, length-take-le}
 use Rattle.paper.proofs.basics.Choices.{and-left, and-right, member-each}
 use Rattle.paper.proofs.joins.Joining.{good-whole}
 use Rattle.paper.proofs.renaming.RenamingTails.{tail-length}
-use Rattle.paper.proofs.values.Bits.{length-recordBits, bits-spanBits, number-bound, Signed, value-signed, StandsFor, filled-value}
-use Rattle.paper.proofs.values.Numeric.{Few, span-few}
-use Rattle.paper.proofs.values.Values.{read-span}
+use Rattle.values.proofs.Bits.{length-recordBits, bits-spanBits, number-bound, Signed, value-signed, StandsFor, filled-value}
+use Rattle.values.proofs.Numeric.{Few, span-few}
+use Rattle.values.proofs.Values.{read-span}
 use Rattle.paper.specs.rules.Choice.{member, every}
 use Rattle.paper.specs.rules.Kind.{rows, rowOf}
 use Rattle.paper.specs.rules.KindNo.{STRUCT, UNION}
 use Rattle.paper.specs.rules.Layout.{memberOk, membersOk, layoutOk}
 use Rattle.paper.specs.rules.Span.{Span, membersIn, membersOf, baseOf, spanOf, endsBy}
 use Rattle.paper.specs.rules.Table.{Record, Table, count, recordAt, kindOf, vlenOf, flagOf}
-use Rattle.paper.specs.rules.Value.{recordBits, numberOf, valueOf, filled, spanBits, isNumeric, isSigned, noMember, memberOf, reads, readSpan, readMember}
+use Rattle.values.specs.Value.{recordBits, bitsNumber, valueOf, filledUp, spanBits, isNumeric, isSigned, noMember, memberOf, reads, readSpan, readMember}
 use Rattle.paper.specs.terms.Fit.{Whole}
 use Rattle.paper.specs.terms.Good.{Good}
 
 -- ── the bits of a span ──
 
@@ -83,19 +83,19 @@ layout-members T r e struct =
     ∙ and-left _ _ (and-left _ _ (and-left _ _ (and-left _ _ (and-left _ _ e))))
 
 -- a member's span, inside so many bytes
-pub record Spanned (T : Table) (r : Record) (m n : ℕ) : Type 0 where
+pub record HasSpan (T : Table) (r : Record) (m n : ℕ) : Type 0 where
   pub span : Span
   pub spans : spanOf T (flagOf r) (memberOf r m) ≡ some span
   pub ends : span .from + span .size ≤ 8 * n
 
-spanned : (n : ℕ) {T : Table} {r : Record} {m : ℕ} (o : Option Span) → spanOf T (flagOf r) (memberOf r m) ≡ o → endsBy (8 * n) o ≡ true → Spanned T r m n
+spanned : (n : ℕ) {T : Table} {r : Record} {m : ℕ} (o : Option Span) → spanOf T (flagOf r) (memberOf r m) ≡ o → endsBy (8 * n) o ≡ true → HasSpan T r m n
 spanned n none e h = absurd (false≢true h)
 spanned n (some p) e h = record { span = p; spans = e; ends = leb-true _ _ h }
 
 module _ (T : Table) (g : Good T) (t : ℕ) (low : 1 ≤ t) (high : t ≤ count T) (struct : member (kindOf (recordAt T t)) (STRUCT ∷ UNION ∷ []) ≡ true)
     (m : ℕ) (there : m < vlenOf (recordAt T t)) where
   -- of an accepted table every member has its span, and it ends inside the type
-  pub member-span : Spanned T (recordAt T t) m (recordAt T t .third)
+  pub member-span : HasSpan T (recordAt T t) m (recordAt T t .third)
   unfolding memberOk membersOk
   member-span =
       let r = recordAt T t in
@@ -120,15 +120,15 @@ module _ (T : Table) (g : Good T) (t : ℕ) (low : 1 ≤ t) (high : t ≤ count 
     value-few = subst Few (member-span .spans) (span-few T g (flagOf (recordAt T t)) (memberOf (recordAt T t) m) numeric)
 
     -- unsigned it is below 2^bits, signed from -2^(bits-1) to 2^(bits-1) - 1
-    pub value-below : numberOf (spanBits (member-span .span) s) < 2 ^ member-span .span .size
+    pub value-below : bitsNumber (spanBits (member-span .span) s) < 2 ^ member-span .span .size
     value-below =
-        subst (λ (k : ℕ). numberOf (spanBits (member-span .span) s) < 2 ^ k) value-bits (number-bound (spanBits (member-span .span) s) (bits-spanBits (member-span .span) s))
+        subst (λ (k : ℕ). bitsNumber (spanBits (member-span .span) s) < 2 ^ k) value-bits (number-bound (spanBits (member-span .span) s) (bits-spanBits (member-span .span) s))
 
     pub value-between : (n : ℕ) → member-span .span .size ≡ suc n → Signed n (valueOf true (spanBits (member-span .span) s))
     value-between n e = value-signed n (spanBits (member-span .span) s) (bits-spanBits (member-span .span) s) (value-bits ∙ e)
 
     -- and filled up to sixteen bytes it stands for itself
-    pub value-filled : (signed : Bool) → StandsFor (numberOf (filled signed (spanBits (member-span .span) s))) (valueOf signed (spanBits (member-span .span) s))
+    pub value-filled : (signed : Bool) → StandsFor (bitsNumber (filledUp signed (spanBits (member-span .span) s))) (valueOf signed (spanBits (member-span .span) s))
     value-filled = filled-value (spanBits (member-span .span) s) (bits-spanBits (member-span .span) s) (let n = value-bits in omega (arith, value-few))
 
     -- and a record that agrees with it at the span's bits has the same

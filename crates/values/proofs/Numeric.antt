@@ -9,20 +9,20 @@ use native.Mathlib.Omega.{arith}
 use borrow.Author.Tests.{eqb-true, eqb-false, leb-true, leb-false, le-leb}
 use lib.Dec.{eqb, leb}
 use lib.ListN.{getD}
 use Rattle.paper.proofs.basics.Choices.{and-left, and-right, differ-equal, Each, member-each}
 use Rattle.paper.proofs.walks.Insides.{recordAt-outside, sound-ends}
 use Rattle.paper.proofs.walks.Sizes.{sizeBy-enough, never-far}
 use Rattle.paper.specs.rules.Choice.{member}
 use Rattle.paper.specs.rules.Heads.{allowed, spareZero, headOk}
 use Rattle.paper.specs.rules.Kind.{rows, rowOf}
 use Rattle.paper.specs.rules.KindNo.{INT, ENUM, ENUM64}
 use Rattle.paper.specs.rules.Limits.{sizeLimit}
 use Rattle.paper.specs.rules.Size.{Step, is, manyOf, exactly, stepBy, scale, goOn, sizeBy, stepIn, sizeFound, exactSize, within, smallSize}
 use Rattle.paper.specs.rules.Span.{Member, Span, aliases, isAlias, baseFrom, baseOf, isRegular, bitOffset, fieldWidth, spanIf, wholeSpan, plainSpan, fieldSpan, spanOfSize, spanOf}
 use Rattle.paper.specs.rules.Table.{Record, Table, count, nothing, recordAt, bits, kindAt, kindOf, vlenOf, flagOf, rowIn}
 use Rattle.paper.specs.rules.Tails.{widthIn, offsetIn, encodingIn, intWord, intWordOk, tailOk}
-use Rattle.paper.specs.rules.Value.{isNumeric}
+use Rattle.values.specs.Value.{isNumeric}
 use Rattle.paper.specs.terms.Good.{Good}
 
 module _ (T : Table) where
   stepAs : ℕ → ℕ → Step

@@ -5,18 +5,18 @@ use mathlib.Core.Path.{_≡_, ap, _∙_}
 use mathlib.Core.List.{List}
 use mathlib.Core.Option.{none}
 use native.Mathlib.Omega.{arith}
 use Rattle.paper.proofs.Demands.{first-accepted, second-accepted, join-table}
 use Rattle.paper.proofs.Questions.{raise-inside}
 use Rattle.paper.proofs.gates.Acceptance.{accepted-good}
 use Rattle.paper.proofs.joins.Joining.{count-join, first-renaming, second-renaming}
-use Rattle.paper.proofs.values.Values.{read-rename}
+use Rattle.values.proofs.Values.{read-rename}
 use Rattle.paper.specs.rules.Join.{joinedBytes, joinRefusal}
 use Rattle.paper.specs.rules.Rename.{raise}
 use Rattle.paper.specs.rules.Table.{Table, count}
-use Rattle.paper.specs.rules.Value.{readMember}
+use Rattle.values.specs.Value.{readMember}
 use Rattle.paper.specs.rules.Walk.{tableOf}
 use Rattle.paper.specs.terms.Fit.{Bytes}
 use Rattle.paper.specs.terms.Good.{Good}
 
 module _ (a b : List ℕ) (bytes-a : Bytes a) (bytes-b : Bytes b) (places work room : ℕ) (made : joinRefusal a b places work room ≡ none) where
   good-a : Good (tableOf a)
