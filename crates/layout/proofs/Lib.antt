@@ -1,5 +1,3 @@
-pub mod Measured
-pub mod Leads
 pub mod MembersLeft
 pub mod NamedLeft
 pub mod OtherTests

@@ -4,19 +4,19 @@ use Prim.Native.Nat.{ℕ, zero, suc, _+_, _-_, _*_, _<_, _≤_}
 use mathlib.Core.Path.{_≡_, refl, sym, ap, _∙_}
 use mathlib.Core.Bool.{Bool, true, false, not, cond, _&&_}
 use mathlib.Core.List.{List, [], _∷_, map}
-use mathlib.Core.Option.{Option, none, some}
 use native.Mathlib.Omega.{arith}
 use borrow.Author.Tests.{ne-eqb, not-true, not-false}
 use lib.Dec.{eqb, leb}
 use Rattle.rows.proofs.RecordWords.{tail-read}
-use Rattle.spans.specs.Spanned.{memberAt, withOffset, spanWith}
+use Rattle.spans.proofs.SpanTests.{span-typed}
+use Rattle.spans.specs.Spanned.{memberAt, typed, withOffset, spanAsPaper}
+use Rattle.spans.specs.declared.Lies.{Lies}
 use Rattle.paper.proofs.basics.Choices.{and-false}
 use Rattle.paper.specs.rules.Choice.{every}
 use Rattle.paper.specs.rules.KindNo.{UNION}
 use Rattle.paper.specs.rules.Layout.{memberOk, notFalling, offsetsOk, membersOk}
 use Rattle.paper.specs.terms.Reading.{wordsFrom, recordIn}
-use Rattle.paper.specs.rules.Size.{smallSize}
-use Rattle.paper.specs.rules.Span.{Member, membersIn, baseOf, bitOffset, plainSpan, fieldSpan, spanOfSize, spanOf, endsBy}
+use Rattle.paper.specs.rules.Span.{Member, membersIn, bitOffset, spanOf, endsBy}
 use Rattle.paper.specs.rules.Table.{Record, Table, kindOf, flagOf, tailLength}
 use Rattle.paper.specs.declared.Order.{Order}
 use Rattle.paper.specs.rules.Word.{wordAt}
@@ -24,23 +24,10 @@ use Rattle.rows.proofs.RoleCodes.{tailLength-few}
 
 -- ── one member ──
 
-module _ (T : Table) (flag end : ℕ) (m : Member) {t : ℕ} (type : t ≡ m .type) where
-  abbrev within : Option ℕ → Bool
-  within x = endsBy end (spanOfSize T flag m x)
-
-  -- a member of no size, or of one that overflows, has no span
-  pub span-none : none ≡ smallSize T t → false ≡ endsBy end (spanOf T flag m)
-  unfolding spanOf
-  span-none e = ap within (e ∙ ap (smallSize T) type)
-
-  -- any other has the span that its base, its offset word and its size say
-  pub span-small : {o : ℕ} → o ≡ m .offset → {z : ℕ} → some z ≡ smallSize T t → (base : Record) → base ≡ baseOf T t → {x : Bool}
-      → x ≡ endsBy end (spanWith flag base o z) → x ≡ endsBy end (spanOf T flag m)
-  unfolding spanOf fieldSpan plainSpan
-  span-small offset {z} e base is d =
-      d
-      ∙ (λ i. endsBy end (spanWith flag ((is ∙ ap (baseOf T) type) i) (offset i) z))
-      ∙ ap within (e ∙ ap (smallSize T) type)
+-- a member's span is that of its type and its offset word
+pub span-read : (T : Table) (flag end : ℕ) (m : Member) {t : ℕ} → t ≡ m .type → {o : ℕ} → o ≡ m .offset → (l : Lies)
+    → spanAsPaper l ≡ spanOf T flag (typed t o) → {x : Bool} → x ≡ endsBy end (spanAsPaper l) → x ≡ endsBy end (spanOf T flag m)
+span-read T flag end m type offset l says d = d ∙ ap (endsBy end) (says ∙ (λ i. spanOf T flag (typed (type i) (offset i))) ∙ span-typed T flag m)
 
 -- ── offsets ──
 

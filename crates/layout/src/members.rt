@@ -1,14 +1,12 @@
 // Report 15, members: every span ends by the record's end; offsets do not fall in a struct and are 0 in a union.
-use crate::bases::base_record;
-use crate::sized::size_of;
 use kindrows::UNION;
 use paper::Place;
-use paper::Sized;
 use paper::TypeNo;
 use rows::flag_of;
 use rows::kind_of;
 use rows::tail_words;
 use spans::bit_offset;
+use spans::member_span;
 use spans::span_ends;
 use views::View;
 ghost use mathlib.Core.Path.{_≡_};
@@ -41,16 +39,8 @@ fn member_ok<'a>(
     let t = TypeNo(words::read(order, bytes, Place(second)));
     let third = p + 8;
     let offset = words::read(order, bytes, Place(third));
-    match size_of(base, b, index, view, t) {
-        Sized::Exact(s) => {
-            let under = base_record(base, b, index, view, t);
-            span_ends(order, under, flag, offset, s, 8 * (size as u64))
-        }
-        Sized::NoSize => false,
-        Sized::Overflow => false,
-        Sized::Lost => false,
-        Sized::TooFar => false,
-    }
+    let span = member_span(base, b, index, view, flag, t, offset);
+    span_ends(span, 8 * (size as u64))
 }
 
 // An offset behind another in a struct, or any in a union.

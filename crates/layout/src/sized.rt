@@ -3,7 +3,7 @@ use paper::Sized;
 use paper::TypeNo;
 use views::View;
 ghost use mathlib.Core.Path.{_≡_};
-ghost use Rattle.layout.specs.Measure.{Measures};
+ghost use Rattle.sizes.specs.Measure.{Measures};
 ghost use Rattle.paper.specs.rules.Section.{coversSize};
 ghost use Rattle.paper.specs.rules.Size.{exactSize, hasSize, hasSmallSize};
 ghost use Rattle.views.specs.Shown.{tableBy};

@@ -1,3 +1,4 @@
 pub mod Scales
 pub mod SizeSteps
 pub mod TableSizes
+pub mod Measured

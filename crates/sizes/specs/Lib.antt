@@ -1,1 +1,2 @@
 pub mod SizeStep
+pub mod Measure

@@ -1,1 +1,2 @@
 pub mod SpanTests
+pub mod Leads

@@ -3,7 +3,7 @@
 use native.Mathlib.Omega.{arith}
 use denote.Ref.{now}
 use Rattle.views.specs.Shown.{tableBy}
-use Rattle.layout.proofs.Measured.{covers-told}
+use Rattle.sizes.proofs.Measured.{covers-told}
 use borrow.Author.Needs.{needs}
 use Rattle.layout.proofs.sized.covers.Statement.{statement}
 use Rattle.layout.proofs.sized.covers.Tie as tie

@@ -2,7 +2,7 @@
 -- Assumes nothing.
 use denote.Ref.{now}
 use Rattle.views.specs.Shown.{tableBy}
-use Rattle.layout.proofs.Measured.{hasSize-told}
+use Rattle.sizes.proofs.Measured.{hasSize-told}
 use borrow.Author.Needs.{needs}
 use Rattle.layout.proofs.sized.has_size.Statement.{statement}
 use Rattle.layout.proofs.sized.has_size.Tie as tie

@@ -2,7 +2,7 @@
 -- Assumes nothing.
 use denote.Ref.{now}
 use Rattle.views.specs.Shown.{tableBy}
-use Rattle.layout.proofs.Measured.{hasSmallSize-told}
+use Rattle.sizes.proofs.Measured.{hasSmallSize-told}
 use borrow.Author.Needs.{needs}
 use Rattle.layout.proofs.sized.has_small_size.Statement.{statement}
 use Rattle.layout.proofs.sized.has_small_size.Tie as tie

@@ -1,6 +1,6 @@
 -- `layout::sized::size_of` meets its contract: the size question of the table that the index shows.
 -- Assumes nothing.
-use Rattle.layout.proofs.Measured.{measures}
+use Rattle.sizes.proofs.Measured.{measures}
 use borrow.Author.Needs.{needs}
 use Rattle.layout.proofs.sized.size_of.Statement.{statement}
 use Rattle.layout.proofs.sized.size_of.Tie as tie

@@ -1,13 +1,13 @@
--- `layout::bases::base_record` meets its contract. The loop's invariant: what is left of the way leads to the base.
+-- `spans::bases::base_record` meets its contract. The loop's invariant: what is left of the way leads to the base.
 -- Assumes nothing.
 use mathlib.Core.Path.{refl, sym}
 use native.Mathlib.Omega.{arith}
 use Rattle.views.proofs.Shows.{tableBy-count}
 use Rattle.views.specs.Shown.{tableBy}
-use Rattle.layout.proofs.Leads.{Leading, leading-done, leading-stop, leading-next, base-found}
+use Rattle.spans.proofs.Leads.{Leading, leading-done, leading-stop, leading-next, base-found}
 use borrow.Author.Needs.{needs}
-use Rattle.layout.proofs.bases.base_record.Statement.{statement}
-use Rattle.layout.proofs.bases.base_record.Tie as tie
+use Rattle.spans.proofs.bases.base_record.Statement.{statement}
+use Rattle.spans.proofs.bases.base_record.Tie as tie
 
 abbrev Inv-loop : tie.InvT-loop
 Inv-loop base b index view at₀ left₀ at left = Leading (tableBy base b index view) (view .n) at₀ left at

@@ -1,4 +1,4 @@
--- `spans::field_ends` meets its contract: each test that fails decides.
+-- `spans::field_span` meets its contract: each test that fails decides.
 -- Assumes nothing.
 use mathlib.Core.Path.{refl}
 use denote.Ref.{now}
@@ -6,8 +6,8 @@ use Rattle.paper.specs.terms.Reading.{recordIn}
 use Rattle.rows.proofs.RecordWords.{kind-read}
 use Rattle.spans.proofs.SpanTests.{field-irregular, field-whole, field-kind, field-wide, field-on}
 use borrow.Author.Needs.{needs}
-use Rattle.spans.proofs.field_ends.Statement.{statement}
-use Rattle.spans.proofs.field_ends.Tie as tie
+use Rattle.spans.proofs.field_span.Statement.{statement}
+use Rattle.spans.proofs.field_span.Tie as tie
 
 regular-or-other-requires : tie.Need-regular-or-other-requires
 regular-or-other-requires c κs = search needs
@@ -16,18 +16,18 @@ returns : tie.Need-returns
 returns c =
     let g = c .before in
     let a = g .before .before .args in
-    field-irregular (recordIn (a .order) (now (a .bytes))) (a .offset) (a .size) (a .end) (g .regular-or-other .ensures) (c .if1 .taken)
+    field-irregular (recordIn (a .order) (now (a .bytes))) (a .offset) (a .size) (g .regular-or-other .ensures) (c .if1 .taken)
 
-whole-ends-requires : tie.Need-whole-ends-requires
-whole-ends-requires c κs = search needs
+whole-span-requires : tie.Need-whole-span-requires
+whole-span-requires c κs = search needs
 
 returns-2 : tie.Need-returns-2
 returns-2 c =
     let e = c .before .before in
     let g = e .before in
     let a = g .before .before .args in
-    field-whole (recordIn (a .order) (now (a .bytes))) (a .offset) (a .size) (a .end) (g .regular-or-other .ensures) (e .if1 .left)
-    (c .before .if2 .taken) (c .whole-ends .ensures)
+    field-whole (recordIn (a .order) (now (a .bytes))) (a .offset) (a .size) (g .regular-or-other .ensures) (e .if1 .left)
+    (c .before .if2 .taken) (c .whole-span .ensures)
 
 read-requires : tie.Need-read-requires
 read-requires c κs = search needs
@@ -46,7 +46,7 @@ returns-3 c =
     let e = z .before in
     let g = e .before in
     let a = g .before .before .args in
-    field-kind (recordIn (a .order) (now (a .bytes))) (a .offset) (a .size) (a .end) (g .regular-or-other .ensures) (e .if1 .left) (z .if2 .left)
+    field-kind (recordIn (a .order) (now (a .bytes))) (a .offset) (a .size) (g .regular-or-other .ensures) (e .if1 .left) (z .if2 .left)
     (kind-read _ _ refl (k .before .read .ensures) (k .kind-of .ensures)) (f .takes-field .ensures) (c .if3 .taken)
 
 mul-if4 : tie.Need-mul-if4
@@ -64,17 +64,14 @@ returns-4 c =
     let e = z .before in
     let g = e .before in
     let a = g .before .before .args in
-    field-wide (recordIn (a .order) (now (a .bytes))) (a .offset) (a .size) (a .end) (g .regular-or-other .ensures) (e .if1 .left) (z .if2 .left)
+    field-wide (recordIn (a .order) (now (a .bytes))) (a .offset) (a .size) (g .regular-or-other .ensures) (e .if1 .left) (z .if2 .left)
     (kind-read _ _ refl (k .before .read .ensures) (k .kind-of .ensures)) (f .takes-field .ensures) (h .if3 .left) (c .if4 .taken)
 
-cast-result : tie.Need-cast-result
-cast-result c = search needs
+cast-first : tie.Need-cast-first
+cast-first c = search needs
 
-cast-result-2 : tie.Need-cast-result-2
-cast-result-2 c = search needs
-
-add-result : tie.Need-add-result
-add-result c = search needs
+cast-bits : tie.Need-cast-bits
+cast-bits c = search needs
 
 returns-5 : tie.Need-returns-5
 returns-5 c =
@@ -85,16 +82,16 @@ returns-5 c =
     let e = z .before in
     let g = e .before in
     let a = g .before .before .args in
-    field-on (recordIn (a .order) (now (a .bytes))) (a .offset) (a .size) (a .end) (g .regular-or-other .ensures) (e .if1 .left) (z .if2 .left)
+    field-on (recordIn (a .order) (now (a .bytes))) (a .offset) (a .size) (g .regular-or-other .ensures) (e .if1 .left) (z .if2 .left)
     (kind-read _ _ refl (k .before .read .ensures) (k .kind-of .ensures)) (f .takes-field .ensures) (h .if3 .left) (c .if4 .left)
 
-pub field-ends-spec : {M : Type 1} → statement M
-field-ends-spec =
+pub field-span-spec : {M : Type 1} → statement M
+field-span-spec =
     tie.close
     (tie.spec
     regular-or-other-requires
     returns
-    whole-ends-requires
+    whole-span-requires
     returns-2
     read-requires
     kind-of-requires
@@ -103,7 +100,6 @@ field-ends-spec =
     mul-if4
     cast-if4
     returns-4
-    cast-result
-    cast-result-2
-    add-result
+    cast-first
+    cast-bits
     returns-5)

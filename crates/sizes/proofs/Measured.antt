@@ -7,7 +7,7 @@ use mathlib.Core.Option.{Option, none, some}
 use native.Mathlib.Omega.{arith}
 use borrow.Author.Tests.{leb-false, lt-leb, lt-ltb, ltb-true}
 use lib.Dec.{leb, ltb}
-use Rattle.layout.specs.Measure.{Measures}
+use Rattle.sizes.specs.Measure.{Measures}
 use Rattle.paper.specs.rules.Answer.{Answer, report, value, sizedAsPaper}
 use Rattle.paper.specs.rules.Choice.{isSome}
 use Rattle.paper.specs.rules.Limits.{sizeLimit}

@@ -12,7 +12,7 @@ ghost use Rattle.paper.specs.rules.Span.{baseOf};
 ghost use Rattle.views.specs.Shown.{tableBy};
 
 // The record of the base. No chain of aliases is longer than there are types, so that many steps are enough.
-pub(crate) fn base_record<'a>(
+pub fn base_record<'a>(
     base: &'a [u8],
     b: &'a [u8],
     index: &[u32],
