@@ -68,8 +68,8 @@ fn regular_or_other(order: Order, s: &[u8]) -> bool
     is_regular(order, s)
 }
 
-// A kind that a field of some bits may be of.
-fn takes_field(kind: u32) -> bool
+// An integer or an enum: what a field of some bits may be of, and what has a value.
+pub fn is_number(kind: u32) -> bool
     ensures { λ r. ⌜ r ≡ member kind (INT ∷ ENUM ∷ ENUM64 ∷ []) ⌝ }
 {
     match kind {
@@ -124,7 +124,7 @@ fn field_span(order: Order, bytes: &[u8], offset: u32, size: u32) -> Lies
     if w == 0 {
         return whole_span(from, size);
     }
-    if !takes_field(kind_of(words::read(order, bytes, Place(4)))) {
+    if !is_number(kind_of(words::read(order, bytes, Place(4)))) {
         return Lies::Nowhere;
     }
     if 8 * (size as u64) < (w as u64) {

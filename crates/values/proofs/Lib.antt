@@ -3,5 +3,6 @@ pub mod Bits
 pub mod Values
 pub mod Numeric
 pub mod Spans
+pub mod Soughts
 pub mod JoinValues
 pub mod ReadBench

@@ -96,13 +96,13 @@ every-all [] = refl
 every-all (m ∷ ms) = every-all ms
 
 module _ {A B : Table} {type name : ℕ → ℕ} (R : Renaming A B type name) (g : Good A) where
-  isSigned-rename : (r : Record) → isSigned (rename type name r) ≡ isSigned r
+  pub isSigned-rename : (r : Record) → isSigned (rename type name r) ≡ isSigned r
   unfolding isSigned rename
   isSigned-rename r =
       cond-cong (eqb (kindOf r) INT) (eqb (flagOf r) 1) (λ e. ap (λ (w : ℕ). eqb (encodingIn w) 1) (intWord-rename R r (eqb-true _ _ e)))
 
   module _ (r : Record) (inside : Inside A r) (whole : Whole r) (struct : member (kindOf r) (STRUCT ∷ UNION ∷ []) ≡ true) where
-    memberOf-rename : (m : ℕ) → memberOf (rename type name r) m ≡ renameMember type name (memberOf r m)
+    pub memberOf-rename : (m : ℕ) → memberOf (rename type name r) m ≡ renameMember type name (memberOf r m)
     memberOf-rename m =
         let s = g .sound in
         let in-A = sound-inside s (g .closed .filled) in
@@ -119,12 +119,12 @@ module _ {A B : Table} {type name : ℕ → ℕ} (R : Renaming A B type name) (g
         ∙ every-all (membersOf r))
         (le-leb 0 (count A) (omega arith)) m)
 
-    base-rename : (m : ℕ) → baseOf B (memberOf (rename type name r) m .type) ≡ rename type name (baseOf A (memberOf r m .type))
+    pub base-rename : (m : ℕ) → baseOf B (memberOf (rename type name r) m .type) ≡ rename type name (baseOf A (memberOf r m .type))
     base-rename m =
         let s = g .sound in
         ap (λ (x : Member). baseOf B (x .type)) (memberOf-rename m) ∙ baseOf-rename R (sound-refs s) (sound-ends s) (memberOf r m .type) (member-inside m)
 
-    span-rename : (m : ℕ) → spanOf B (flagOf (rename type name r)) (memberOf (rename type name r) m) ≡ spanOf A (flagOf r) (memberOf r m)
+    pub span-rename : (m : ℕ) → spanOf B (flagOf (rename type name r)) (memberOf (rename type name r) m) ≡ spanOf A (flagOf r) (memberOf r m)
     unfolding rename
     span-rename m =
         let s = g .sound in

@@ -35,8 +35,8 @@ read-requires c κs = search needs
 kind-of-requires : tie.Need-kind-of-requires
 kind-of-requires c κs = search needs
 
-takes-field-requires : tie.Need-takes-field-requires
-takes-field-requires c κs = search needs
+is-number-requires : tie.Need-is-number-requires
+is-number-requires c κs = search needs
 
 returns-3 : tie.Need-returns-3
 returns-3 c =
@@ -47,7 +47,7 @@ returns-3 c =
     let g = e .before in
     let a = g .before .before .args in
     field-kind (recordIn (a .order) (now (a .bytes))) (a .offset) (a .size) (g .regular-or-other .ensures) (e .if1 .left) (z .if2 .left)
-    (kind-read _ _ refl (k .before .read .ensures) (k .kind-of .ensures)) (f .takes-field .ensures) (c .if3 .taken)
+    (kind-read _ _ refl (k .before .read .ensures) (k .kind-of .ensures)) (f .is-number .ensures) (c .if3 .taken)
 
 mul-if4 : tie.Need-mul-if4
 mul-if4 c = search needs
@@ -65,7 +65,7 @@ returns-4 c =
     let g = e .before in
     let a = g .before .before .args in
     field-wide (recordIn (a .order) (now (a .bytes))) (a .offset) (a .size) (g .regular-or-other .ensures) (e .if1 .left) (z .if2 .left)
-    (kind-read _ _ refl (k .before .read .ensures) (k .kind-of .ensures)) (f .takes-field .ensures) (h .if3 .left) (c .if4 .taken)
+    (kind-read _ _ refl (k .before .read .ensures) (k .kind-of .ensures)) (f .is-number .ensures) (h .if3 .left) (c .if4 .taken)
 
 cast-first : tie.Need-cast-first
 cast-first c = search needs
@@ -83,7 +83,7 @@ returns-5 c =
     let g = e .before in
     let a = g .before .before .args in
     field-on (recordIn (a .order) (now (a .bytes))) (a .offset) (a .size) (g .regular-or-other .ensures) (e .if1 .left) (z .if2 .left)
-    (kind-read _ _ refl (k .before .read .ensures) (k .kind-of .ensures)) (f .takes-field .ensures) (h .if3 .left) (c .if4 .left)
+    (kind-read _ _ refl (k .before .read .ensures) (k .kind-of .ensures)) (f .is-number .ensures) (h .if3 .left) (c .if4 .left)
 
 pub field-span-spec : {M : Type 1} → statement M
 field-span-spec =
@@ -95,7 +95,7 @@ field-span-spec =
     returns-2
     read-requires
     kind-of-requires
-    takes-field-requires
+    is-number-requires
     returns-3
     mul-if4
     cast-if4

@@ -1,0 +1,4 @@
+pub mod Places
+pub mod Seeking
+pub mod MemberWords
+pub mod Looking
