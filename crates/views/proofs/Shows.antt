@@ -89,7 +89,7 @@ module _ (base b index : List ℕ) where
     unfolding tableBy
     tableBy-count = recordsBy-length (v .order) (v .n) 1
 
-    tableBy-record : (t : ℕ) → 1 ≤ t → t ≤ v .n → recordAt (tableBy base b index v) t ≡ recordBy base b index (v .order) t
+    pub tableBy-record : (t : ℕ) → 1 ≤ t → t ≤ v .n → recordAt (tableBy base b index v) t ≡ recordBy base b index (v .order) t
     unfolding tableBy
     tableBy-record zero low h = absurd (omega arith)
     tableBy-record (suc t) low h = recordsBy-at (v .order) (v .n) 1 t (omega arith) ∙ ap (recordBy base b index (v .order)) (omega arith)
