@@ -1,0 +1,48 @@
+-- Laws of `memberGives`, by what the check of the blob says.
+-- Assumes nothing.
+use Prim.Native.Nat.{ℕ}
+use mathlib.Core.Path.{_≡_, refl, sym, ap, ap₂, _∙_}
+use mathlib.Core.List.{List}
+use mathlib.Core.Option.{Option, none, some}
+use Rattle.members.proofs.AcceptedSpans.{high-found, found-member}
+use Rattle.members.specs.Looked.{soughtAt}
+use Rattle.paper.proofs.Outcomes.{gate-accepted}
+use Rattle.paper.specs.rules.Answer.{Answer, report, inside}
+use Rattle.paper.specs.rules.Gate.{refusal, Outcome, gate}
+use Rattle.paper.specs.rules.Header.{orderOf}
+use Rattle.paper.specs.rules.Walk.{tableOf}
+use Rattle.paper.specs.declared.Order.{Order}
+use Rattle.paper.specs.declared.Order.the-variants.{LowFirst, HighFirst}
+use Rattle.paper.specs.terms.Fit.{Bytes}
+use Rattle.record.specs.Gives.{unlessRefused, memberGives}
+use Rattle.values.specs.Given.{Given, Found, refusedAs, given, readFound}
+use Rattle.values.specs.Sought.{noSpan}
+use Rattle.values.specs.Value.{Read, readMember}
+
+module _ (b : List ℕ) (places work t m : ℕ) (s : List ℕ) where
+  -- a refused table is 34
+  pub gives-34 : (a : Answer) → refusal b places work ≡ some a → refusedAs (inside 34 a) ≡ memberGives b places work t m s
+  unfolding memberGives
+  gives-34 a e = by-order (orderOf b) ∙ sym (ap (λ (o : Option Answer). unlessRefused o (orderOf b) (readMember (tableOf b) t m s)) e)
+    where
+      by-order : (o : Order) → refusedAs (inside 34 a) ≡ unlessRefused (some a) o (readMember (tableOf b) t m s)
+      by-order LowFirst = refl
+      by-order HighFirst = refl
+
+  module _ (bytes : Bytes b) (e : refusal b places work ≡ none) where
+    abbrev index : List ℕ
+    index = gate b places work .index
+
+    by-order : (o : Order) → orderOf b ≡ o → given (readFound (soughtAt b index t m) s) ≡ unlessRefused none o (readMember (tableOf b) t m s)
+    unfolding given readFound
+    by-order HighFirst o =
+        ap (λ (x : Outcome). given (readFound (soughtAt b (x .index) t m) s)) (gate-accepted b places work e)
+        ∙ ap (λ (f : Found). given (readFound f s)) (high-found b bytes places work e o t m)
+    by-order LowFirst o =
+        ap (λ (x : Outcome). given (readFound (soughtAt b (x .index) t m) s)) (gate-accepted b places work e)
+        ∙ ap given (found-member b bytes places work e o t m s)
+
+    -- of an accepted one, what is found by the index that the check leaves gives what the member gives
+    pub gives-found : given (readFound (soughtAt b index t m) s) ≡ memberGives b places work t m s
+    unfolding memberGives
+    gives-found = by-order (orderOf b) refl ∙ sym (ap (λ (o : Option Answer). unlessRefused o (orderOf b) (readMember (tableOf b) t m s)) e)

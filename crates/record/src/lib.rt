@@ -1,0 +1,1 @@
+// Reading the records themselves.
