@@ -1,6 +1,6 @@
 //! How many cases there are of each op and answer.
 
-use crate::vectors::{Seen, CHECK, JOIN, NAME, SIZE};
+use crate::vectors::{Seen, CHECK, JOIN, MEMBER, NAME, SIZE};
 use std::collections::BTreeMap;
 
 #[derive(Default)]
@@ -44,8 +44,12 @@ pub fn in_words(op: u32, number: u32, inner: u32) -> String {
         (NAME, 0) => ("name", "part of the blob"),
         (NAME, _) => ("name", "no name there"),
         (JOIN, 0) => ("join", "joined"),
+        (MEMBER, 0) => ("member", "unsigned"),
+        (MEMBER, 1) => ("member", "signed"),
+        (MEMBER, 2) => ("member", "longer span"),
         (CHECK, _) => ("check", "report"),
         (SIZE, _) => ("size", "report"),
+        (MEMBER, _) => ("member", "report"),
         _ => ("join", "report"),
     };
     let inside = if inner == 0 {

@@ -62,6 +62,7 @@ fn take_case(rest: &mut &[u8]) -> Option<(Case, Vec<u32>)> {
         work_places: first[2],
         output_bytes: first[3],
         x: first[4],
+        y: first[5],
         a: take(rest, first[6] as usize)?.to_vec(),
         b: take(rest, first[7] as usize)?.to_vec(),
     };

@@ -18,12 +18,13 @@ pub mod timing;
 pub mod vectors;
 
 pub use rules::{
-    chain, check, head, header, join, layout, limits, members, name_at, names, order, reference,
-    report, size, table, tail, walk,
+    chain, check, head, header, join, layout, limits, members, name_at, names, order, record,
+    reference, report, size, table, tail, walk,
 };
 
 pub use check::check;
 pub use join::{join, JoinRefusal};
 pub use name_at::name;
+pub use record::{read_member, ReadRefusal, Reading};
 pub use report::Report;
 pub use size::{size, SizeAnswer};

@@ -3,12 +3,15 @@
 use crate::check::check;
 use crate::join::join;
 use crate::name_at::name;
+use crate::record::read_member;
+use crate::report::Report;
 use crate::size::{size, SizeAnswer};
 
 pub const CHECK: u32 = 1;
 pub const SIZE: u32 = 2;
 pub const NAME: u32 = 3;
 pub const JOIN: u32 = 4;
+pub const MEMBER: u32 = 5;
 
 /// What a case may lend at most: places in each u32 slice, and bytes in a, b
 /// and the output. Beyond the limits, so that they can be overstepped.
@@ -23,12 +26,13 @@ pub struct Case {
     pub work_places: u32,
     pub output_bytes: u32,
     pub x: u32,
+    pub y: u32,
     pub a: Vec<u8>,
     pub b: Vec<u8>,
 }
 
 /// What must be seen afterwards: the answer and each whole lent slice. For a
-/// name, `output` is the part.
+/// name, `output` is the part, for a member its value in sixteen bytes.
 #[derive(Clone, PartialEq, Eq, Debug, Default)]
 pub struct Seen {
     pub number: u32,
@@ -45,6 +49,7 @@ pub fn run(case: &Case) -> Seen {
         CHECK => run_check(case),
         SIZE => run_size(case),
         NAME => run_name(case),
+        MEMBER => run_member(case),
         _ => run_join(case),
     }
 }
@@ -107,14 +112,41 @@ fn run_join(case: &Case) -> Seen {
         Ok(length) => seen.p = length as u32,
         Err(refusal) => {
             seen.number = refusal.number();
-            if let Some(report) = refusal.inner() {
-                seen.inner = report.number;
-                seen.t = report.type_number;
-                seen.p = report.place;
-            }
+            put_inner(&mut seen, refusal.inner());
         }
     }
     seen
+}
+
+/// b is the record. No output is lent: the value is handed back, and is zeros
+/// beside a refusal, which has no span either.
+fn run_member(case: &Case) -> Seen {
+    let mut seen = lent(case);
+    seen.output = vec![0; 16];
+    let (index, work) = (&mut seen.index, &mut seen.work);
+    match read_member(&case.a, index, work, case.x, case.y, &case.b) {
+        Ok(reading) => {
+            seen.number = reading.value.number();
+            // A record has at most MOST_BYTES, so its bits have 32-bit numbers.
+            seen.t = reading.span.first as u32;
+            seen.p = reading.span.bits as u32;
+            seen.output = reading.value.filled().to_vec();
+        }
+        Err(refusal) => {
+            seen.number = refusal.number();
+            put_inner(&mut seen, refusal.inner());
+        }
+    }
+    seen
+}
+
+/// The report inside a refusal, where there is one.
+fn put_inner(seen: &mut Seen, inner: Option<Report>) {
+    if let Some(report) = inner {
+        seen.inner = report.number;
+        seen.t = report.type_number;
+        seen.p = report.place;
+    }
 }
 
 /// Bytes read as u32 places, low byte first.
@@ -166,7 +198,7 @@ pub fn file(cases: &[Case]) -> Vec<u8> {
             case.work_places,
             case.output_bytes,
             case.x,
-            0,
+            case.y,
             case.a.len() as u32,
             case.b.len() as u32,
         ];

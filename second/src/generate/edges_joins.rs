@@ -31,9 +31,9 @@ pub fn call(a: &[u8], b: &[u8], places: u32, output_bytes: u32) -> Case {
         index_places: places,
         work_places: places,
         output_bytes,
-        x: 0,
         a: a.to_vec(),
         b: b.to_vec(),
+        ..Case::default()
     }
 }
 

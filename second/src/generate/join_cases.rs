@@ -100,9 +100,9 @@ fn lend(r: &mut Random, a: Vec<u8>, b: Vec<u8>, index: u32, work: u32, ground: u
         index_places: index,
         work_places: work,
         output_bytes: output_bytes.min(MOST_BYTES),
-        x: 0,
         a,
         b,
+        ..Case::default()
     }
 }
 

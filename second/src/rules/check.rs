@@ -14,6 +14,11 @@ use crate::walk::{phase_2, report_9};
 /// Checks a blob. The index afterwards holds the byte places on acceptance
 /// and is all 0 otherwise; the work slice is all 0 either way.
 pub fn check(blob: &[u8], index: &mut [u32], work: &mut [u32]) -> Result<u32, Report> {
+    Ok(checked(blob, index, work)?.count())
+}
+
+/// The same, with the table that was accepted for an answer.
+pub fn checked(blob: &[u8], index: &mut [u32], work: &mut [u32]) -> Result<Table, Report> {
     let judged = judge(blob, index.len(), work.len());
     index.fill(0);
     work.fill(0);
@@ -21,7 +26,7 @@ pub fn check(blob: &[u8], index: &mut [u32], work: &mut [u32]) -> Result<u32, Re
     for (before, record) in table.records.iter().enumerate() {
         index[before + 1] = record.place as u32;
     }
-    Ok(table.count())
+    Ok(table)
 }
 
 /// The earliest phase speaks.

@@ -35,28 +35,43 @@ fn breaks_bit_offsets(holder: &Record) -> bool {
     }
 }
 
-/// A member has a size that doesn't overflow, and its span ends by 8 times
-/// the holder's size.
+/// A member has a span, which ends by 8 times the holder's size.
 fn breaks_span(table: &Table, holder: &Record, member: &[u32]) -> bool {
-    let Size::Exact(bytes) = exact_size(table, member[1]) else {
-        return true;
-    };
-    let Some(base) = base(table, member[1]) else {
-        return true;
-    };
-    let end = if holder.kind_flag() {
-        end_with_flag_1(holder, member, base, bytes)
-    } else {
-        end_with_flag_0(member, base, bytes)
-    };
-    match end {
-        Some(end) => end > 8 * u64::from(holder.third),
+    match span(table, holder, member) {
+        Some(span) => span.end() > 8 * u64::from(holder.third),
         None => true,
     }
 }
 
+/// The bits of a holder that a member takes. A first bit may pass 2^32.
+#[derive(Clone, Copy, PartialEq, Eq, Debug)]
+pub struct Span {
+    pub first: u64,
+    pub bits: u64,
+}
+
+impl Span {
+    fn end(&self) -> u64 {
+        self.first + self.bits
+    }
+}
+
+/// Nothing where a rule of the span itself is broken: a member has a size that
+/// doesn't overflow.
+pub fn span(table: &Table, holder: &Record, member: &[u32]) -> Option<Span> {
+    let Size::Exact(bytes) = exact_size(table, member[1]) else {
+        return None;
+    };
+    let base = base(table, member[1])?;
+    if holder.kind_flag() {
+        span_with_flag_1(holder, member, base, bytes)
+    } else {
+        span_with_flag_0(member, base, bytes)
+    }
+}
+
 /// Follows TYPEDEF, qualifiers and TYPE_TAG.
-fn base(table: &Table, type_number: u32) -> Option<&Record> {
+pub fn base(table: &Table, type_number: u32) -> Option<&Record> {
     let mut record = table.record(type_number)?;
     while matches!(
         record.kind,
@@ -67,37 +82,44 @@ fn base(table: &Table, type_number: u32) -> Option<&Record> {
     Some(record)
 }
 
-/// Where the span ends, in bits; nothing where its own rule is broken. All 32
-/// bits are offset, so the sum needs 64.
-fn end_with_flag_0(member: &[u32], base: &Record, bytes: u32) -> Option<u64> {
+/// All 32 bits of the word are offset, so the sum needs 64.
+fn span_with_flag_0(member: &[u32], base: &Record, bytes: u32) -> Option<Span> {
     let offset = u64::from(member[2]);
-    if base.kind == Kind::Int {
-        return Some(offset + u64::from(base.int_offset()) + u64::from(base.int_width()));
+    if base.kind != Kind::Int {
+        return whole_bytes(offset, bytes);
     }
-    whole_bytes_end(offset, bytes)
+    Some(Span {
+        first: offset + u64::from(base.int_offset()),
+        bits: u64::from(base.int_width()),
+    })
 }
 
 /// The same where the word's top 8 bits are the field width.
-fn end_with_flag_1(holder: &Record, member: &[u32], base: &Record, bytes: u32) -> Option<u64> {
+fn span_with_flag_1(holder: &Record, member: &[u32], base: &Record, bytes: u32) -> Option<Span> {
     let width = u64::from(member[2] >> 24);
     let offset = u64::from(bit_offset(holder, member));
     if base.kind == Kind::Int && !base.int_is_regular() {
         return None;
     }
     if width == 0 {
-        return whole_bytes_end(offset, bytes);
+        return whole_bytes(offset, bytes);
     }
-    let may_be_field = matches!(base.kind, Kind::Int | Kind::Enum | Kind::Enum64);
-    if !may_be_field || width > 8 * u64::from(bytes) {
+    if !base.is_integer_or_enum() || width > 8 * u64::from(bytes) {
         return None;
     }
-    Some(offset + width)
+    Some(Span {
+        first: offset,
+        bits: width,
+    })
 }
 
 /// 8 times size, from a multiple of 8.
-fn whole_bytes_end(offset: u64, bytes: u32) -> Option<u64> {
+fn whole_bytes(offset: u64, bytes: u32) -> Option<Span> {
     if offset % 8 != 0 {
         return None;
     }
-    Some(offset + 8 * u64::from(bytes))
+    Some(Span {
+        first: offset,
+        bits: 8 * u64::from(bytes),
+    })
 }

@@ -12,6 +12,7 @@ pub mod members;
 pub mod name_at;
 pub mod names;
 pub mod order;
+pub mod record;
 pub mod reference;
 pub mod report;
 pub mod size;

@@ -50,6 +50,12 @@ pub fn meaning(number: u32) -> &'static str {
         21 => "the index leads outside what can be read",
         22 => "more records would be read than the index has places",
         24 => "the two tables have different byte orders",
+        30 => "the record is shorter than the type",
+        31 => "the type is neither a struct nor a union",
+        32 => "there is no member of that number",
+        33 => "the member is neither an integer nor an enum",
+        34 => "the table is refused",
+        35 => "the table is big-endian",
         _ => "no report",
     }
 }

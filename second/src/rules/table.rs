@@ -129,9 +129,19 @@ impl Record {
         (self.tail[0] >> 16) & 0xFF
     }
 
+    /// For an INT: how its bits are meant; 1 is signed.
+    pub fn int_encoding(&self) -> u32 {
+        (self.tail[0] >> 24) & 0xF
+    }
+
     /// For an INT: regular in the paper's words.
     pub fn int_is_regular(&self) -> bool {
         self.int_offset() == 0 && [8, 16, 32, 64, 128].contains(&self.int_width())
+    }
+
+    /// What a bit field may be of, and what a member can be read as.
+    pub fn is_integer_or_enum(&self) -> bool {
+        matches!(self.kind, Kind::Int | Kind::Enum | Kind::Enum64)
     }
 }
 

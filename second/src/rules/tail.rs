@@ -14,10 +14,9 @@ pub fn report_12(record: &Record) -> bool {
 
 fn breaks_int(record: &Record) -> bool {
     let spare = record.tail[0] & 0xF000_FF00;
-    let encoding = (record.tail[0] >> 24) & 0xF;
     let width = record.int_width();
     spare != 0
-        || ![0, 1, 2, 4].contains(&encoding)
+        || ![0, 1, 2, 4].contains(&record.int_encoding())
         || width < 1
         || record.int_offset() + width > 8 * record.third
 }
