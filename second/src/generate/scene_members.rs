@@ -109,7 +109,8 @@ pub fn order(r: &mut Random, m: &mut Make) {
     let mut offset: u32 = 16;
     for _ in 0..r.between(2, 3) {
         offset = match r.below(5) {
-            0 => offset - 8,
+            // three falls pass 0, and the last lies far outside
+            0 => offset.wrapping_sub(8),
             1 => offset + 8,
             2 => offset + 1,
             _ => offset,
