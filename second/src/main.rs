@@ -1,8 +1,8 @@
 //! The command line of the second implementation of paper 01.
 //!
-//!     second vectors --seed S --cases N [--ops 1,2,3,4] [--small|--long] [--only R]
+//!     second vectors --seed S --cases N [--ops 1,2,3,4,5] [--small|--long] [--only R]
 //!     second antt    --seed S --cases N [--ops 1,2,3,4] [--only R] [--each]
-//!     second census  --seed S --cases N [--ops 1,2,3,4] [--small|--long]
+//!     second census  --seed S --cases N [--ops 1,2,3,4,5] [--small|--long]
 //!     second check FILE
 //!     second changed FILE
 //!
@@ -12,29 +12,34 @@
 //! puts the fixed large tables before them, `--names` every byte at every place
 //! of a name. With `--thin` fewer of the edges and the large are crossed with
 //! each other. A seed's cases are of both orders and mostly small, with some at
-//! the limits; with `--small` no limit is reached, with `--long` checks and
-//! joins are of long tables only.
+//! the limits; with `--small` no limit is reached, with `--long` checks, joins
+//! and members are of long tables only.
+//!
+//! Without `--ops` there are cases of ops 1 to 4. Op 5, a member of a record, is
+//! had with `--ops 5`, or with `--members N` behind all others: its edges and
+//! large tables where those are asked for, and N of the seed's.
 
 use second::census::Census;
 use second::changed::changed;
-use second::generate::{cases, Scale, Wanted};
+use second::generate::{cases, cases_then_members, Scale, Wanted};
 use second::limits::FULL_PLACES;
 use second::report::meaning;
-use second::vectors::{self, run, Case, CHECK, JOIN};
+use second::vectors::{self, run, Case, CHECK, MEMBER};
 use std::io::Write;
 use std::process::ExitCode;
 
 const USAGE: &str = "\
-second vectors --seed S --cases N [--ops 1,2,3,4] [--small|--long] [--only R]
+second vectors --seed S --cases N [--ops 1,2,3,4,5] [--small|--long] [--only R]
 second antt    --seed S --cases N [--ops 1,2,3,4] [--only R] [--each]
-second census  --seed S --cases N [--ops 1,2,3,4] [--small|--long]
+second census  --seed S --cases N [--ops 1,2,3,4,5] [--small|--long]
 second check FILE
 second changed FILE
-(--edges: the fixed cases of every rule's edges in front, and nothing else without --cases;
+(without --ops: ops 1 to 4; --members N: behind all, those of op 5, with N of the seed's;
+--edges: the fixed cases of every rule's edges in front, and nothing else without --cases;
 --part NAME: one part of them, NAME-turned: in the other byte order; --each: each case in a list of its own;
 --large: the fixed large tables before them; --thin: fewer of both crossed with each other;
 --names: every byte at every place of a name before the edges;
---small: no limit is reached; --long: checks and joins of long tables only)";
+--small: no limit is reached; --long: checks, joins and members of long tables only)";
 
 fn main() -> ExitCode {
     let arguments: Vec<String> = std::env::args().skip(1).collect();
@@ -53,13 +58,24 @@ fn main() -> ExitCode {
 fn act(arguments: &[String]) -> Result<Vec<u8>, String> {
     let (command, rest) = arguments.split_first().ok_or(USAGE)?;
     match command.as_str() {
-        "vectors" => Ok(vectors::file(&cases(&wanted(rest)?))),
+        "vectors" => Ok(vectors::file(&all_cases(rest)?)),
         "antt" => antt(rest),
-        "census" => Ok(census(&cases(&wanted(rest)?)).into_bytes()),
+        "census" => Ok(census(&all_cases(rest)?).into_bytes()),
         "check" => judge_file(rest.first().ok_or(USAGE)?),
         "changed" => changed_answers(rest.first().ok_or(USAGE)?),
         _ => Err(USAGE.to_string()),
     }
+}
+
+/// Those that the words ask for; `--members` and its count are taken out first.
+fn all_cases(arguments: &[String]) -> Result<Vec<Case>, String> {
+    let Some(at) = arguments.iter().position(|word| word == "--members") else {
+        return Ok(cases(&wanted(arguments)?));
+    };
+    let count = arguments.get(at + 1).and_then(|word| word.parse().ok());
+    let count = count.ok_or(USAGE)?;
+    let rest = [&arguments[..at], &arguments[at + 2..]].concat();
+    Ok(cases_then_members(wanted(&rest)?, count))
 }
 
 /// Cases as text, in lists of 25, or with `--each` each by itself. The part
@@ -71,6 +87,9 @@ fn antt(arguments: &[String]) -> Result<Vec<u8>, String> {
         scale: Scale::Tiny,
         ..wanted(&rest)?
     };
+    if wanted.ops.contains(&MEMBER) {
+        return Err("antt has ops 1 to 4".to_string());
+    }
     let in_a_list = if each.is_empty() { 25 } else { 1 };
     let with_limits = wanted.part.as_deref().is_none_or(|part| part == "limits");
     Ok(second::antt::file(&cases(&wanted), in_a_list, with_limits).into_bytes())
@@ -112,8 +131,8 @@ fn wanted(arguments: &[String]) -> Result<Wanted, String> {
     }
     let fixed = wanted.edges || wanted.large || wanted.names;
     wanted.cases = count.unwrap_or(if fixed { 0 } else { 100 });
-    if wanted.ops.is_empty() || !wanted.ops.iter().all(|op| (CHECK..=JOIN).contains(op)) {
-        return Err("ops are 1, 2, 3 and 4".to_string());
+    if wanted.ops.is_empty() || !wanted.ops.iter().all(|op| (CHECK..=MEMBER).contains(op)) {
+        return Err("ops are 1 to 5".to_string());
     }
     Ok(wanted)
 }

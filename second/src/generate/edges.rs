@@ -4,7 +4,8 @@
 use crate::generate::turn::turned_case;
 use crate::generate::{edges_faults, edges_joins, edges_layout, edges_names, edges_offsets};
 use crate::generate::{edges_order_joins, edges_order_sizes, edges_orders};
-use crate::generate::{edges_pointers, edges_questions, edges_sections, edges_tails, edges_walks};
+use crate::generate::{edges_pointers, edges_questions, edges_records, edges_sections};
+use crate::generate::{edges_spans, edges_tails, edges_values, edges_walks};
 use crate::make::{blob_of, info, put_word, word_at, Make};
 use crate::reference::references;
 use crate::table::{Kind, ALL_KINDS};
@@ -78,12 +79,16 @@ fn one_order() -> impl Iterator<Item = &'static Part> {
     parts.into_iter().flatten()
 }
 
-/// Those that have tables of both.
+/// Those that have tables of both, and those of members, which no turned table
+/// is read by.
 fn two_orders() -> impl Iterator<Item = &'static Part> {
     let parts = [
         edges_orders::PARTS,
         edges_order_sizes::PARTS,
         edges_order_joins::PARTS,
+        edges_spans::PARTS,
+        edges_values::PARTS,
+        edges_records::PARTS,
     ];
     parts.into_iter().flatten()
 }

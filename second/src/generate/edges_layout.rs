@@ -64,7 +64,7 @@ pub fn base(m: &mut Make, which: u32) -> u32 {
 }
 
 /// One typedef, qualifier or tag around the base, or none.
-fn layered(m: &mut Make, of: u32, layer: u32) -> u32 {
+pub fn layered(m: &mut Make, of: u32, layer: u32) -> u32 {
     let kinds = [
         Kind::Typedef,
         Kind::Volatile,

@@ -6,8 +6,9 @@ use crate::generate::edges_joins::{call, length};
 use crate::generate::large::padded;
 use crate::generate::pieces::{kind_of, table_of};
 use crate::generate::random::Random;
-use crate::generate::turn::mixed;
-use crate::generate::{damage_bytes, valid, Scale};
+use crate::generate::record_cases::{question, AIMS};
+use crate::generate::turn::{in_some_order, mixed};
+use crate::generate::{damage_bytes, large_records, valid, Scale};
 use crate::join::raised;
 use crate::limits::{BYTE_LIMIT, FULL_PLACES, TYPE_LIMIT};
 use crate::make::{Make, Raw};
@@ -108,6 +109,22 @@ fn damaged(r: &mut Random, mut m: Make) -> Vec<u8> {
             blob
         }
     }
+}
+
+/// A member of a long table, read or refused on any ground.
+pub fn member(r: &mut Random) -> Case {
+    let m = if r.one_in(4) {
+        large_records::table(r)
+    } else {
+        of_any_length(r)
+    };
+    let aim = r.pick(&AIMS);
+    let case = question(r, &m, Scale::Long, aim);
+    if aim != 34 {
+        return case;
+    }
+    let a = damaged(r, m);
+    in_some_order(r, Case { a, ..case })
 }
 
 /// Two long tables, most of them joined; else 9 inside or one of the grounds.

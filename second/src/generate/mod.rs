@@ -17,8 +17,11 @@ pub mod edges_order_sizes;
 pub mod edges_orders;
 pub mod edges_pointers;
 pub mod edges_questions;
+pub mod edges_records;
 pub mod edges_sections;
+pub mod edges_spans;
 pub mod edges_tails;
+pub mod edges_values;
 pub mod edges_walks;
 pub mod every_byte;
 pub mod grow;
@@ -28,16 +31,18 @@ pub mod join_cases;
 pub mod large;
 pub mod large_fixed;
 pub mod large_joins;
+pub mod large_records;
 pub mod long;
 pub mod name_cases;
 pub mod pieces;
 pub mod random;
+pub mod record_cases;
 pub mod scene_members;
 pub mod size_cases;
 pub mod turn;
 pub mod valid;
 
-use crate::vectors::{run, Case, CHECK, JOIN, NAME, SIZE};
+use crate::vectors::{run, Case, CHECK, JOIN, MEMBER, NAME, SIZE};
 use random::Random;
 use turn::in_some_order;
 
@@ -50,7 +55,7 @@ pub enum Scale {
     Small,
     /// Mostly small, some at the limits.
     Full,
-    /// Checks and joins of long tables only; the rest as at full scale.
+    /// Checks, joins and members of long tables only; the rest as at full scale.
     Long,
 }
 
@@ -82,6 +87,7 @@ pub fn cases(wanted: &Wanted) -> Vec<Case> {
     if wanted.large {
         found.extend(large_fixed::cases(wanted.thin));
         found.extend(large_joins::cases(wanted.thin));
+        found.extend(large_records::cases(wanted.thin));
     }
     if wanted.names {
         found.extend(every_byte::cases());
@@ -109,16 +115,31 @@ pub fn cases(wanted: &Wanted) -> Vec<Case> {
     found
 }
 
+/// Those wanted, and behind them the fixed cases of members, as far as fixed
+/// ones are wanted, and so many of a seed's: what stands in front stays as it
+/// is without them.
+pub fn cases_then_members(wanted: Wanted, members: usize) -> Vec<Case> {
+    let mut found = cases(&wanted);
+    let behind = Wanted {
+        ops: vec![MEMBER],
+        cases: members,
+        ..wanted
+    };
+    found.extend(cases(&behind));
+    found
+}
+
 /// Has a case an op and the number asked for?
 fn asked_for(case: &Case, wanted: &Wanted) -> bool {
     wanted.ops.contains(&case.op) && wanted.only.is_none_or(|number| run(case).number == number)
 }
 
-/// Checks and joins have the most answers, so they come more often. Each is
-/// made of little-endian tables, and turned round as often as not.
+/// Checks, joins and members have the most answers, so they come more often.
+/// Each is made of little-endian tables, and turned round as often as not, but
+/// for members: all that is told of a turned table that is accepted is 35.
 fn one(r: &mut Random, wanted: &Wanted) -> Case {
     let weighted = [
-        CHECK, CHECK, CHECK, CHECK, SIZE, SIZE, NAME, JOIN, JOIN, JOIN,
+        CHECK, CHECK, CHECK, CHECK, SIZE, SIZE, NAME, JOIN, JOIN, JOIN, MEMBER, MEMBER, MEMBER,
     ];
     let open: Vec<u32> = weighted
         .into_iter()
@@ -127,6 +148,8 @@ fn one(r: &mut Random, wanted: &Wanted) -> Case {
     let case = match (r.pick(&open), wanted.scale) {
         (CHECK, Scale::Long) => long::check(r),
         (JOIN, Scale::Long) => long::join(r),
+        (MEMBER, Scale::Long) => return long::member(r),
+        (MEMBER, scale) => return record_cases::case(r, scale),
         (CHECK, scale) => check_cases::case(r, scale),
         (SIZE, scale) => size_cases::case(r, scale),
         (NAME, scale) => name_cases::case(r, scale),
