@@ -33,10 +33,10 @@ fn raised(by: Shift, role: u32, w: u32) -> u32
     ensures { λ r. ⌜ WordRaised by role w r ⌝ }
 {
     if is_name(role) {
-        return words::raise_name(NameOff(w), by.names).0;
+        return raises::raise_name(NameOff(w), by.names).0;
     }
     if is_reference(role) {
-        return words::raise_type(TypeNo(w), by.types).0;
+        return raises::raise_type(TypeNo(w), by.types).0;
     }
     w
 }

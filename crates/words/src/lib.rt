@@ -1,13 +1,10 @@
-// Words of 32 bits at a place of a slice, in a byte order; the order of a blob; the bytes from a place on, a run of bytes laid over others, and the shift of a number by its kind.
+// Words of 32 bits at a place of a slice, in a byte order; the order of a blob; the bytes from a place on; a run of bytes laid over others.
 // Total: a word that is not wholly inside reads as 0 and is not written, and a run that does not fit is not laid.
-use paper::NameOff;
 use paper::Order;
 use paper::Place;
-use paper::TypeNo;
 ghost use mathlib.Core.Path.{_≡_};
 ghost use Prim.Native.Nat.{_+_, _%_, _≤_};
 ghost use lib.ListN.{length};
-ghost use Rattle.paper.specs.rules.Rename.{raise};
 ghost use Rattle.paper.specs.declared.Order.the-variants.{HighFirst, LowFirst};
 ghost use Rattle.paper.specs.rules.Header.{orderOf};
 ghost use Rattle.paper.specs.rules.Word.{firstWord, putWord, wordAt, wordBytes, wordOf};
@@ -123,28 +120,4 @@ pub fn lay(out: &mut [u8], at: usize, s: &[u8])
         return;
     }
     copy(out, at, s)
-}
-
-// The number raised, in 32 bits; 0 stands.
-fn raised(w: u32, by: u32) -> u32
-    ensures { λ r. ⌜ r ≡ raise by w % 4294967296 ⌝ }
-{
-    if w == 0 {
-        return 0;
-    }
-    std::num::wrapping_add_u32(w, by)
-}
-
-// A type number raised by so many types; void stands.
-pub fn raise_type(t: TypeNo, by: TypeNo) -> TypeNo
-    ensures { λ r. ⌜ r .0 ≡ raise (by .0) (t .0) % 4294967296 ⌝ }
-{
-    TypeNo(raised(t.0, by.0))
-}
-
-// A name offset raised by so many bytes; offset 0 stands.
-pub fn raise_name(n: NameOff, by: NameOff) -> NameOff
-    ensures { λ r. ⌜ r .0 ≡ raise (by .0) (n .0) % 4294967296 ⌝ }
-{
-    NameOff(raised(n.0, by.0))
 }

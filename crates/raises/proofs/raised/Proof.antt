@@ -1,11 +1,11 @@
--- `words::raised` meets its contract: 0 stands, and any other number is raised.
+-- `raises::raised` meets its contract: 0 stands, and any other number is raised.
 -- Assumes nothing.
 use Prim.Native.Nat.{ℕ, _%_}
 use mathlib.Core.Path.{ap, sym, _∙_}
 use Rattle.paper.proofs.renaming.Rename.{raise-zero, raise-other}
 use borrow.Author.Needs.{needs}
-use Rattle.words.proofs.raised.Statement.{statement}
-use Rattle.words.proofs.raised.Tie as tie
+use Rattle.raises.proofs.raised.Statement.{statement}
+use Rattle.raises.proofs.raised.Tie as tie
 
 returns : tie.Need-returns
 returns c = sym (ap (λ (x : ℕ). x % 4294967296) (raise-zero (c .before .args .by) (c .if1 .taken)))
