@@ -1,4 +1,6 @@
 // What a member of a record says: the span of its bits, and the value that those bits are in a record's bytes.
+mod numbers; // the number of a span's bits
+
 use paper::Report;
 
 // How a member's bits are read, or why they are not: 35, 21 and 31 whatever the record is, 32 and 33 behind its length.

@@ -1,0 +1,105 @@
+-- Laws of reading by eight bytes at a time: a span that lies in eight bytes, and one that takes a ninth.
+-- Assumes nothing.
+use Prim.Native.Nat.{ℕ, zero, suc, _+_, _*_, _-_, _/_, _%_, _^_, _≤_, _<_}
+use mathlib.Core.Path.{_≡_, refl, sym, ap, ap₂, _∙_, subst}
+use mathlib.Core.List.{List, _∷_}
+use native.Mathlib.Nat.{add-comm, mod-lt, lt-of-lt-of-le}
+use native.Mathlib.Omega.{arith}
+use lib.Pow.{pow-pos, pow-mono, shr-shr, shl-exact, field, mod-mod-pow, mod-pow-add, ones-split, ones-lt, high}
+use lib.ListN.{length, getD, take, drop}
+use lib.Seq.{take-all, drop-cons}
+use Rattle.paper.proofs.bytes.Bytes.{part-rest}
+use Rattle.values.proofs.BitNumbers.{number-part, number-cons, number-from, number-window}
+use Rattle.values.specs.NumberAt.{recordNumber, numberAt}
+
+-- ── numbers ──
+
+-- the low bits of some low bits
+pub mod-low : (x : ℕ) {k n : ℕ} → n ≤ k → x % 2 ^ k % 2 ^ n ≡ x % 2 ^ n
+mod-low x {k} {n} h =
+    let all : k ≡ (k - n) + n = omega arith in
+    ap (λ (j : ℕ). x % 2 ^ j % 2 ^ n) all ∙ mod-mod-pow x (k - n) n
+
+-- a word without its lowest bits
+pub mod-field : (x : ℕ) {k d : ℕ} → d ≤ k → x % 2 ^ k / 2 ^ d ≡ x / 2 ^ d % 2 ^ (k - d)
+mod-field x {k} {d} h =
+    let all : k ≡ (k - d) + d = omega arith in
+    ap (λ (j : ℕ). x % 2 ^ j / 2 ^ d) all ∙ field x (k - d) d
+
+-- a word of ones without its highest bits
+pub ones-cut : {bits : ℕ} → bits ≤ 64 → (2 ^ 64 - 1) / 2 ^ (64 - bits) ≡ 2 ^ bits - 1
+ones-cut {bits} h =
+    let all : 64 ≡ bits + (64 - bits) = omega arith in
+    ap (λ (k : ℕ). (2 ^ k - 1) / 2 ^ (64 - bits)) all
+    ∙ ap (λ (n : ℕ). n / 2 ^ (64 - bits)) (ones-split bits (64 - bits))
+    ∙ high (2 ^ bits - 1) (64 - bits) (ones-lt (64 - bits))
+
+-- the eight bytes from a place on, shifted to a bit of theirs
+shifted : (s : List ℕ) (p from : ℕ) → 8 * p ≤ from → from - 8 * p ≤ 64
+    → recordNumber (take 8 (drop p s)) / 2 ^ (from - 8 * p) ≡ recordNumber s / 2 ^ from % 2 ^ (64 - (from - 8 * p))
+shifted s p from low few =
+    let all : 8 * p + (from - 8 * p) ≡ from = omega arith in
+    ap (λ (n : ℕ). n / 2 ^ (from - 8 * p)) (number-window p s)
+    ∙ mod-field (recordNumber s / 2 ^ (8 * p)) few
+    ∙ ap (λ (n : ℕ). n % 2 ^ (64 - (from - 8 * p))) (shr-shr (recordNumber s) (8 * p) (from - 8 * p) ∙ ap (λ (k : ℕ). recordNumber s / 2 ^ k) all)
+
+-- ── a span in eight bytes ──
+
+pub window-inside : (s : List ℕ) (p from bits : ℕ) → 8 * p ≤ from → bits ≤ 64 - (from - 8 * p) → from - 8 * p ≤ 64
+    → recordNumber (take 8 (drop p s)) / 2 ^ (from - 8 * p) % 2 ^ bits ≡ numberAt from bits s
+window-inside s p from bits low inside few =
+    ap (λ (n : ℕ). n % 2 ^ bits) (shifted s p from low few) ∙ mod-low (recordNumber s / 2 ^ from) inside ∙ sym (number-part from bits s)
+
+-- ── a span that takes a ninth ──
+
+ninth : (s : List ℕ) (q m : ℕ) → q < length s → m ≤ 8 → recordNumber s / 2 ^ (8 * q) % 2 ^ m ≡ getD s q 0 % 2 ^ m
+ninth s q m inside few =
+    let behind = number-cons (getD s q 0) (drop (suc q) s) in
+    let byte : recordNumber (getD s q 0 ∷ drop (suc q) s) % 2 ^ 8 ≡ getD s q 0 % 2 ^ 8 = omega arith in
+    ap (λ (n : ℕ). n % 2 ^ m) (sym (number-from q s) ∙ ap recordNumber (drop-cons s q 0 inside))
+    ∙ sym (mod-low (recordNumber (getD s q 0 ∷ drop (suc q) s)) few)
+    ∙ ap (λ (n : ℕ). n % 2 ^ m) byte
+    ∙ mod-low (getD s q 0) few
+
+pub window-across : (s : List ℕ) (p from bits : ℕ) → 8 * p ≤ from → from - 8 * p ≤ 7 → 64 - (from - 8 * p) < bits → bits ≤ 64 → p + 8 < length s
+    → recordNumber (take 8 (drop p s)) / 2 ^ (from - 8 * p)
+    + (getD s (p + 8) 0 % 2 ^ (bits - (64 - (from - 8 * p)))) * 2 ^ (64 - (from - 8 * p)) % 2 ^ 64
+    ≡ numberAt from bits s
+window-across s p from bits low few across short inside =
+    let left : ℕ = 64 - (from - 8 * p) in
+    let more : ℕ = bits - left in
+    let start : ℕ = recordNumber s / 2 ^ from in
+    let ends : from + left ≡ 8 * (p + 8) = omega arith in
+    let all : more + left ≡ bits = omega arith in
+    let next : start / 2 ^ left % 2 ^ more ≡ getD s (p + 8) 0 % 2 ^ more =
+    ap (λ (n : ℕ). n % 2 ^ more) (shr-shr (recordNumber s) from left ∙ ap (λ (k : ℕ). recordNumber s / 2 ^ k) ends)
+    ∙ ninth s (p + 8) more inside (omega arith) in
+    let placed = shl-exact {a = getD s (p + 8) 0 % 2 ^ more} more left 64 (mod-lt (getD s (p + 8) 0) (pow-pos more)) (omega arith) in
+    let first = shifted s p from low (omega arith) in
+    let raised = ap (λ (n : ℕ). n * 2 ^ left) next in
+    let whole = mod-pow-add start more left in
+    let said : numberAt from bits s ≡ start % 2 ^ (more + left) = number-part from bits s ∙ ap (λ (k : ℕ). start % 2 ^ k) (sym all) in
+    ap₂ _+_ first (placed ∙ sym raised) ∙ add-comm _ _ ∙ sym whole ∙ sym said
+
+-- ── as they are read ──
+
+pub read-few : {w r : ℕ} (s : List ℕ) (from bits : ℕ) → w ≡ recordNumber (take 8 s) → length s ≤ 8 → r ≡ w / 2 ^ from % 2 ^ bits → r ≡ numberAt from bits s
+read-few s from bits read short cut =
+    cut ∙ ap (λ (n : ℕ). n / 2 ^ from % 2 ^ bits) (read ∙ ap recordNumber (take-all 8 s short)) ∙ sym (number-part from bits s)
+
+module _ {w : ℕ} (s : List ℕ) (p from bits : ℕ) (read : w ≡ recordNumber (take 8 (take (length s - p) (drop p s)))) (low : 8 * p ≤ from) where
+  read-window : w ≡ recordNumber (take 8 (drop p s))
+  read-window = read ∙ ap (λ (xs : List ℕ). recordNumber (take 8 xs)) (part-rest s p)
+
+  pub read-inside : {r : ℕ} → r ≡ w / 2 ^ (from - 8 * p) % 2 ^ bits → bits ≤ 64 - (from - 8 * p) → from - 8 * p ≤ 64 → r ≡ numberAt from bits s
+  read-inside cut inside few = cut ∙ ap (λ (n : ℕ). n / 2 ^ (from - 8 * p) % 2 ^ bits) read-window ∙ window-inside s p from bits low inside few
+
+  module _ {more : ℕ} (next : more ≡ getD s (p + 8) 0 % 2 ^ (bits - (64 - (from - 8 * p))))
+      (few : from - 8 * p ≤ 7) (across : 64 - (from - 8 * p) < bits) (short : bits ≤ 64) (inside : p + 8 < length s) where
+    pub read-across : w / 2 ^ (from - 8 * p) + more * 2 ^ (64 - (from - 8 * p)) % 2 ^ 64 ≡ numberAt from bits s
+    read-across =
+        ap₂ (λ (n k : ℕ). n / 2 ^ (from - 8 * p) + k * 2 ^ (64 - (from - 8 * p)) % 2 ^ 64) read-window next
+        ∙ window-across s p from bits low few across short inside
+
+    pub across-fits : w / 2 ^ (from - 8 * p) + more * 2 ^ (64 - (from - 8 * p)) % 2 ^ 64 < 2 ^ 64
+    across-fits = subst (λ (n : ℕ). n < 2 ^ 64) (sym (read-across ∙ number-part from bits s)) (lt-of-lt-of-le (mod-lt _ (pow-pos bits)) (pow-mono short))

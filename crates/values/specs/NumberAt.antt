@@ -1,0 +1,35 @@
+-- What the functions promise that `value_of` stands on: numbers for the bits of `Value`.
+use Prim.Native.Nat.{ℕ, zero, suc, _*_, _-_, _/_, _%_, _^_}
+use mathlib.Core.Bool.{Bool, cond, _&&_}
+use mathlib.Core.List.{List, [], _∷_, _++_}
+use lib.Dec.{eqb}
+use lib.IntN.{ℤ, pos, negsuc}
+use lib.ListN.{take, drop}
+use Rattle.values.specs.Value.{recordBits, bitsNumber}
+
+-- the number of a record's bytes, low byte first
+unfoldable pub recordNumber : List ℕ → ℕ
+recordNumber s = bitsNumber (recordBits s)
+
+-- the number of so many bits from a bit on
+unfoldable pub numberAt : ℕ → ℕ → List ℕ → ℕ
+numberAt from bits s = bitsNumber (take bits (drop from (recordBits s)))
+
+-- ── a number of so many bits, with its top bit as sign ──
+
+abbrev pub isMinus : ℕ → ℕ → Bool
+isMinus bits n = eqb (n / 2 ^ (bits - 1)) 1
+
+unfoldable pub signedNumber : ℕ → ℕ → ℤ
+signedNumber bits n = cond (isMinus bits n) (negsuc (2 ^ bits - suc n)) (pos n)
+
+-- filled up to 64 bits
+unfoldable pub filledNumber : Bool → ℕ → ℕ → ℕ
+filledNumber signed bits n = cond (signed && isMinus bits n) (2 ^ 64 - suc (2 ^ bits - suc n)) n
+
+-- ── bytes ──
+
+-- so many bytes of a number, from one on
+abbrev pub bytesFrom : ℕ → ℕ → ℕ → List ℕ
+bytesFrom zero i n = []
+bytesFrom (suc k) i n = n / 2 ^ (8 * i) % 256 ∷ bytesFrom k (suc i) n

@@ -1,0 +1,87 @@
+// The number of a span's bits in a record's bytes: eight bytes are read at once, shifted, and cut.
+ghost use mathlib.Core.Path.{_≡_};
+ghost use mathlib.Core.List.{[], _∷_};
+ghost use Prim.Native.Nat.{_+_, _*_, _-_, _%_, _^_, _≤_, min};
+ghost use lib.ListN.{getD, length, take};
+ghost use Rattle.values.specs.NumberAt.{numberAt, recordNumber};
+
+// So many ones.
+pub(crate) fn ones(bits: u64) -> u64
+    requires { ⌜ (1 ≤ bits) × (bits ≤ 64) ⌝ }
+    ensures { λ r. ⌜ r ≡ 2 ^ bits - 1 ⌝ }
+{
+    u64::MAX >> (64 - bits)
+}
+
+// The low bits of a number.
+fn low_bits(x: u64, bits: u64) -> u64
+    requires { ⌜ (1 ≤ bits) × (bits ≤ 64) ⌝ }
+    ensures { λ r. ⌜ r ≡ x % 2 ^ bits ⌝ }
+{
+    x & ones(bits)
+}
+
+// The number of eight bytes, low byte first: one load where they lie side by side.
+fn compose(a: u8, b: u8, c: u8, d: u8, e: u8, f: u8, g: u8, h: u8) -> u64
+    ensures { λ r. ⌜ r ≡ recordNumber (a ∷ b ∷ c ∷ d ∷ e ∷ f ∷ g ∷ h ∷ []) ⌝ }
+{
+    let low = (a as u64) + (b as u64) * 0x100 + (c as u64) * 0x1_0000 + (d as u64) * 0x100_0000;
+    let high = (e as u64) + (f as u64) * 0x100 + (g as u64) * 0x1_0000 + (h as u64) * 0x100_0000;
+    low + high * 0x1_0000_0000
+}
+
+// The first eight bytes.
+fn eight(s: &[u8]) -> u64
+    requires { ⌜ 8 ≤ length (now s) ⌝ }
+    ensures { λ r. ⌜ r ≡ recordNumber (take 8 (now (s .entry))) ⌝ }
+{
+    compose(s[0], s[1], s[2], s[3], s[4], s[5], s[6], s[7])
+}
+
+// A byte; 0 past the end.
+fn byte(s: &[u8], at: usize) -> u8
+    ensures { λ r. ⌜ r ≡ getD (now (s .entry)) at 0 ⌝ }
+{
+    if at < s.len() { s[at] } else { 0 }
+}
+
+// The same of any bytes, with zeros past the end.
+fn few(s: &[u8]) -> u64
+    ensures { λ r. ⌜ r ≡ recordNumber (take 8 (now (s .entry))) ⌝ }
+{
+    compose(
+        byte(s, 0),
+        byte(s, 1),
+        byte(s, 2),
+        byte(s, 3),
+        byte(s, 4),
+        byte(s, 5),
+        byte(s, 6),
+        byte(s, 7),
+    )
+}
+
+// The smaller of two places.
+fn earlier(a: usize, b: usize) -> usize
+    ensures { λ r. ⌜ r ≡ min a b ⌝ }
+{
+    if a < b { a } else { b }
+}
+
+// The bits of a span. The eight bytes from its first on are read, or the record's last eight; a span that passes them takes the low bits of the ninth.
+pub(crate) fn number_at(s: &[u8], from: u64, bits: u64) -> u64
+    requires { ⌜ (1 ≤ bits) × (bits ≤ 64) × (from + bits ≤ 8 * length (now s)) ⌝ }
+    ensures { λ r. ⌜ r ≡ numberAt from bits (now (s .entry)) ⌝ }
+{
+    if s.len() < 8 {
+        return low_bits(few(s) >> from, bits);
+    }
+    let place = earlier((from / 8) as usize, s.len() - 8);
+    let before = from - 8 * (place as u64);
+    let low = eight(&s[place..]) >> before;
+    let left = 64 - before;
+    if bits <= left {
+        return low_bits(low, bits);
+    }
+    low + (low_bits(s[place + 8] as u64, bits - left) << left)
+}
