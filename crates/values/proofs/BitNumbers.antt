@@ -83,13 +83,10 @@ pub number-from : (p : ℕ) (s : List ℕ) → recordNumber (drop p s) ≡ recor
 unfolding recordNumber
 number-from p s = ap bitsNumber (recordBits-drop p s) ∙ number-drop (8 * p) (recordBits s) (bits-recordBits s)
 
--- eight of them
-pub number-window : (p : ℕ) (s : List ℕ) → recordNumber (take 8 (drop p s)) ≡ recordNumber s / 2 ^ (8 * p) % 2 ^ 64
+-- the first eight
+pub number-eight : (s : List ℕ) → recordNumber (take 8 s) ≡ recordNumber s % 2 ^ 64
 unfolding recordNumber
-number-window p s =
-    ap bitsNumber (recordBits-take 8 (drop p s))
-    ∙ number-take 64 (recordBits (drop p s)) (bits-recordBits (drop p s))
-    ∙ ap (λ (n : ℕ). n % 2 ^ 64) (number-from p s)
+number-eight s = ap bitsNumber (recordBits-take 8 s) ∙ number-take 64 (recordBits s) (bits-recordBits s)
 
 -- ── byte by byte ──
 
@@ -108,7 +105,7 @@ byte-on k (suc i) [] = ap (λ (xs : List ℕ). 0 + 256 * recordNumber xs) (take-
 byte-on k zero (x ∷ s) = sym (number-cons x (take k s))
 byte-on k (suc i) (x ∷ s) = byte-on k i s
 
-pub number-bytesAt : (k i : ℕ) (s : List ℕ) → recordNumber (bytesAt k i s) ≡ recordNumber (take k (drop i s))
+number-bytesAt : (k i : ℕ) (s : List ℕ) → recordNumber (bytesAt k i s) ≡ recordNumber (take k (drop i s))
 number-bytesAt zero i s = refl
 number-bytesAt (suc k) i s =
     number-cons (getD s i 0) (bytesAt k (suc i) s) ∙ ap (λ (n : ℕ). getD s i 0 % 256 + 256 * n) (number-bytesAt k (suc i) s) ∙ byte-on k i s
@@ -129,3 +126,10 @@ number-8 a b c d e f g h la lb lc ld le lf lg lh =
     let high = number-4 e f g h [] le lf lg lh in
     let low = number-4 a b c d (e ∷ f ∷ g ∷ h ∷ []) la lb lc ld in
     omega arith
+
+-- eight bytes that were read one by one
+pub read-bytes : {w a b c d e f g h : ℕ} (s : List ℕ) → w ≡ recordNumber (a ∷ b ∷ c ∷ d ∷ e ∷ f ∷ g ∷ h ∷ [])
+    → a ≡ getD s 0 0 → b ≡ getD s 1 0 → c ≡ getD s 2 0 → d ≡ getD s 3 0 → e ≡ getD s 4 0 → f ≡ getD s 5 0 → g ≡ getD s 6 0 → h ≡ getD s 7 0
+    → w ≡ recordNumber (take 8 s)
+read-bytes s read a b c d e f g h =
+    read ∙ (λ i. recordNumber (a i ∷ b i ∷ c i ∷ d i ∷ e i ∷ f i ∷ g i ∷ h i ∷ [])) ∙ number-bytesAt 8 0 s

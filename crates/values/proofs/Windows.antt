@@ -9,7 +9,7 @@ use lib.Pow.{pow-pos, pow-mono, shr-shr, shl-exact, field, mod-mod-pow, mod-pow-
 use lib.ListN.{length, getD, take, drop}
 use lib.Seq.{take-all, drop-cons}
 use Rattle.paper.proofs.bytes.Bytes.{part-rest}
-use Rattle.values.proofs.BitNumbers.{number-part, number-cons, number-from, number-window}
+use Rattle.values.proofs.BitNumbers.{number-part, number-cons, number-from, number-eight}
 use Rattle.values.specs.NumberAt.{recordNumber, numberAt}
 
 -- ── numbers ──
@@ -34,21 +34,18 @@ ones-cut {bits} h =
     ∙ ap (λ (n : ℕ). n / 2 ^ (64 - bits)) (ones-split bits (64 - bits))
     ∙ high (2 ^ bits - 1) (64 - bits) (ones-lt (64 - bits))
 
--- the eight bytes from a place on, shifted to a bit of theirs
-shifted : (s : List ℕ) (p from : ℕ) → 8 * p ≤ from → from - 8 * p ≤ 64
-    → recordNumber (take 8 (drop p s)) / 2 ^ (from - 8 * p) ≡ recordNumber s / 2 ^ from % 2 ^ (64 - (from - 8 * p))
-shifted s p from low few =
-    let all : 8 * p + (from - 8 * p) ≡ from = omega arith in
-    ap (λ (n : ℕ). n / 2 ^ (from - 8 * p)) (number-window p s)
-    ∙ mod-field (recordNumber s / 2 ^ (8 * p)) few
-    ∙ ap (λ (n : ℕ). n % 2 ^ (64 - (from - 8 * p))) (shr-shr (recordNumber s) (8 * p) (from - 8 * p) ∙ ap (λ (k : ℕ). recordNumber s / 2 ^ k) all)
+-- ── a span in the first eight bytes ──
 
--- ── a span in eight bytes ──
+-- these, without the bits before the span
+shifted : (s : List ℕ) (from : ℕ) → from ≤ 64 → recordNumber (take 8 s) / 2 ^ from ≡ recordNumber s / 2 ^ from % 2 ^ (64 - from)
+shifted s from few = ap (λ (n : ℕ). n / 2 ^ from) (number-eight s) ∙ mod-field (recordNumber s) few
 
-pub window-inside : (s : List ℕ) (p from bits : ℕ) → 8 * p ≤ from → bits ≤ 64 - (from - 8 * p) → from - 8 * p ≤ 64
-    → recordNumber (take 8 (drop p s)) / 2 ^ (from - 8 * p) % 2 ^ bits ≡ numberAt from bits s
-window-inside s p from bits low inside few =
-    ap (λ (n : ℕ). n % 2 ^ bits) (shifted s p from low few) ∙ mod-low (recordNumber s / 2 ^ from) inside ∙ sym (number-part from bits s)
+module _ {w : ℕ} (s : List ℕ) (from bits : ℕ) (read : w ≡ recordNumber (take 8 s)) (few : from ≤ 64) where
+  first : w / 2 ^ from ≡ recordNumber s / 2 ^ from % 2 ^ (64 - from)
+  first = ap (λ (n : ℕ). n / 2 ^ from) read ∙ shifted s from few
+
+  pub read-inside : {r : ℕ} → r ≡ w / 2 ^ from % 2 ^ bits → bits ≤ 64 - from → r ≡ numberAt from bits s
+  read-inside cut inside = cut ∙ ap (λ (n : ℕ). n % 2 ^ bits) first ∙ mod-low (recordNumber s / 2 ^ from) inside ∙ sym (number-part from bits s)
 
 -- ── a span that takes a ninth ──
 
@@ -61,45 +58,40 @@ ninth s q m inside few =
     ∙ ap (λ (n : ℕ). n % 2 ^ m) byte
     ∙ mod-low (getD s q 0) few
 
-pub window-across : (s : List ℕ) (p from bits : ℕ) → 8 * p ≤ from → from - 8 * p ≤ 7 → 64 - (from - 8 * p) < bits → bits ≤ 64 → p + 8 < length s
-    → recordNumber (take 8 (drop p s)) / 2 ^ (from - 8 * p)
-    + (getD s (p + 8) 0 % 2 ^ (bits - (64 - (from - 8 * p)))) * 2 ^ (64 - (from - 8 * p)) % 2 ^ 64
-    ≡ numberAt from bits s
-window-across s p from bits low few across short inside =
-    let left : ℕ = 64 - (from - 8 * p) in
-    let more : ℕ = bits - left in
-    let start : ℕ = recordNumber s / 2 ^ from in
-    let ends : from + left ≡ 8 * (p + 8) = omega arith in
-    let all : more + left ≡ bits = omega arith in
-    let next : start / 2 ^ left % 2 ^ more ≡ getD s (p + 8) 0 % 2 ^ more =
-    ap (λ (n : ℕ). n % 2 ^ more) (shr-shr (recordNumber s) from left ∙ ap (λ (k : ℕ). recordNumber s / 2 ^ k) ends)
-    ∙ ninth s (p + 8) more inside (omega arith) in
-    let placed = shl-exact {a = getD s (p + 8) 0 % 2 ^ more} more left 64 (mod-lt (getD s (p + 8) 0) (pow-pos more)) (omega arith) in
-    let first = shifted s p from low (omega arith) in
-    let raised = ap (λ (n : ℕ). n * 2 ^ left) next in
-    let whole = mod-pow-add start more left in
-    let said : numberAt from bits s ≡ start % 2 ^ (more + left) = number-part from bits s ∙ ap (λ (k : ℕ). start % 2 ^ k) (sym all) in
-    ap₂ _+_ first (placed ∙ sym raised) ∙ add-comm _ _ ∙ sym whole ∙ sym said
+module _ {w next : ℕ} (s : List ℕ) (from bits : ℕ) (read : w ≡ recordNumber (take 8 s)) (low : next ≡ getD s 8 0 % 2 ^ (bits - (64 - from)))
+    (few : from ≤ 64) (across : 64 - from < bits) (short : bits ≤ 64) (near : from + bits ≤ 72) (inside : 8 < length s) where
+  pub read-across : w / 2 ^ from + next * 2 ^ (64 - from) % 2 ^ 64 ≡ numberAt from bits s
+  read-across =
+      let left : ℕ = 64 - from in
+      let more : ℕ = bits - left in
+      let start : ℕ = recordNumber s / 2 ^ from in
+      let ends : from + left ≡ 64 = omega arith in
+      let all : more + left ≡ bits = omega arith in
+      let byte : next ≡ start / 2 ^ left % 2 ^ more =
+      low ∙ sym (ap (λ (n : ℕ). n % 2 ^ more) (shr-shr (recordNumber s) from left ∙ ap (λ (k : ℕ). recordNumber s / 2 ^ k) ends) ∙ ninth s 8 more inside (omega arith)) in
+      let small : next < 2 ^ more = subst (λ (n : ℕ). n < 2 ^ more) (sym low) (mod-lt (getD s 8 0) (pow-pos more)) in
+      ap₂ _+_ (first s from bits read few) (shl-exact more left 64 small (omega arith) ∙ ap (λ (n : ℕ). n * 2 ^ left) byte)
+      ∙ add-comm _ _
+      ∙ sym (mod-pow-add start more left)
+      ∙ ap (λ (k : ℕ). start % 2 ^ k) all
+      ∙ sym (number-part from bits s)
 
--- ── as they are read ──
+  pub across-fits : w / 2 ^ from + next * 2 ^ (64 - from) % 2 ^ 64 < 2 ^ 64
+  across-fits = subst (λ (n : ℕ). n < 2 ^ 64) (sym (read-across ∙ number-part from bits s)) (lt-of-lt-of-le (mod-lt _ (pow-pos bits)) (pow-mono short))
+
+-- ── the bytes from a place on ──
 
 pub read-few : {w r : ℕ} (s : List ℕ) (from bits : ℕ) → w ≡ recordNumber (take 8 s) → length s ≤ 8 → r ≡ w / 2 ^ from % 2 ^ bits → r ≡ numberAt from bits s
 read-few s from bits read short cut =
     cut ∙ ap (λ (n : ℕ). n / 2 ^ from % 2 ^ bits) (read ∙ ap recordNumber (take-all 8 s short)) ∙ sym (number-part from bits s)
 
-module _ {w : ℕ} (s : List ℕ) (p from bits : ℕ) (read : w ≡ recordNumber (take 8 (take (length s - p) (drop p s)))) (low : 8 * p ≤ from) where
-  read-window : w ≡ recordNumber (take 8 (drop p s))
-  read-window = read ∙ ap (λ (xs : List ℕ). recordNumber (take 8 xs)) (part-rest s p)
-
-  pub read-inside : {r : ℕ} → r ≡ w / 2 ^ (from - 8 * p) % 2 ^ bits → bits ≤ 64 - (from - 8 * p) → from - 8 * p ≤ 64 → r ≡ numberAt from bits s
-  read-inside cut inside few = cut ∙ ap (λ (n : ℕ). n / 2 ^ (from - 8 * p) % 2 ^ bits) read-window ∙ window-inside s p from bits low inside few
-
-  module _ {more : ℕ} (next : more ≡ getD s (p + 8) 0 % 2 ^ (bits - (64 - (from - 8 * p))))
-      (few : from - 8 * p ≤ 7) (across : 64 - (from - 8 * p) < bits) (short : bits ≤ 64) (inside : p + 8 < length s) where
-    pub read-across : w / 2 ^ (from - 8 * p) + more * 2 ^ (64 - (from - 8 * p)) % 2 ^ 64 ≡ numberAt from bits s
-    read-across =
-        ap₂ (λ (n k : ℕ). n / 2 ^ (from - 8 * p) + k * 2 ^ (64 - (from - 8 * p)) % 2 ^ 64) read-window next
-        ∙ window-across s p from bits low few across short inside
-
-    pub across-fits : w / 2 ^ (from - 8 * p) + more * 2 ^ (64 - (from - 8 * p)) % 2 ^ 64 < 2 ^ 64
-    across-fits = subst (λ (n : ℕ). n < 2 ^ 64) (sym (read-across ∙ number-part from bits s)) (lt-of-lt-of-le (mod-lt _ (pow-pos bits)) (pow-mono short))
+-- a span of the record is one of theirs
+pub read-part : {r : ℕ} (s : List ℕ) (p from bits : ℕ) → 8 * p ≤ from → r ≡ numberAt (from - 8 * p) bits (take (length s - p) (drop p s)) → r ≡ numberAt from bits s
+read-part s p from bits low read =
+    let all : 8 * p + (from - 8 * p) ≡ from = omega arith in
+    read
+    ∙ ap (numberAt (from - 8 * p) bits) (part-rest s p)
+    ∙ number-part (from - 8 * p) bits (drop p s)
+    ∙ ap (λ (n : ℕ). n / 2 ^ (from - 8 * p) % 2 ^ bits) (number-from p s)
+    ∙ ap (λ (n : ℕ). n % 2 ^ bits) (shr-shr (recordNumber s) (8 * p) (from - 8 * p) ∙ ap (λ (k : ℕ). recordNumber s / 2 ^ k) all)
+    ∙ sym (number-part from bits s)

@@ -1,7 +1,7 @@
 // The number of a span's bits in a record's bytes: eight bytes are read at once, shifted, and cut.
 ghost use mathlib.Core.Path.{_≡_};
 ghost use mathlib.Core.List.{[], _∷_};
-ghost use Prim.Native.Nat.{_+_, _*_, _-_, _%_, _^_, _≤_, min};
+ghost use Prim.Native.Nat.{_+_, _*_, _-_, _%_, _^_, _≤_, _<_, min};
 ghost use lib.ListN.{getD, length, take};
 ghost use Rattle.values.specs.NumberAt.{numberAt, recordNumber};
 
@@ -68,7 +68,20 @@ fn earlier(a: usize, b: usize) -> usize
     if a < b { a } else { b }
 }
 
-// The bits of a span. The eight bytes from its first on are read, or the record's last eight; a span that passes them takes the low bits of the ninth.
+// A span that begins in the first eight bytes; where it passes them it takes the low bits of the ninth.
+fn in_window(s: &[u8], from: u64, bits: u64) -> u64
+    requires { ⌜ (8 ≤ length (now s)) × (from < 64) × (1 ≤ bits) × (bits ≤ 64) × (from + bits ≤ 72) × (from + bits ≤ 8 * length (now s)) ⌝ }
+    ensures { λ r. ⌜ r ≡ numberAt from bits (now (s .entry)) ⌝ }
+{
+    let low = eight(s) >> from;
+    let left = 64 - from;
+    if bits <= left {
+        return low_bits(low, bits);
+    }
+    low + (low_bits(s[8] as u64, bits - left) << left)
+}
+
+// The bits of a span: the eight bytes from its first on are read, or the record's last eight.
 pub(crate) fn number_at(s: &[u8], from: u64, bits: u64) -> u64
     requires { ⌜ (1 ≤ bits) × (bits ≤ 64) × (from + bits ≤ 8 * length (now s)) ⌝ }
     ensures { λ r. ⌜ r ≡ numberAt from bits (now (s .entry)) ⌝ }
@@ -77,11 +90,5 @@ pub(crate) fn number_at(s: &[u8], from: u64, bits: u64) -> u64
         return low_bits(few(s) >> from, bits);
     }
     let place = earlier((from / 8) as usize, s.len() - 8);
-    let before = from - 8 * (place as u64);
-    let low = eight(&s[place..]) >> before;
-    let left = 64 - before;
-    if bits <= left {
-        return low_bits(low, bits);
-    }
-    low + (low_bits(s[place + 8] as u64, bits - left) << left)
+    in_window(&s[place..], from - 8 * (place as u64), bits)
 }

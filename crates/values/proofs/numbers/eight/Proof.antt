@@ -1,8 +1,8 @@
 -- `values::numbers::eight` meets its contract.
 -- Assumes nothing.
-use mathlib.Core.Path.{_∙_}
+use mathlib.Core.Path.{refl}
 use denote.Ref.{now}
-use Rattle.values.proofs.BitNumbers.{number-bytesAt}
+use Rattle.values.proofs.BitNumbers.{read-bytes}
 use borrow.Author.Needs.{needs}
 use Rattle.values.proofs.numbers.eight.Statement.{statement}
 use Rattle.values.proofs.numbers.eight.Tie as tie
@@ -35,7 +35,7 @@ compose-requires : tie.Need-compose-requires
 compose-requires c κs = search needs
 
 returns : tie.Need-returns
-returns c = c .compose .ensures ∙ number-bytesAt 8 0 (now (c .before .before .before .before .before .before .before .before .before .before .args .s))
+returns c = read-bytes (now (c .before .before .before .before .before .before .before .before .before .before .args .s)) (c .compose .ensures) refl refl refl refl refl refl refl refl
 
 pub eight-spec : {M : Type 1} → statement M
 eight-spec =

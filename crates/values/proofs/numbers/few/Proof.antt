@@ -1,7 +1,7 @@
 -- `values::numbers::few` meets its contract.
 -- Assumes nothing.
 use denote.Ref.{now}
-use Rattle.values.proofs.BitNumbers.{number-bytesAt}
+use Rattle.values.proofs.BitNumbers.{read-bytes}
 use borrow.Author.Needs.{needs}
 use Rattle.values.proofs.numbers.few.Statement.{statement}
 use Rattle.values.proofs.numbers.few.Tie as tie
@@ -34,7 +34,17 @@ compose-requires : tie.Need-compose-requires
 compose-requires c κs = search needs
 
 returns : tie.Need-returns
-returns c = cc (number-bytesAt 8 0 (now (c .before .before .before .before .before .before .before .before .before .before .args .s)))
+returns c =
+    let b8 = c .before in
+    let b7 = b8 .before in
+    let b6 = b7 .before in
+    let b5 = b6 .before in
+    let b4 = b5 .before in
+    let b3 = b4 .before in
+    let b2 = b3 .before in
+    let b1 = b2 .before in
+    read-bytes (now (b1 .before .before .args .s)) (c .compose .ensures) (b1 .byte .ensures) (b2 .byte2 .ensures) (b3 .byte3 .ensures) (b4 .byte4 .ensures)
+    (b5 .byte5 .ensures) (b6 .byte6 .ensures) (b7 .byte7 .ensures) (b8 .byte8 .ensures)
 
 pub few-spec : {M : Type 1} → statement M
 few-spec =
