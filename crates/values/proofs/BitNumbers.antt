@@ -3,7 +3,7 @@
 use Prim.Native.Nat.{ℕ, zero, suc, _+_, _*_, _-_, _/_, _%_, _^_, _≤_, _<_}
 use mathlib.Core.Path.{_≡_, refl, sym, ap, ap₂, _∙_, subst}
 use mathlib.Core.List.{List, [], _∷_, _++_}
-use native.Mathlib.Nat.{pow-suc, div-one, mod-one, zero-div, zero-mod, div-div-eq-div-mul, mul-comm, add-mul-mod-self-left, mod-mod}
+use native.Mathlib.Nat.{pow-suc, div-one, mod-one, zero-div, zero-mod, mod-lt, div-div-eq-div-mul, mul-comm, add-mul-mod-self-left, mod-mod}
 use native.Mathlib.Omega.{arith}
 use lib.Arith.{mod-mul}
 use lib.Pow.{pow-pos, shr-shr, field, mod-mod-pow, mod-pow-add}
@@ -18,7 +18,7 @@ use Rattle.values.specs.Value.{bitsOf, recordBits, bitsNumber}
 -- ── a part of some bits ──
 
 -- the number without its lowest bit, and so halved
-half : (n x b : ℕ) → x < 2 → (x + 2 * b) / 2 ^ suc n ≡ b / 2 ^ n
+pub half : (n x b : ℕ) → x < 2 → (x + 2 * b) / 2 ^ suc n ≡ b / 2 ^ n
 half n x b h =
     let halved : (x + 2 * b) / 2 ≡ b = omega arith in
     ap (λ (k : ℕ). (x + 2 * b) / k) (pow-suc 2 n ∙ mul-comm (2 ^ n) 2)
@@ -57,6 +57,9 @@ unfolding numberAt recordNumber
 number-part from bits s =
     number-take bits (drop from (recordBits s)) (below-drop 2 from (recordBits s) (bits-recordBits s))
     ∙ ap (λ (n : ℕ). n % 2 ^ bits) (number-drop from (recordBits s) (bits-recordBits s))
+
+pub number-below : (from bits : ℕ) (s : List ℕ) → numberAt from bits s < 2 ^ bits
+number-below from bits s = subst (λ (n : ℕ). n < 2 ^ bits) (sym (number-part from bits s)) (mod-lt _ (pow-pos bits))
 
 pub number-cons : (x : ℕ) (s : List ℕ) → recordNumber (x ∷ s) ≡ x % 256 + 256 * recordNumber s
 unfolding recordNumber

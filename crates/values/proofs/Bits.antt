@@ -57,7 +57,7 @@ number-append (x ∷ xs) ys =
 
 -- ── the sign ──
 
-top-bit : (xs : List ℕ) → Below 2 xs → topBit xs < 2
+pub top-bit : (xs : List ℕ) → Below 2 xs → topBit xs < 2
 top-bit [] h = omega arith
 top-bit (x ∷ []) h = h .0
 top-bit (x ∷ y ∷ ys) h = top-bit (y ∷ ys) (h .1)
@@ -103,6 +103,15 @@ length-filled signed xs h =
     let fill = length-replicate (128 - length xs) (cond signed (topBit xs) 0) in
     length-append xs (replicate (128 - length xs) (cond signed (topBit xs) 0)) ∙ omega arith
 
+bits-replicate : (n b : ℕ) → b < 2 → Below 2 (replicate n b)
+bits-replicate zero b h = tt
+bits-replicate (suc n) b h = (h, bits-replicate n b h)
+
+pub bits-filled : (signed : Bool) (xs : List ℕ) → Below 2 xs → Below 2 (filledUp signed xs)
+unfolding filledUp
+bits-filled false xs h = below-append 2 xs _ h (bits-replicate (128 - length xs) 0 (omega arith))
+bits-filled true xs h = below-append 2 xs _ h (bits-replicate (128 - length xs) (topBit xs) (top-bit xs h))
+
 zeros-number : (n : ℕ) → bitsNumber (replicate n 0) ≡ 0
 zeros-number zero = refl
 zeros-number (suc n) = let rest = zeros-number n in omega arith
@@ -117,11 +126,11 @@ StandsFor x (pos k) = x ≡ k
 StandsFor x (negsuc k) = x + suc k ≡ 2 ^ 128
 
 module _ (xs : List ℕ) (bits : Below 2 xs) where
-  with-zeros : (n : ℕ) → bitsNumber (xs ++ replicate n 0) ≡ bitsNumber xs
+  pub with-zeros : (n : ℕ) → bitsNumber (xs ++ replicate n 0) ≡ bitsNumber xs
   with-zeros n =
       number-append xs (replicate n 0) ∙ ap (λ (k : ℕ). bitsNumber xs + 2 ^ length xs * k) (zeros-number n) ∙ omega arith
 
-  with-ones : (n : ℕ) → length xs ≤ n
+  pub with-ones : (n : ℕ) → length xs ≤ n
       → bitsNumber (xs ++ replicate (n - length xs) 1) + suc (2 ^ length xs - suc (bitsNumber xs)) ≡ 2 ^ n
   with-ones n few =
       let below = number-bound xs bits in

@@ -2,6 +2,9 @@
 pub mod Bits
 pub mod BitNumbers
 pub mod Windows
+pub mod SignNumbers
+pub mod Negative
+pub mod LongBytes
 pub mod Values
 pub mod Numeric
 pub mod Spans

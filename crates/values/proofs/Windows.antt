@@ -9,7 +9,7 @@ use lib.Pow.{pow-pos, pow-mono, shr-shr, shl-exact, field, mod-mod-pow, mod-pow-
 use lib.ListN.{length, getD, take, drop}
 use lib.Seq.{take-all, drop-cons}
 use Rattle.paper.proofs.bytes.Bytes.{part-rest}
-use Rattle.values.proofs.BitNumbers.{number-part, number-cons, number-from, number-eight}
+use Rattle.values.proofs.BitNumbers.{number-part, number-below, number-cons, number-from, number-eight}
 use Rattle.values.specs.NumberAt.{recordNumber, numberAt}
 
 -- ── numbers ──
@@ -77,7 +77,7 @@ module _ {w next : ℕ} (s : List ℕ) (from bits : ℕ) (read : w ≡ recordNum
       ∙ sym (number-part from bits s)
 
   pub across-fits : w / 2 ^ from + next * 2 ^ (64 - from) % 2 ^ 64 < 2 ^ 64
-  across-fits = subst (λ (n : ℕ). n < 2 ^ 64) (sym (read-across ∙ number-part from bits s)) (lt-of-lt-of-le (mod-lt _ (pow-pos bits)) (pow-mono short))
+  across-fits = subst (λ (n : ℕ). n < 2 ^ 64) (sym read-across) (lt-of-lt-of-le (number-below from bits s) (pow-mono short))
 
 -- ── the bytes from a place on ──
 

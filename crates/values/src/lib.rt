@@ -1,5 +1,6 @@
 // What a member of a record says: the span of its bits, and the value that those bits are in a record's bytes.
 mod numbers; // the number of a span's bits
+mod signs; // with a sign, and as sixteen bytes
 
 use paper::Report;
 

@@ -1,0 +1,80 @@
+// A number of some bits with its top bit as sign, and the sixteen bytes of a longer span.
+use crate::numbers::number_at;
+use crate::numbers::ones;
+ghost use mathlib.Core.Path.{_≡_};
+ghost use mathlib.Core.List.{_++_};
+ghost use Prim.Native.Nat.{_+_, _*_, _^_, _≤_, _<_};
+ghost use lib.ListN.{length};
+ghost use Rattle.values.specs.Given.{bytesIn};
+ghost use Rattle.values.specs.NumberAt.{bytesFrom, filledNumber, isMinus, signedNumber};
+ghost use Rattle.values.specs.Value.{filledUp, spanBits};
+
+// The top bit is 1.
+fn is_minus(n: u64, bits: u64) -> bool
+    requires { ⌜ (1 ≤ bits) × (bits ≤ 64) ⌝ }
+    ensures { λ r. ⌜ r ≡ isMinus bits n ⌝ }
+{
+    n >> (bits - 1) == 1
+}
+
+// The exact value: 2^bits less where the top bit is 1.
+pub(crate) fn signed_of(n: u64, bits: u64) -> i64
+    requires { ⌜ (1 ≤ bits) × (bits ≤ 64) × (n < 2 ^ bits) ⌝ }
+    ensures { λ r. ⌜ r ≡ signedNumber bits n ⌝ }
+{
+    if is_minus(n, bits) {
+        let k = ones(bits) - n;
+        return -(k as i64) - 1;
+    }
+    n as i64
+}
+
+// Filled up to 64 bits with its top bit where it is signed, else with zeros.
+fn filled(n: u64, bits: u64, signed: bool) -> u64
+    requires { ⌜ (1 ≤ bits) × (bits ≤ 64) × (n < 2 ^ bits) ⌝ }
+    ensures { λ r. ⌜ r ≡ filledNumber signed bits n ⌝ }
+{
+    if !signed {
+        return n;
+    }
+    if !is_minus(n, bits) {
+        return n;
+    }
+    let all = ones(bits);
+    let k = all - n;
+    u64::MAX - k
+}
+
+// The bytes of two numbers, low byte first.
+fn sixteen(a: u64, b: u64) -> [u8; 16]
+    ensures { λ r. ⌜ r ≡ bytesFrom 8 0 a ++ bytesFrom 8 0 b ⌝ }
+{
+    [
+        (a % 256) as u8,
+        (a / 0x100 % 256) as u8,
+        (a / 0x1_0000 % 256) as u8,
+        (a / 0x100_0000 % 256) as u8,
+        (a / 0x1_0000_0000 % 256) as u8,
+        (a / 0x100_0000_0000 % 256) as u8,
+        (a / 0x1_0000_0000_0000 % 256) as u8,
+        (a / 0x100_0000_0000_0000 % 256) as u8,
+        (b % 256) as u8,
+        (b / 0x100 % 256) as u8,
+        (b / 0x1_0000 % 256) as u8,
+        (b / 0x100_0000 % 256) as u8,
+        (b / 0x1_0000_0000 % 256) as u8,
+        (b / 0x100_0000_0000 % 256) as u8,
+        (b / 0x1_0000_0000_0000 % 256) as u8,
+        (b / 0x100_0000_0000_0000 % 256) as u8,
+    ]
+}
+
+// A span of more than 64 bits: its low 64, and the others filled up.
+pub(crate) fn long_bytes(s: &[u8], from: u64, bits: u64, signed: bool) -> [u8; 16]
+    requires { ⌜ (64 < bits) × (bits ≤ 128) × (from + bits ≤ 8 * length (now s)) ⌝ }
+    ensures { λ r. ⌜ r ≡ bytesIn 16 (filledUp signed (spanBits (record { from = from; size = bits }) (now (s .entry)))) ⌝ }
+{
+    let low = number_at(s, from, 64);
+    let high = number_at(&s[8..], from, bits - 64);
+    sixteen(low, filled(high, bits - 64, signed))
+}
