@@ -12,7 +12,7 @@ use lib.Seq.{take-nil, drop-nil, drop-cons, take-append-add, drop-append-add}
 use Rattle.paper.proofs.bytes.Bytes.{below-drop}
 use Rattle.paper.specs.terms.Fit.{Below, Bytes}
 use Rattle.values.proofs.Bits.{length-bitsOf, bits-recordBits, number-append}
-use Rattle.values.specs.NumberAt.{recordNumber, numberAt}
+use Rattle.values.specs.Promised.{recordNumber, numberAt}
 use Rattle.values.specs.Value.{bitsOf, recordBits, bitsNumber}
 
 -- ── a part of some bits ──

@@ -5,6 +5,8 @@ pub mod Windows
 pub mod SignNumbers
 pub mod Negative
 pub mod LongBytes
+pub mod GivenValues
+pub mod FoundRules
 pub mod Values
 pub mod Numeric
 pub mod Spans

@@ -11,7 +11,9 @@ use lib.Pow.{shr-shr}
 use lib.ListN.{length, take, drop, replicate, length-drop}
 use lib.Seq.{take-append-le, drop-append-le, drop-drop}
 use Rattle.paper.proofs.bytes.Bytes.{below-drop, part-rest}
+use Rattle.paper.specs.declared.Order.the-variants.{LowFirst}
 use Rattle.paper.specs.rules.Span.{Span}
+use Rattle.paper.specs.rules.Word.{putWord}
 use Rattle.paper.specs.terms.Fit.{Below}
 use Rattle.values.proofs.Bits.{bits-spanBits, bits-filled, top-bit, with-zeros, with-ones}
 use Rattle.values.proofs.BitNumbers.{number-drop, number-take, number-part, number-from}
@@ -19,7 +21,7 @@ use Rattle.values.proofs.SignNumbers.{top-minus}
 use Rattle.values.proofs.Spans.{length-spanBits}
 use Rattle.values.proofs.Windows.{mod-low, mod-field}
 use Rattle.values.specs.Given.{bytesIn}
-use Rattle.values.specs.NumberAt.{recordNumber, numberAt, isMinus, filledNumber, bytesFrom}
+use Rattle.values.specs.Promised.{recordNumber, numberAt, isMinus, filledNumber, bytesFrom}
 use Rattle.values.specs.Value.{bitsNumber, topBit, filledUp, spanBits}
 
 -- ── bytes of a number ──
@@ -32,25 +34,46 @@ bytes-number (suc k) i xs h =
     (number-take 8 (drop (8 * i) xs) (below-drop 2 (8 * i) xs h) ∙ ap (λ (n : ℕ). n % 256) (number-drop (8 * i) xs h))
     (ap (bytesIn k) (drop-drop 8 (8 * i) xs ∙ ap (λ (j : ℕ). drop j xs) next) ∙ bytes-number k (suc i) xs h)
 
--- eight of the low word, and eight of the high one
-bytes-low : (k i n : ℕ) → 8 * (i + k) ≤ 64 → bytesFrom k i n ≡ bytesFrom k i (n % 2 ^ 64)
-bytes-low zero i n h = refl
-bytes-low (suc k) i n h =
+-- so many bytes of the low part, and the others of the high one
+bytes-low : (m k i n : ℕ) → i + k ≤ m → bytesFrom k i n ≡ bytesFrom k i (n % 2 ^ (8 * m))
+bytes-low m zero i n h = refl
+bytes-low m (suc k) i n h =
     ap₂ {C = List ℕ} _∷_
-    (sym (ap (λ (m : ℕ). m % 256) (mod-field n {k = 64} {d = 8 * i} (omega arith)) ∙ mod-low (n / 2 ^ (8 * i)) {k = 64 - 8 * i} {n = 8} (omega arith)))
-    (bytes-low k (suc i) n (omega arith))
+    (sym (ap (λ (x : ℕ). x % 256) (mod-field n {k = 8 * m} {d = 8 * i} (omega arith)) ∙ mod-low (n / 2 ^ (8 * i)) {k = 8 * m - 8 * i} {n = 8} (omega arith)))
+    (bytes-low m k (suc i) n (omega arith))
 
-bytes-high : (k i j n : ℕ) → j ≡ 8 + i → bytesFrom k j n ≡ bytesFrom k i (n / 2 ^ 64)
-bytes-high zero i j n e = refl
-bytes-high (suc k) i j n e =
-    let place : 64 + 8 * i ≡ 8 * j = omega arith in
+bytes-high : (m k i j n : ℕ) → j ≡ m + i → bytesFrom k j n ≡ bytesFrom k i (n / 2 ^ (8 * m))
+bytes-high m zero i j n e = refl
+bytes-high m (suc k) i j n e =
+    let place : 8 * m + 8 * i ≡ 8 * j = omega arith in
     ap₂ {C = List ℕ} _∷_
-    (sym (ap (λ (m : ℕ). m % 256) (shr-shr n 64 (8 * i) ∙ ap (λ (d : ℕ). n / 2 ^ d) place)))
-    (bytes-high k (suc i) (suc j) n (omega arith))
+    (sym (ap (λ (x : ℕ). x % 256) (shr-shr n (8 * m) (8 * i) ∙ ap (λ (d : ℕ). n / 2 ^ d) place)))
+    (bytes-high m k (suc i) (suc j) n (omega arith))
 
 bytes-16 : (xs : List ℕ) → Below 2 xs → bytesIn 16 xs ≡ bytesFrom 8 0 (bitsNumber xs % 2 ^ 64) ++ bytesFrom 8 0 (bitsNumber xs / 2 ^ 64)
 bytes-16 xs h =
-    bytes-number 16 0 xs h ∙ ap₂ {C = List ℕ} _++_ (bytes-low 8 0 (bitsNumber xs) (omega arith)) (bytes-high 8 0 8 (bitsNumber xs) refl)
+    bytes-number 16 0 xs h ∙ ap₂ {C = List ℕ} _++_ (bytes-low 8 8 0 (bitsNumber xs) (omega arith)) (bytes-high 8 8 0 8 (bitsNumber xs) refl)
+
+-- ── bytes of two numbers, written word by word ──
+
+words-16 : (a b c d : ℕ) → putWord LowFirst (putWord LowFirst (putWord LowFirst (putWord LowFirst (replicate 16 0) 0 a) 4 b) 8 c) 12 d
+    ≡ bytesFrom 4 0 a ++ bytesFrom 4 0 b ++ bytesFrom 4 0 c ++ bytesFrom 4 0 d
+unfolding putWord
+words-16 a b c d = refl
+
+bytes-8 : (n : ℕ) → bytesFrom 4 0 (n % 2 ^ 32) ++ bytesFrom 4 0 (n / 2 ^ 32) ≡ bytesFrom 8 0 n
+bytes-8 n = sym (ap₂ {C = List ℕ} _++_ (bytes-low 4 4 0 n (omega arith)) (bytes-high 4 4 0 4 n refl))
+
+pub read-16 : {o₁ o₂ o₃ o₄ : List ℕ} (a b : ℕ) → o₁ ≡ putWord LowFirst (replicate 16 0) 0 (a % 2 ^ 32) → o₂ ≡ putWord LowFirst o₁ 4 (a / 2 ^ 32)
+    → o₃ ≡ putWord LowFirst o₂ 8 (b % 2 ^ 32) → o₄ ≡ putWord LowFirst o₃ 12 (b / 2 ^ 32) → o₄ ≡ bytesFrom 8 0 a ++ bytesFrom 8 0 b
+read-16 a b e₁ e₂ e₃ e₄ =
+    e₄
+    ∙ ap (λ (o : List ℕ). putWord LowFirst o 12 (b / 2 ^ 32)) (
+    e₃
+    ∙ ap (λ (o : List ℕ). putWord LowFirst o 8 (b % 2 ^ 32)) (e₂ ∙ ap (λ (o : List ℕ). putWord LowFirst o 4 (a / 2 ^ 32)) e₁)
+    )
+    ∙ words-16 (a % 2 ^ 32) (a / 2 ^ 32) (b % 2 ^ 32) (b / 2 ^ 32)
+    ∙ ap₂ {C = List ℕ} _++_ (bytes-8 a) (bytes-8 b)
 
 -- ── filled up to 64 bits ──
 

@@ -13,7 +13,7 @@ use lib.Pow.{pow-pos, pow-mono}
 use lib.ListN.{length}
 use Rattle.paper.specs.terms.Fit.{Below}
 use Rattle.values.proofs.BitNumbers.{half}
-use Rattle.values.specs.NumberAt.{isMinus, signedNumber, filledNumber}
+use Rattle.values.specs.Promised.{isMinus, signedNumber, filledNumber}
 use Rattle.values.specs.Value.{bitsNumber, topBit, valueOf}
 
 -- ── numbers ──

@@ -10,7 +10,7 @@ use lib.ListN.{length, getD, take, drop}
 use lib.Seq.{take-all, drop-cons}
 use Rattle.paper.proofs.bytes.Bytes.{part-rest}
 use Rattle.values.proofs.BitNumbers.{number-part, number-below, number-cons, number-from, number-eight}
-use Rattle.values.specs.NumberAt.{recordNumber, numberAt}
+use Rattle.values.specs.Promised.{recordNumber, numberAt}
 
 -- ── numbers ──
 

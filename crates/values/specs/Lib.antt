@@ -1,4 +1,4 @@
 pub mod Value
-pub mod NumberAt
 pub mod Given
 pub mod Sought
+pub mod Promised

@@ -3,7 +3,7 @@ ghost use mathlib.Core.Path.{_≡_};
 ghost use mathlib.Core.List.{[], _∷_};
 ghost use Prim.Native.Nat.{_+_, _*_, _-_, _%_, _^_, _≤_, _<_, min};
 ghost use lib.ListN.{getD, length, take};
-ghost use Rattle.values.specs.NumberAt.{numberAt, recordNumber};
+ghost use Rattle.values.specs.Promised.{numberAt, recordNumber};
 
 // So many ones.
 pub(crate) fn ones(bits: u64) -> u64

@@ -1,12 +1,15 @@
 // A number of some bits with its top bit as sign, and the sixteen bytes of a longer span.
 use crate::numbers::number_at;
 use crate::numbers::ones;
+use paper::Order;
+use paper::Place;
+use words::write;
 ghost use mathlib.Core.Path.{_≡_};
 ghost use mathlib.Core.List.{_++_};
 ghost use Prim.Native.Nat.{_+_, _*_, _^_, _≤_, _<_};
 ghost use lib.ListN.{length};
 ghost use Rattle.values.specs.Given.{bytesIn};
-ghost use Rattle.values.specs.NumberAt.{bytesFrom, filledNumber, isMinus, signedNumber};
+ghost use Rattle.values.specs.Promised.{bytesFrom, filledNumber, isMinus, signedNumber};
 ghost use Rattle.values.specs.Value.{filledUp, spanBits};
 
 // The top bit is 1.
@@ -49,24 +52,32 @@ fn filled(n: u64, bits: u64, signed: bool) -> u64
 fn sixteen(a: u64, b: u64) -> [u8; 16]
     ensures { λ r. ⌜ r ≡ bytesFrom 8 0 a ++ bytesFrom 8 0 b ⌝ }
 {
-    [
-        (a % 256) as u8,
-        (a / 0x100 % 256) as u8,
-        (a / 0x1_0000 % 256) as u8,
-        (a / 0x100_0000 % 256) as u8,
-        (a / 0x1_0000_0000 % 256) as u8,
-        (a / 0x100_0000_0000 % 256) as u8,
-        (a / 0x1_0000_0000_0000 % 256) as u8,
-        (a / 0x100_0000_0000_0000 % 256) as u8,
-        (b % 256) as u8,
-        (b / 0x100 % 256) as u8,
-        (b / 0x1_0000 % 256) as u8,
-        (b / 0x100_0000 % 256) as u8,
-        (b / 0x1_0000_0000 % 256) as u8,
-        (b / 0x100_0000_0000 % 256) as u8,
-        (b / 0x1_0000_0000_0000 % 256) as u8,
-        (b / 0x100_0000_0000_0000 % 256) as u8,
-    ]
+    let mut out = [0u8; 16];
+    write(
+        Order::LowFirst,
+        &mut out,
+        Place(0),
+        (a % 0x1_0000_0000) as u32,
+    );
+    write(
+        Order::LowFirst,
+        &mut out,
+        Place(4),
+        (a / 0x1_0000_0000) as u32,
+    );
+    write(
+        Order::LowFirst,
+        &mut out,
+        Place(8),
+        (b % 0x1_0000_0000) as u32,
+    );
+    write(
+        Order::LowFirst,
+        &mut out,
+        Place(12),
+        (b / 0x1_0000_0000) as u32,
+    );
+    out
 }
 
 // A span of more than 64 bits: its low 64, and the others filled up.

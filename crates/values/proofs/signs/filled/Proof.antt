@@ -4,7 +4,7 @@ use mathlib.Core.Bool.{Bool}
 use mathlib.Core.Path.{sym, ap, _∙_}
 use borrow.Author.Tests.{not-true, not-false}
 use Rattle.values.proofs.SignNumbers.{filled-zeros, filled-plus, filled-minus}
-use Rattle.values.specs.NumberAt.{filledNumber}
+use Rattle.values.specs.Promised.{filledNumber}
 use borrow.Author.Needs.{needs}
 use Rattle.values.proofs.signs.filled.Statement.{statement}
 use Rattle.values.proofs.signs.filled.Tie as tie

@@ -1,79 +1,68 @@
 -- `values::signs::sixteen` meets its contract.
 -- Assumes nothing.
-use native.Mathlib.Nat.{div-one}
+use Rattle.values.proofs.LongBytes.{read-16}
 use borrow.Author.Needs.{needs}
 use Rattle.values.proofs.signs.sixteen.Statement.{statement}
 use Rattle.values.proofs.signs.sixteen.Tie as tie
 
-cast-t4 : tie.Need-cast-t4
-cast-t4 c = search needs
+slice-aggregate-write : tie.Need-slice-aggregate-write
+slice-aggregate-write c = search needs
 
-cast-t7 : tie.Need-cast-t7
-cast-t7 c = search needs
+cast-write : tie.Need-cast-write
+cast-write c = search needs
 
-cast-t10 : tie.Need-cast-t10
-cast-t10 c = search needs
+write-requires : tie.Need-write-requires
+write-requires c κs = search needs
 
-cast-t13 : tie.Need-cast-t13
-cast-t13 c = search needs
+slice-aggregate-write-2 : tie.Need-slice-aggregate-write-2
+slice-aggregate-write-2 c = search needs
 
-cast-t16 : tie.Need-cast-t16
-cast-t16 c = search needs
+cast-write-2 : tie.Need-cast-write-2
+cast-write-2 c = search needs
 
-cast-t19 : tie.Need-cast-t19
-cast-t19 c = search needs
+write-requires-2 : tie.Need-write-requires-2
+write-requires-2 c κs = search needs
 
-cast-t22 : tie.Need-cast-t22
-cast-t22 c = search needs
+slice-aggregate-write-3 : tie.Need-slice-aggregate-write-3
+slice-aggregate-write-3 c = search needs
 
-cast-t25 : tie.Need-cast-t25
-cast-t25 c = search needs
+cast-write-3 : tie.Need-cast-write-3
+cast-write-3 c = search needs
 
-cast-t27 : tie.Need-cast-t27
-cast-t27 c = search needs
+write-requires-3 : tie.Need-write-requires-3
+write-requires-3 c κs = search needs
 
-cast-t30 : tie.Need-cast-t30
-cast-t30 c = search needs
+slice-aggregate-write-4 : tie.Need-slice-aggregate-write-4
+slice-aggregate-write-4 c = search needs
 
-cast-t33 : tie.Need-cast-t33
-cast-t33 c = search needs
+cast-write-4 : tie.Need-cast-write-4
+cast-write-4 c = search needs
 
-cast-t36 : tie.Need-cast-t36
-cast-t36 c = search needs
-
-cast-t39 : tie.Need-cast-t39
-cast-t39 c = search needs
-
-cast-t42 : tie.Need-cast-t42
-cast-t42 c = search needs
-
-cast-t45 : tie.Need-cast-t45
-cast-t45 c = search needs
-
-cast-t48 : tie.Need-cast-t48
-cast-t48 c = search needs
+write-requires-4 : tie.Need-write-requires-4
+write-requires-4 c κs = search needs
 
 returns : tie.Need-returns
-returns c = simp div-one
+returns c =
+    let w4 = c .before in
+    let w3 = w4 .before .before .before in
+    let w2 = w3 .before .before .before in
+    let w1 = w2 .before .before .before in
+    read-16 (w1 .before .before .args .a) (w1 .before .before .args .b) (w1 .write .ensures) (w2 .write2 .ensures) (w3 .write3 .ensures) (w4 .write4 .ensures)
 
 pub sixteen-spec : {M : Type 1} → statement M
 sixteen-spec =
     tie.close
     (tie.spec
-    cast-t4
-    cast-t7
-    cast-t10
-    cast-t13
-    cast-t16
-    cast-t19
-    cast-t22
-    cast-t25
-    cast-t27
-    cast-t30
-    cast-t33
-    cast-t36
-    cast-t39
-    cast-t42
-    cast-t45
-    cast-t48
+    slice-aggregate-write
+    cast-write
+    write-requires
+    slice-aggregate-write-2
+    cast-write-2
+    write-requires-2
+    slice-aggregate-write-3
+    cast-write-3
+    write-requires-3
+    slice-aggregate-write-4
+    cast-write-4
+    write-requires-4
     returns)

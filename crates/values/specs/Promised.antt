@@ -1,11 +1,17 @@
--- What the functions promise that `value_of` stands on: numbers for the bits of `Value`.
+-- What the functions promise that `value_of` stands on.
 use Prim.Native.Nat.{ℕ, zero, suc, _*_, _-_, _/_, _%_, _^_}
 use mathlib.Core.Bool.{Bool, cond, _&&_}
 use mathlib.Core.List.{List, [], _∷_, _++_}
 use lib.Dec.{eqb}
 use lib.IntN.{ℤ, pos, negsuc}
 use lib.ListN.{take, drop}
+use Rattle.values.specs.Given.{Found, noBytes}
 use Rattle.values.specs.Value.{recordBits, bitsNumber}
+use Rattle.values.specs.declared.MemberSpan.{MemberSpan}
+use Rattle.values.specs.declared.MemberValue.{MemberValue}
+use Rattle.values.specs.declared.Valued.{Valued}
+
+-- ── numbers for bits ──
 
 -- the number of a record's bytes, low byte first
 unfoldable pub recordNumber : List ℕ → ℕ
@@ -33,3 +39,13 @@ filledNumber signed bits n = cond (signed && isMinus bits n) (2 ^ 64 - suc (2 ^ 
 abbrev pub bytesFrom : ℕ → ℕ → ℕ → List ℕ
 bytesFrom zero i n = []
 bytesFrom (suc k) i n = n / 2 ^ (8 * i) % 256 ∷ bytesFrom k (suc i) n
+
+-- ── answers ──
+
+-- what is handed back with a refusal
+abbrev pub refusal : Valued → MemberValue
+refusal why = record { value = why; from = 0; bits = 0; bytes = noBytes }
+
+-- a member that was found to be numeric
+abbrev pub numeric : Bool → MemberSpan → Found
+numeric signed m = record { number = cond signed 1 0; size = m .size; from = m .from; bits = m .bits }
