@@ -6,6 +6,7 @@ use numbers::number_at;
 use paper::Report;
 use signs::long_bytes;
 use signs::signed_of;
+pub use signs::sixteen;
 ghost use mathlib.Core.Path.{_≡_};
 ghost use mathlib.Core.Bool.{cond};
 ghost use Prim.Native.Nat.{_+_, _*_, _≤_};

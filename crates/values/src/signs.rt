@@ -49,7 +49,7 @@ fn filled(n: u64, bits: u64, signed: bool) -> u64
 }
 
 // The bytes of two numbers, low byte first.
-fn sixteen(a: u64, b: u64) -> [u8; 16]
+pub fn sixteen(a: u64, b: u64) -> [u8; 16]
     ensures { λ r. ⌜ r ≡ bytesFrom 8 0 a ++ bytesFrom 8 0 b ⌝ }
 {
     let mut out = [0u8; 16];
