@@ -14,8 +14,12 @@ use Rattle.paper.specs.rules.Name.{nameless, nameAt}
 use Rattle.paper.specs.rules.Size.{sizeOf}
 use Rattle.paper.specs.declared.Order.the-variants.{LowFirst}
 use Rattle.paper.specs.rules.Word.{words, bytesOfWords}
+use Rattle.handed.specs.Handed.{numbersOf, sixteenOf}
+use Rattle.record.specs.Gives.{MemberOf}
 use Rattle.sums.specs.Sum.{sumOf, lentPlaces, lentBytes}
-use Rattle.replay.specs.Case.{checkSeen, sizeSeen, nameSeen, joinSeen, plainly, seenSums}
+use Rattle.values.specs.Given.{givenAsPaper}
+use Rattle.values.specs.declared.MemberValue.{MemberValue}
+use Rattle.replay.specs.Case.{checkSeen, sizeSeen, nameSeen, joinSeen, memberSeen, plainly, seenSums}
 use Rattle.replay.specs.Run.{ranOf, RanAs, RunOf}
 use Rattle.replay.specs.declared.cases.Head.{Head}
 use Rattle.replay.specs.declared.cases.Seen.{Seen}
@@ -48,10 +52,21 @@ pub name-seen : (a : List ℕ) (x i w : ℕ) {seen : Seen} {r : Answer} {si sw s
     → t ≡ nameless a x → n ≡ cond t 1 0 → r ≡ plainly n (length part) → seen ≡ nameSeen x a i w
 name-seen a x i w e ei ew eo ep et en er = rw (e, ei, ew, eo, er, en, et, ep) refl
 
+-- and of a member of a record
+pub member-seen : (a b : List ℕ) (t m places workPlaces : ℕ) {seen : Seen} {r : Answer} {i w o : List ℕ} {x y z : ℕ} → seen ≡ seenSums r x y z
+    → x ≡ sumOf (bytesOfWords LowFirst i) → y ≡ sumOf (bytesOfWords LowFirst w) → z ≡ sumOf o
+    → {p q : ℕ} → p ≡ places → q ≡ workPlaces → {v : MemberValue} → r ≡ numbersOf (givenAsPaper v) → o ≡ sixteenOf (givenAsPaper v)
+    → MemberOf v a p q t m b i w → seen ≡ memberSeen t m a b places workPlaces
+member-seen a b t m places workPlaces e ex ey ez ep eq er eo k = rw (e, ex, ey, ez, er, eo, k .answers, k .indexes, k .works, ep, eq) refl
+
 -- as many places and bytes are lent as a case says
 pub check-cut : (a : List ℕ) (bytes : ℕ) {seen : Seen} {p q places workPlaces : ℕ} → p ≡ places → q ≡ workPlaces
     → seen ≡ checkSeen a p q (lentBytes bytes) → seen ≡ checkSeen a places workPlaces (lentBytes bytes)
 check-cut a bytes ep eq e = e ∙ ap₂ (λ (p q : ℕ). checkSeen a p q (lentBytes bytes)) ep eq
+
+pub member-cut : (a b : List ℕ) (t m : ℕ) {seen : Seen} {p q places workPlaces : ℕ} → p ≡ places → q ≡ workPlaces
+    → seen ≡ memberSeen t m a b p q → seen ≡ memberSeen t m a b places workPlaces
+member-cut a b t m ep eq e = e ∙ ap₂ (memberSeen t m a b) ep eq
 
 pub join-cut : (a b : List ℕ) {seen : Seen} {p q o places workPlaces bytes : ℕ} → p ≡ places → q ≡ workPlaces → o ≡ bytes
     → seen ≡ joinSeen a b p q (lentBytes o) → seen ≡ joinSeen a b places workPlaces (lentBytes bytes)
@@ -85,10 +100,10 @@ module _ (must : Seen) where
     ran-and later h e = e ∙ ap (λ (t : Bool). ranOf (t && later) must) (sym (le-leb m n h))
 
 module _ (h : Head) (a b : List ℕ) where
-  pub run-unknown : (h .op ≡ 1 → ⊥) → (h .op ≡ 2 → ⊥) → (h .op ≡ 3 → ⊥) → (h .op ≡ 4 → ⊥) → RunOf Unknown h a b
+  pub run-unknown : (h .op ≡ 1 → ⊥) → (h .op ≡ 2 → ⊥) → (h .op ≡ 3 → ⊥) → (h .op ≡ 4 → ⊥) → (h .op ≡ 5 → ⊥) → RunOf Unknown h a b
   unfolding RunOf
-  run-unknown one two three four =
-      rw (ne-eqb _ _ one, ne-eqb _ _ two, ne-eqb _ _ three, ne-eqb _ _ four) refl
+  run-unknown one two three four five =
+      rw (ne-eqb _ _ one, ne-eqb _ _ two, ne-eqb _ _ three, ne-eqb _ _ four, ne-eqb _ _ five) refl
 
   pub run-check : (r : Ran) → h .op ≡ 1 → RanAs r (checkSeen a (h .index) (h .work) (lentBytes (h .output))) → RunOf r h a b
   unfolding RunOf
@@ -105,3 +120,7 @@ module _ (h : Head) (a b : List ℕ) where
   pub run-join : (r : Ran) → h .op ≡ 4 → RanAs r (joinSeen a b (h .index) (h .work) (lentBytes (h .output))) → RunOf r h a b
   unfolding RunOf
   run-join r op e = rw op e
+
+  pub run-member : (r : Ran) → h .op ≡ 5 → RanAs r (memberSeen (h .x) (h .y) a b (h .index) (h .work)) → RunOf r h a b
+  unfolding RunOf
+  run-member r op e = rw op e

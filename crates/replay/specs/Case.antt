@@ -11,6 +11,8 @@ use Rattle.paper.specs.rules.Name.{nameless, nameAt}
 use Rattle.paper.specs.rules.Size.{sizeOf}
 use Rattle.paper.specs.declared.Order.the-variants.{LowFirst}
 use Rattle.paper.specs.rules.Word.{wordAt, bytesOfWords}
+use Rattle.handed.specs.Handed.{numbersOf, sixteenOf}
+use Rattle.record.specs.Gives.{memberGives}
 use Rattle.sums.specs.Sum.{sumOf, lentPlaces, lentBytes}
 use Rattle.replay.specs.declared.cases.Head.{Head}
 use Rattle.replay.specs.declared.cases.Seen.{Seen}
@@ -101,3 +103,9 @@ abbrev pub joinSeen : List ℕ → List ℕ → ℕ → ℕ → List ℕ → See
 joinSeen a b places workPlaces output =
     seenWith (join a b places workPlaces output .answer) (join a b places workPlaces output .index) (join a b places workPlaces output .work)
     (join a b places workPlaces output .output)
+
+-- op 5: "member y of type x, a the table, b the record": the slices as the check of a leaves them, and the value's sixteen bytes
+abbrev pub memberSeen : ℕ → ℕ → List ℕ → List ℕ → ℕ → ℕ → Seen
+memberSeen x y a b places workPlaces =
+    seenWith (numbersOf (memberGives a places workPlaces x y b)) (gate a places workPlaces .index) (gate a places workPlaces .work)
+    (sixteenOf (memberGives a places workPlaces x y b))

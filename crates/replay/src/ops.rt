@@ -10,6 +10,8 @@ use answers::Numbers;
 use answers::of_checked;
 use answers::of_joined;
 use answers::of_sized;
+use handed::numbers_of;
+use handed::sixteen_of;
 use paper::NameOff;
 use paper::TypeNo;
 use sums::bytes_lent;
@@ -26,7 +28,7 @@ ghost use lib.ListN.{length};
 ghost use Rattle.answers.specs.Numbers.{asPaper};
 ghost use Rattle.paper.specs.declared.Order.the-variants.{LowFirst};
 ghost use Rattle.paper.specs.rules.Word.{words};
-ghost use Rattle.replay.specs.Case.{checkSeen, joinSeen, nameSeen, plainly, seenSums, sizeSeen};
+ghost use Rattle.replay.specs.Case.{checkSeen, joinSeen, memberSeen, nameSeen, plainly, seenSums, sizeSeen};
 ghost use Rattle.replay.specs.Run.{RanAs, RunOf, ranOf};
 ghost use Rattle.sums.specs.Sum.{lentBytes};
 
@@ -202,6 +204,41 @@ fn join(h: Head, a: &[u8], b: &[u8]) -> Ran
     join_in(h, a, b, &mut index, &mut work, &mut output)
 }
 
+// Op 5: member y of type x, a the table, b the record; the sixteen bytes of the value stand for the output.
+fn member_lent(h: Head, a: &[u8], b: &[u8], index: &mut [u32], work: &mut [u32]) -> Seen
+    ensures { λ s. ⌜ s ≡ memberSeen (h .x) (h .y) (now (a .entry)) (now (b .entry)) (length (now (index .entry))) (length (now (work .entry))) ⌝ }
+{
+    fill_places(index);
+    fill_places(work);
+    let told = record::member(a, index, work, TypeNo(h.x), h.y, b);
+    let answer = numbers_of(told);
+    let bytes = sixteen_of(told);
+    seen(answer, of_places(index), of_places(work), of_bytes(&bytes))
+}
+
+fn member_in(h: Head, a: &[u8], b: &[u8], index: &mut [u32], work: &mut [u32]) -> Ran
+    ensures { λ r. ⌜ r ≡ ranOf (leb (h .index) (length (now (index .entry))) && leb (h .work) (length (now (work .entry)))) (memberSeen (h .x) (h .y) (now (a .entry)) (now (b .entry)) (h .index) (h .work)) ⌝ }
+{
+    let places = h.index as usize;
+    let works = h.work as usize;
+    if index.len() < places {
+        return Ran::Large;
+    }
+    if work.len() < works {
+        return Ran::Large;
+    }
+    let index = &mut index[..places];
+    Ran::Saw(member_lent(h, a, b, index, &mut work[..works]))
+}
+
+fn member(h: Head, a: &[u8], b: &[u8]) -> Ran
+    ensures { λ r. ⌜ RanAs r (memberSeen (h .x) (h .y) (now (a .entry)) (now (b .entry)) (h .index) (h .work)) ⌝ }
+{
+    let mut index = [0u32; PLACES];
+    let mut work = [0u32; PLACES];
+    member_in(h, a, b, &mut index, &mut work)
+}
+
 // A case by its op.
 pub(crate) fn run(h: Head, a: &[u8], b: &[u8]) -> Ran
     ensures { λ r. ⌜ RunOf r h (now (a .entry)) (now (b .entry)) ⌝ }
@@ -212,6 +249,7 @@ pub(crate) fn run(h: Head, a: &[u8], b: &[u8]) -> Ran
         2 => size(h, a, b),
         3 => name(h, a),
         4 => join(h, a, b),
+        5 => member(h, a, b),
         _ => Ran::Unknown,
     }
 }

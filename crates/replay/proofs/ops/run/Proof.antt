@@ -1,6 +1,6 @@
 -- `replay::ops::run` meets its contract: what each op gives.
 -- Assumes nothing.
-use Rattle.replay.proofs.Runs.{run-check, run-size, run-name, run-join, run-unknown, ran-as}
+use Rattle.replay.proofs.Runs.{run-check, run-size, run-name, run-join, run-member, run-unknown, ran-as}
 use borrow.Author.Needs.{needs}
 use Rattle.replay.proofs.ops.run.Statement.{statement}
 use Rattle.replay.proofs.ops.run.Tie as tie
@@ -17,6 +17,9 @@ name-requires c κs = search needs
 join-requires : tie.Need-join-requires
 join-requires c κs = search needs
 
+member-requires : tie.Need-member-requires
+member-requires c κs = search needs
+
 returns : tie.Need-returns
 returns c = run-check _ _ _ _ (c .before .match .keys1) (c .check .ensures)
 
@@ -30,7 +33,10 @@ returns-4 : tie.Need-returns-4
 returns-4 c = run-join _ _ _ _ (c .before .match .keys4) (c .join .ensures)
 
 returns-5 : tie.Need-returns-5
-returns-5 c = let r = c .match .rest in run-unknown _ _ _ (r .0 .0 .0 .1) (r .0 .0 .1) (r .0 .1) (r .1)
+returns-5 c = run-member _ _ _ _ (c .before .match .keys5) (c .member .ensures)
+
+returns-6 : tie.Need-returns-6
+returns-6 c = let r = c .match .rest in run-unknown _ _ _ (r .0 .0 .0 .0 .1) (r .0 .0 .0 .1) (r .0 .0 .1) (r .0 .1) (r .1)
 
 pub run-spec : {M : Type 1} → statement M
 run-spec =
@@ -40,8 +46,10 @@ run-spec =
     size-requires
     name-requires
     join-requires
+    member-requires
     returns
     returns-2
     returns-3
     returns-4
-    returns-5)
+    returns-5
+    returns-6)
