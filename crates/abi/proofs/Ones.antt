@@ -3,8 +3,9 @@
 use Prim.Native.Nat.{ℕ}
 use mathlib.Core.Path.{_≡_, sym, _∙_}
 use mathlib.Core.List.{List}
-use Rattle.abi.specs.Told.{CheckTold, JoinTold, partAnswer, toldIn}
+use Rattle.abi.specs.Told.{CheckTold, JoinTold, MemberTold, ValueTold, partAnswer, spanIn, toldIn}
 use Rattle.paper.specs.rules.Size.{sizeOf}
+use Rattle.values.specs.Given.{Found, Given}
 
 pub check-told-one : {b told : List ℕ} {places workPlaces : ℕ} {index index′ work work′ answer answer′ : List ℕ}
     → CheckTold b places workPlaces told index work answer → CheckTold b places workPlaces told index′ work′ answer′
@@ -24,3 +25,16 @@ pub join-told-one : {a b : List ℕ} {places workPlaces : ℕ} {out told index i
     → (index ≡ index′) × (work ≡ work′) × (output ≡ output′) × (answer ≡ answer′)
 join-told-one h k =
     (h .indexes ∙ sym (k .indexes), h .works ∙ sym (k .works), h .outputs ∙ sym (k .outputs), h .answers ∙ sym (k .answers))
+
+pub span-told-one : (f : Found) (told : List ℕ) {span span′ : List ℕ} → span ≡ spanIn f told → span′ ≡ spanIn f told → span ≡ span′
+span-told-one f told h k = h ∙ sym k
+
+pub value-told-one : {g : Given} {told room answer answer′ value value′ : List ℕ} → ValueTold g told room answer value → ValueTold g told room answer′ value′
+    → (answer ≡ answer′) × (value ≡ value′)
+value-told-one h k = (h .answers ∙ sym (k .answers), h .values ∙ sym (k .values))
+
+pub member-told-one : {b s told room : List ℕ} {places workPlaces t m : ℕ} {index index′ work work′ answer answer′ value value′ : List ℕ}
+    → MemberTold b places workPlaces t m s told room index work answer value → MemberTold b places workPlaces t m s told room index′ work′ answer′ value′
+    → (index ≡ index′) × (work ≡ work′) × (answer ≡ answer′) × (value ≡ value′)
+member-told-one h k =
+    let v = value-told-one (h .gives) (k .gives) in (h .indexes ∙ sym (k .indexes), h .works ∙ sym (k .works), v .0, v .1)

@@ -1,12 +1,12 @@
--- Laws of `toldIn`: the stores that leave the four numbers in a slice, by how many places it has.
+-- Laws of `toldIn` and `toldWide`: the stores that leave the numbers in a slice, by how many places it has.
 -- Assumes nothing.
-use Prim.Native.Nat.{ℕ, _≤_}
+use Prim.Native.Nat.{ℕ, _≤_, _<_}
 use mathlib.Core.Path.{_≡_, refl, sym, ap}
 use mathlib.Core.List.{List, [], _∷_, _++_}
 use native.Mathlib.Omega.{arith}
 use lib.ListN.{length, set}
 use lib.Seq.{take-nil}
-use Rattle.abi.specs.Told.{toldIn}
+use Rattle.abi.specs.Told.{toldIn, toldWide}
 use Rattle.paper.specs.rules.Answer.{Answer}
 
 module _ (r : Answer) where
@@ -43,3 +43,24 @@ module _ (r : Answer) where
   told-four (a ∷ b ∷ []) h = absurd (omega arith)
   told-four (a ∷ b ∷ c ∷ []) h = absurd (omega arith)
   told-four (a ∷ b ∷ c ∷ d ∷ s) h = ap (λ (u : List ℕ). r .number ∷ r .inner ∷ r .t ∷ r .p ∷ (u ++ s)) (sym (take-nil (length s)))
+
+-- ── and the fifth ──
+
+module _ (r : Answer) (high : ℕ) where
+  pub wide-few : (s : List ℕ) → length s < 5 → toldIn r s ≡ toldWide r high s
+  unfolding toldIn toldWide
+  wide-few [] h = refl
+  wide-few (a ∷ []) h = refl
+  wide-few (a ∷ b ∷ []) h = refl
+  wide-few (a ∷ b ∷ c ∷ []) h = refl
+  wide-few (a ∷ b ∷ c ∷ d ∷ []) h = refl
+  wide-few (a ∷ b ∷ c ∷ d ∷ e ∷ s) h = absurd (omega arith)
+
+  pub wide-full : (s : List ℕ) → 5 ≤ length s → set (toldIn r s) 4 high ≡ toldWide r high s
+  unfolding toldIn toldWide
+  wide-full [] h = absurd (omega arith)
+  wide-full (a ∷ []) h = absurd (omega arith)
+  wide-full (a ∷ b ∷ []) h = absurd (omega arith)
+  wide-full (a ∷ b ∷ c ∷ []) h = absurd (omega arith)
+  wide-full (a ∷ b ∷ c ∷ d ∷ []) h = absurd (omega arith)
+  wide-full (a ∷ b ∷ c ∷ d ∷ e ∷ s) h = ap (λ (u : List ℕ). r .number ∷ r .inner ∷ r .t ∷ r .p ∷ high ∷ (u ++ s)) (sym (take-nil (length s)))

@@ -1,17 +1,34 @@
 -- What the entry points for C leave in the slices that they are lent.
-use Prim.Native.Nat.{ℕ}
+use Prim.Native.Nat.{ℕ, _/_}
 use mathlib.Core.Path.{_≡_}
 use mathlib.Core.Bool.{cond}
 use mathlib.Core.List.{List, [], _∷_, _++_}
 use lib.ListN.{length, take, drop}
+use Rattle.handed.specs.Handed.{numbersOf, sixteenOf}
+use Rattle.handed.specs.Places.{foundNumbers, foundIn}
 use Rattle.paper.specs.rules.Answer.{Answer}
 use Rattle.paper.specs.rules.Gate.{gate}
 use Rattle.paper.specs.rules.Join.{join}
 use Rattle.paper.specs.rules.Name.{nameless, nameAt, nameStart}
+use Rattle.paper.specs.terms.Put.{laid}
+use Rattle.record.specs.Gives.{memberGives}
+use Rattle.values.specs.Given.{Found, readFound, Given, given}
 
 -- the four numbers of an answer, as many as fit, over the first places of a slice
 unfoldable pub toldIn : Answer → List ℕ → List ℕ
 toldIn r places = take (length places) (r .number ∷ r .inner ∷ r .t ∷ r .p ∷ []) ++ drop 4 places
+
+-- and a fifth behind them: the high word of a span's first bit
+unfoldable pub toldWide : Answer → ℕ → List ℕ → List ℕ
+toldWide r high places = take (length places) (r .number ∷ r .inner ∷ r .t ∷ r .p ∷ high ∷ []) ++ drop 5 places
+
+-- a span in five places
+abbrev pub spanIn : Found → List ℕ → List ℕ
+spanIn f places = toldWide (foundNumbers f) (f .from / 4294967296) places
+
+-- what the span in some places says of a record's bytes
+abbrev pub givenIn : List ℕ → List ℕ → Given
+givenIn span s = given (readFound (foundIn span) s)
 
 -- the name at an offset: 1 where there is none, else 0; where it begins in the blob, and its length
 abbrev pub partAnswer : List ℕ → ℕ → Answer
@@ -29,3 +46,14 @@ pub record JoinTold (a b : List ℕ) (places workPlaces : ℕ) (out told index w
   pub works : work ≡ join a b places workPlaces out .work
   pub outputs : output ≡ join a b places workPlaces out .output
   pub answers : answer ≡ toldIn (join a b places workPlaces out .answer) told
+
+-- a member's answer: its numbers, and its value's sixteen bytes, where there is room for them
+pub record ValueTold (g : Given) (told room answer value : List ℕ) : Type 0 where
+  pub answers : answer ≡ toldWide (numbersOf g) (g .from / 4294967296) told
+  pub values : value ≡ laid room 0 (sixteenOf g)
+
+-- with what the check of the blob leaves in both slices
+pub record MemberTold (b : List ℕ) (places workPlaces t m : ℕ) (s told room index work answer value : List ℕ) : Type 0 where
+  pub indexes : index ≡ gate b places workPlaces .index
+  pub works : work ≡ gate b places workPlaces .work
+  pub gives : ValueTold (memberGives b places workPlaces t m s) told room answer value

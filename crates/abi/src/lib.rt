@@ -1,15 +1,24 @@
-// The entry points for C, as include/scrieve.h declares them. An answer is four numbers, of which as many are handed out as fit.
+// The entry points for C, as include/scrieve.h declares them. An answer is four numbers, or five where there is a span, of which as many are handed out as fit.
 use answers::Numbers;
 use answers::of_checked;
 use answers::of_joined;
 use answers::of_sized;
+use handed::high_of;
+use handed::numbers_of;
+use handed::sixteen_of;
+use handed::span_in;
+use handed::span_numbers;
 use paper::NameOff;
 use paper::TypeNo;
+use values::MemberValue;
 ghost use mathlib.Core.Path.{_≡_};
 ghost use lib.ListN.{length};
-ghost use Rattle.abi.specs.Told.{CheckTold, JoinTold, partAnswer, toldIn};
+ghost use Rattle.abi.specs.Told.{CheckTold, JoinTold, MemberTold, ValueTold, givenIn, partAnswer, spanIn, toldIn, toldWide};
 ghost use Rattle.answers.specs.Numbers.{asPaper};
+ghost use Rattle.members.specs.Looked.{soughtAt};
 ghost use Rattle.paper.specs.rules.Size.{sizeOf};
+ghost use Rattle.paper.specs.terms.Put.{laid};
+ghost use Rattle.values.specs.Given.{givenAsPaper};
 
 // The four numbers, in the first places of a lent slice.
 fn tell(n: Numbers, answer: &mut [u32])
@@ -32,6 +41,27 @@ fn tell(n: Numbers, answer: &mut [u32])
         return;
     }
     answer[3] = n.p;
+}
+
+// The same, and a fifth: the high word of a span's first bit.
+fn tell_wide(n: Numbers, high: u32, answer: &mut [u32])
+    ensures { λ r. ⌜ now (answer .exit) ≡ toldWide (asPaper n) high (now (answer .entry)) ⌝ }
+{
+    tell(n, answer);
+    if answer.len() < 5 {
+        return;
+    }
+    answer[4] = high;
+}
+
+// A member's answer: its numbers, and the sixteen bytes of its value where there is room for them.
+fn give(v: MemberValue, answer: &mut [u32], value: &mut [u8])
+    ensures { λ r. ⌜ ValueTold (givenAsPaper v) (now (answer .entry)) (now (value .entry)) (now (answer .exit)) (now (value .exit)) ⌝ }
+{
+    let from = v.from;
+    let bytes = sixteen_of(v);
+    tell_wide(numbers_of(v), high_of(from), answer);
+    words::lay(value, 0, &bytes);
 }
 
 // Where the name at an offset lies, or that there is none.
@@ -93,4 +123,43 @@ pub extern "C" fn scrieve_join(
     ensures { λ r. ⌜ JoinTold (now (a .entry)) (now (b .entry)) (length (now (index .entry))) (length (now (work .entry))) (now (out .entry)) (now (answer .entry)) (now (index .exit)) (now (work .exit)) (now (out .exit)) (now (answer .exit)) ⌝ }
 {
     tell(of_joined(join::join(a, b, index, work, out)), answer);
+}
+
+// A member of a record, by a table that is checked in the same call.
+#[no_mangle]
+pub extern "C" fn scrieve_member(
+    blob: &[u8],
+    index: &mut [u32],
+    work: &mut [u32],
+    t: u32,
+    m: u32,
+    bytes: &[u8],
+    answer: &mut [u32],
+    value: &mut [u8],
+)
+    ensures { λ r. ⌜ MemberTold (now (blob .entry)) (length (now (index .entry))) (length (now (work .entry))) t m (now (bytes .entry)) (now (answer .entry)) (now (value .entry)) (now (index .exit)) (now (work .exit)) (now (answer .exit)) (now (value .exit)) ⌝ }
+{
+    give(
+        record::member(blob, index, work, TypeNo(t), m, bytes),
+        answer,
+        value,
+    );
+}
+
+// Where a member's bits lie, by the index that a check has left.
+#[no_mangle]
+pub extern "C" fn scrieve_span(blob: &[u8], index: &[u32], t: u32, m: u32, span: &mut [u32])
+    ensures { λ r. ⌜ now (span .exit) ≡ spanIn (soughtAt (now (blob .entry)) (now (index .entry)) t m) (now (span .entry)) ⌝ }
+{
+    let found = members::span_of(blob, index, TypeNo(t), m);
+    let from = found.from;
+    tell_wide(span_numbers(found), high_of(from), span);
+}
+
+// The value of such a span in a record's bytes.
+#[no_mangle]
+pub extern "C" fn scrieve_value(span: &[u32], bytes: &[u8], answer: &mut [u32], value: &mut [u8])
+    ensures { λ r. ⌜ ValueTold (givenIn (now (span .entry)) (now (bytes .entry))) (now (answer .entry)) (now (value .entry)) (now (answer .exit)) (now (value .exit)) ⌝ }
+{
+    give(values::value_of(span_in(span), bytes), answer, value);
 }

@@ -1,6 +1,11 @@
-// What is handed out of a member's answer, to test vectors and to C: its numbers, and the sixteen bytes of its value.
+// What is handed out of a member's answer, to test vectors and to C: its numbers, and the sixteen bytes of its value; and its span in places, and back.
+mod spans; // a span in places
+
 use answers::Numbers;
 use answers::of_report;
+pub use spans::high_of;
+pub use spans::span_in;
+pub use spans::span_numbers;
 use values::MemberValue;
 use values::Valued;
 use values::sixteen;
