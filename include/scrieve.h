@@ -1,4 +1,5 @@
-/* The C interface of Scrieveply: the check of a BTF table, the size of a type, the name at an offset, the join of two tables.
+/* The C interface of Scrieveply: the check of a BTF table, the size of a type, the name at an offset, the join of two tables, and the value of a
+ * member in a record's bytes.
  *
  * Every function is proved: for any bytes in the lent slices it ends, reads and writes nothing outside them, and leaves in each place
  * exactly what is written here (crates/abi/src/lib.rt has the contracts). Build with `tools/archive TARGET OUT`, link
@@ -8,12 +9,12 @@
  * - A slice is a pointer and the number of its elements: bytes for uint8_t, places for uint32_t. All memory is the caller's: nothing
  *   is allocated, nothing is kept after the call, there is no global state. Calls in several threads at once are safe, each with
  *   written slices of its own.
- * - A slice that is written (index of a check or a join, work, out, answer) must not overlap any other slice of the call. Those that
+ * - A slice that is written (index of a check, a join or a member, work, out, answer, span, value) must not overlap any other slice of the call. Those that
  *   are only read may overlap each other, so a table can be joined with itself. Nothing may write a slice during the call but the
  *   call itself.
  * - No pointer may be null, that of an empty slice neither: lend any object and 0 elements. A uint32_t pointer is aligned as
  *   uint32_t is; a uint8_t pointer needs no alignment.
- * - What stands in index, work, out and answer before the call has no meaning. They need not be cleared.
+ * - What stands in index, work, out, answer, span and value before the call has no meaning. They need not be cleared.
  * - The stack is no part of the proof. No function calls itself; the frames of the deepest call add up to under 1,024 bytes in the
  *   archive's code for x86-64.
  * - `type` and `offset` are a type number and an offset into the string section. Type 0 is void; records are numbered from 1.
@@ -32,6 +33,11 @@
  *   scrieve_name   0 a name, 1 none                      0                   where it begins in the blob   its length in bytes
  *   scrieve_join   0 joined, or 16 to 20, or 24          for 16 and 17 the   the type of the report        the joined length, or the place
  *                                                        report inside       inside, else 0                of the report inside, else 0
+ *   scrieve_member 0 unsigned, 1 signed, 2 a longer      for 34 the report   the span's first bit, or      the span's bits, or the place of
+ *   scrieve_value  span, 21, 30 to 35                    inside              the type of the report        the report inside, else 0
+ *                                                                            inside, else 0
+ *
+ * The last two have a fifth number: the high word of the span's first bit, which passes 32 bits only in a record of over 512 MiB.
  *
  * A report's place is where in the blob the record of its type begins, in bytes from the blob's first: for 8, where record 16,385 would
  * begin; for 1 to 5 and 9, which name no type, 0. It is a multiple of 4 and below the blob's length. That of a report inside a join's
@@ -45,9 +51,9 @@
 #include <stddef.h>
 #include <stdint.h>
 
-/* Which interface this is. It rises where a number, an argument or what is left in a slice changes its meaning. In 3 the change requests
- * 1, 2, 4, 5, 6, 9, 11 and 12 have landed (docs/orders). */
-#define SCRIEVE_VERSION 3
+/* Which interface this is. It rises where a function comes, or where a number, an argument or what is left in a slice changes its meaning. In 4
+ * the change requests 1 to 6, 9, 11 and 12 have landed (docs/orders). */
+#define SCRIEVE_VERSION 4
 
 /* Full size: with so many places in index and work, and so many bytes of output, no table is refused for want of room. */
 #define SCRIEVE_FULL_PLACES 16385
@@ -60,8 +66,19 @@
 #define SCRIEVE_T 2
 #define SCRIEVE_P 3
 
-/* The reports, and 0 where there is none: `number` of every function, and `inner` of a join. A check gives 1 to 15, a join 16 to 20 and 24, the
- * size question 21 and 22. There is no 23. */
+/* Places for a whole answer of a member or a value, and for a span; the place of the first bit's high word in both; and where a span has the
+ * bytes of the member's type. In both place 2 is the first bit's low word and place 3 the bits. */
+#define SCRIEVE_SPAN_PLACES 5
+#define SCRIEVE_SIZE 1
+#define SCRIEVE_FROM 2
+#define SCRIEVE_BITS 3
+#define SCRIEVE_HIGH 4
+
+/* Bytes for a value. */
+#define SCRIEVE_VALUE_BYTES 16
+
+/* The reports, and 0 where there is none: `number` of every function, and `inner` of a join and a member. A check gives 1 to 15, a join 16 to 20
+ * and 24, the size question 21 and 22, a member 21 and 30 to 35. There are no 23 and no 25 to 29. */
 enum scrieve_report {
 	SCRIEVE_REPORT_NONE = 0,           /* accepted, joined, an exact size, a name */
 	SCRIEVE_REPORT_LENGTH = 1,         /* under 24 bytes or over 262,144 */
@@ -86,12 +103,21 @@ enum scrieve_report {
 	SCRIEVE_REPORT_OUTPUT = 20,        /* the output is shorter than the joined length */
 	SCRIEVE_REPORT_INDEX = 21,         /* the index leads outside what can be read */
 	SCRIEVE_REPORT_READS = 22,         /* more records would be read than the index has places */
-	SCRIEVE_REPORT_ORDERS = 24         /* the tables have different byte orders; asked after 17 and before 18 */
+	SCRIEVE_REPORT_ORDERS = 24,        /* the tables have different byte orders; asked after 17 and before 18 */
+	SCRIEVE_REPORT_SHORT = 30,         /* the record is shorter than its type; asked after 31 */
+	SCRIEVE_REPORT_NO_STRUCT = 31,     /* the type is no struct and no union */
+	SCRIEVE_REPORT_NO_MEMBER = 32,     /* the type has no such member */
+	SCRIEVE_REPORT_NO_NUMBER = 33,     /* the member is neither integer nor enum */
+	SCRIEVE_REPORT_TABLE = 34,         /* the record's table is refused */
+	SCRIEVE_REPORT_HIGH_FIRST = 35     /* the record's table is big-endian */
 };
 
 /* What else `number` of the size question can be, and of the name question. */
 enum scrieve_size_answer { SCRIEVE_SIZE_EXACT = 0, SCRIEVE_SIZE_NONE = 1, SCRIEVE_SIZE_OVER = 2 };
 enum scrieve_name_answer { SCRIEVE_NAME_FOUND = 0, SCRIEVE_NAME_NONE = 1 };
+
+/* What else `number` of a member, a span and a value can be. A span is unsigned or signed, however long. */
+enum scrieve_value_answer { SCRIEVE_VALUE_UNSIGNED = 0, SCRIEVE_VALUE_SIGNED = 1, SCRIEVE_VALUE_LONGER = 2 };
 
 #ifdef __cplusplus
 extern "C" {
@@ -133,6 +159,35 @@ void scrieve_name(const uint8_t *blob, size_t blob_length, uint32_t offset, uint
  *   answer   see above. Check the joined table to get its index. */
 void scrieve_join(const uint8_t *a, size_t a_length, const uint8_t *b, size_t b_length, uint32_t *index, size_t index_places,
 		  uint32_t *work, size_t work_places, uint8_t *out, size_t out_length, uint32_t *answer, size_t answer_places);
+
+/* The value of a member in the bytes of a record. The table is checked in the same call: who reads many records checks once, asks
+ * scrieve_span once for a member, and scrieve_value for each record; these give the same (proved: crates/record/proofs/Demands.antt).
+ *   blob     the table's bytes, read only
+ *   index    places, as in scrieve_check, and left as it leaves them
+ *   work     as in scrieve_check
+ *   type     the number of a struct or union
+ *   member   the member's number, from 0
+ *   record   the record's bytes, read only: as many as the type has, or more
+ *   answer   see above; five places for all of it
+ *   value    sixteen bytes or more: the value, low byte first, filled up with zero bits, or with its top bit where it is signed, however many
+ *            bits it has; zeros where it is refused. With fewer than sixteen bytes nothing is written. */
+void scrieve_member(const uint8_t *blob, size_t blob_length, uint32_t *index, size_t index_places, uint32_t *work, size_t work_places,
+		    uint32_t type, uint32_t member, const uint8_t *record, size_t record_length, uint32_t *answer, size_t answer_places,
+		    uint8_t *value, size_t value_length);
+
+/* Where a member's bits lie in every record of its type, by the index that an accepted check of this blob has left. With any other blob and
+ * index the call is as safe: no more records are read than the index has places.
+ *   span     five places: number (0 unsigned, 1 signed, else 35, 21, 31, 32 or 33), the bytes of the type, the first bit's low word, the
+ *            bits, the first bit's high word. With fewer places only the first of them are told. */
+void scrieve_span(const uint8_t *blob, size_t blob_length, const uint32_t *index, size_t index_places, uint32_t type, uint32_t member,
+		  uint32_t *span, size_t span_places);
+
+/* The value of such a span in the bytes of a record.
+ *   span     five places that scrieve_span has left, read only. Any others are as safe: a place that is not there is 0, a span of no bits or of
+ *            more than 128 is 33, and one that ends behind the record is 30.
+ *   record, answer, value   as in scrieve_member */
+void scrieve_value(const uint32_t *span, size_t span_places, const uint8_t *record, size_t record_length, uint32_t *answer,
+		   size_t answer_places, uint8_t *value, size_t value_length);
 
 #ifdef __cplusplus
 }

@@ -33,10 +33,21 @@ static inline const char *scrieve_report_words(uint32_t number)
 		"the index leads outside what can be read",
 		"more records would be read than the index has places",
 		"there is no such report",
-		"the tables have different byte orders: one is little-endian, the other big-endian"
+		"the tables have different byte orders: one is little-endian, the other big-endian",
+		"there is no such report",
+		"there is no such report",
+		"there is no such report",
+		"there is no such report",
+		"there is no such report",
+		"the record is shorter than its type",
+		"the type is neither struct nor union",
+		"the type has no such member",
+		"the member is neither integer nor enum",
+		"the record's table is refused",
+		"the record's table is big-endian"
 	};
 
-	/* 23 is no report: its line is that of every number that is none */
+	/* 23 and 25 to 29 are no reports: theirs is the line of every number that is none */
 	return words[number < sizeof words / sizeof *words ? number : 23];
 }
 

@@ -8,8 +8,8 @@
 
 enum { PLACES = 20000, BYTES = 280000 };
 
-static uint8_t a[BYTES], b[BYTES], out[BYTES];
-static uint32_t index_[PLACES], work[PLACES], given[BYTES / 4], answer[4];
+static uint8_t a[BYTES], b[BYTES], out[BYTES], value[16];
+static uint32_t index_[PLACES], work[PLACES], given[BYTES / 4], answer[5];
 
 static uint32_t add(uint32_t sum, uint32_t byte) { return (uint32_t)(((uint64_t)sum * 257 + byte) % 4294967291u); }
 
@@ -76,12 +76,17 @@ static int agrees(void) {
         answer[2] = 0;
         break;
     case 4: scrieve_join(a, h[6], b, h[7], index_, h[1], work, h[2], out, h[3], answer, 4); break;
+    case 5:
+        /* the value's sixteen bytes stand for the output */
+        scrieve_member(a, h[6], index_, h[1], work, h[2], h[4], h[5], b, h[7], answer, 5, value, sizeof value);
+        part = sum_bytes(value, sizeof value);
+        break;
     default: return 0;
     }
-    memcpy(seen, answer, sizeof answer);
+    memcpy(seen, answer, 4 * sizeof *answer);
     seen[4] = sum_places(index_, h[1]);
     seen[5] = sum_places(work, h[2]);
-    seen[6] = h[0] == 3 ? part : sum_bytes(out, h[3]);
+    seen[6] = h[0] == 3 || h[0] == 5 ? part : sum_bytes(out, h[3]);
     return memcmp(seen, must, sizeof seen) == 0;
 }
 

@@ -43,6 +43,42 @@ extern "C" {
         answer: *mut u32,
         answer_places: usize,
     );
+    fn scrieve_member(
+        blob: *const u8,
+        blob_bytes: usize,
+        index: *mut u32,
+        index_places: usize,
+        work: *mut u32,
+        work_places: usize,
+        type_number: u32,
+        member: u32,
+        record: *const u8,
+        record_bytes: usize,
+        answer: *mut u32,
+        answer_places: usize,
+        value: *mut u8,
+        value_bytes: usize,
+    );
+    fn scrieve_span(
+        blob: *const u8,
+        blob_bytes: usize,
+        index: *const u32,
+        index_places: usize,
+        type_number: u32,
+        member: u32,
+        span: *mut u32,
+        span_places: usize,
+    );
+    fn scrieve_value(
+        span: *const u32,
+        span_places: usize,
+        record: *const u8,
+        record_bytes: usize,
+        answer: *mut u32,
+        answer_places: usize,
+        value: *mut u8,
+        value_bytes: usize,
+    );
 }
 
 // Each call is sound for one reason: Rust's slices are live, aligned, never
@@ -111,6 +147,72 @@ pub fn join(
             out.len(),
             answer.as_mut_ptr(),
             answer.len(),
+        )
+    }
+}
+
+/// What is asked of a table: a member of a type.
+#[derive(Clone, Copy)]
+pub struct Member {
+    pub type_number: u32,
+    pub member: u32,
+}
+
+pub fn member(
+    blob: &[u8],
+    index: &mut [u32],
+    work: &mut [u32],
+    asked: Member,
+    record: &[u8],
+    answer: &mut [u32],
+    value: &mut [u8],
+) {
+    unsafe {
+        scrieve_member(
+            blob.as_ptr(),
+            blob.len(),
+            index.as_mut_ptr(),
+            index.len(),
+            work.as_mut_ptr(),
+            work.len(),
+            asked.type_number,
+            asked.member,
+            record.as_ptr(),
+            record.len(),
+            answer.as_mut_ptr(),
+            answer.len(),
+            value.as_mut_ptr(),
+            value.len(),
+        )
+    }
+}
+
+pub fn span(blob: &[u8], index: &[u32], asked: Member, span: &mut [u32]) {
+    unsafe {
+        scrieve_span(
+            blob.as_ptr(),
+            blob.len(),
+            index.as_ptr(),
+            index.len(),
+            asked.type_number,
+            asked.member,
+            span.as_mut_ptr(),
+            span.len(),
+        )
+    }
+}
+
+pub fn value(span: &[u32], record: &[u8], answer: &mut [u32], value: &mut [u8]) {
+    unsafe {
+        scrieve_value(
+            span.as_ptr(),
+            span.len(),
+            record.as_ptr(),
+            record.len(),
+            answer.as_mut_ptr(),
+            answer.len(),
+            value.as_mut_ptr(),
+            value.len(),
         )
     }
 }

@@ -3,7 +3,9 @@
 
 use crate::archive;
 use crate::generate::random::Random;
-use crate::vectors::{places, run, Case, Seen, CHECK, JOIN, MOST_BYTES, MOST_PLACES, NAME, SIZE};
+use crate::vectors::{
+    places, run, Case, Seen, CHECK, JOIN, MEMBER, MOST_BYTES, MOST_PLACES, NAME, SIZE,
+};
 
 /// What stands in an answer's place before a call; no answer has this number.
 const UNTOLD: u32 = 0xA5A5_A5A5;
@@ -32,7 +34,7 @@ pub struct Trial {
 impl Trial {
     /// Lent lengths are mostly the case's own; answers mostly fit.
     pub fn new(r: &mut Random, mut case: Case) -> Trial {
-        if case.op == CHECK || case.op == JOIN {
+        if case.op == CHECK || case.op == JOIN || case.op == MEMBER {
             case.index_places = lent(r, case.index_places, MOST_PLACES);
             case.work_places = lent(r, case.work_places, MOST_PLACES);
         }
@@ -69,8 +71,16 @@ impl Trial {
             given: places(&case.b),
             index: vec![u32::MAX; case.index_places as usize + 2],
             work: vec![u32::MAX; case.work_places as usize + 2],
-            output: vec![165; case.output_bytes as usize + 2],
+            output: vec![165; self.output_bytes() + 2],
             answer: vec![UNTOLD; self.answer_places + 2],
+        }
+    }
+
+    /// The bytes that are lent for an output, or for a member's value.
+    fn output_bytes(&self) -> usize {
+        match self.case.op {
+            MEMBER => 16,
+            _ => self.case.output_bytes as usize,
         }
     }
 
@@ -82,6 +92,10 @@ impl Trial {
             CHECK => archive::check(a, inner(&mut s.index), inner(&mut s.work), answer),
             SIZE => archive::size(a, &s.given, self.case.x, answer),
             NAME => archive::name(a, self.case.x, answer),
+            MEMBER => {
+                let (index, work) = (inner(&mut s.index), inner(&mut s.work));
+                self.run_member(a, b, index, work, answer, inner(&mut s.output))
+            }
             _ => archive::join(
                 a,
                 b,
@@ -93,6 +107,43 @@ impl Trial {
         }
     }
 
+    /// A member in one call; and of an accepted table the same in two, which
+    /// must leave the same.
+    fn run_member(
+        &self,
+        table: &[u8],
+        record: &[u8],
+        index: &mut [u32],
+        work: &mut [u32],
+        answer: &mut [u32],
+        value: &mut [u8],
+    ) {
+        let asked = archive::Member {
+            type_number: self.case.x,
+            member: self.case.y,
+        };
+        let (mut told, mut given) = (answer.to_vec(), value.to_vec());
+        archive::member(table, index, work, asked, record, answer, value);
+        let mut checked = [0; 4];
+        archive::check(table, index, work, &mut checked);
+        if checked[0] == 0 {
+            let mut span = [UNTOLD; 5];
+            archive::span(table, index, asked, &mut span);
+            archive::value(&span, record, &mut told, &mut given);
+            assert_eq!((&told[..], &given[..]), (&*answer, &*value));
+        }
+    }
+
+    /// An answer's numbers. A member's has a fifth, which is 0 in every record
+    /// that is short enough to be lent here.
+    fn told(&self, seen: &Seen, t: u32) -> Vec<u32> {
+        let mut told = vec![seen.number, seen.inner, t, seen.p];
+        if self.case.op == MEMBER {
+            told.push(0);
+        }
+        told
+    }
+
     /// What must be there after the call. A name is told by where it begins
     /// and its length; no output is lent for it.
     fn put_seen(&self, seen: &Seen, s: &mut Slices) {
@@ -100,7 +151,7 @@ impl Trial {
             NAME => name_start(&self.case),
             _ => seen.t,
         };
-        let told = [seen.number, seen.inner, t, seen.p];
+        let told = self.told(seen, t);
         for (place, number) in inner(&mut s.answer).iter_mut().zip(told) {
             *place = number;
         }

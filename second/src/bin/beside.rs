@@ -65,28 +65,31 @@ struct Run {
 
 impl Run {
     fn all(&mut self) -> Result<(), Differed> {
-        let fixed = cases(&self.wanted(Scale::Full, 0, true));
+        let mut fixed = cases(&self.wanted(vec![1, 2, 3, 4], Scale::Full, 0, true));
+        fixed.extend(cases(&self.wanted(vec![5], Scale::Full, 0, true)));
         println!("{} fixed cases before them", fixed.len().min(self.left));
         self.some(fixed)?;
         while self.left > 0 {
             for (scale, count) in SHARES {
-                let wanted = self.wanted(scale, count.min(self.left), false);
+                let wanted = self.wanted(vec![1, 2, 3, 4, 5], scale, count.min(self.left), false);
                 self.some(cases(&wanted))?;
             }
         }
         Ok(())
     }
 
-    fn wanted(&mut self, scale: Scale, cases: usize, fixed: bool) -> Wanted {
+    /// Of a member's fixed cases the short choice: the whole would leave no room for generated ones.
+    fn wanted(&mut self, ops: Vec<u32>, scale: Scale, cases: usize, fixed: bool) -> Wanted {
+        let thin = ops == [5];
         Wanted {
             seed: self.r.next(),
             cases,
-            ops: vec![1, 2, 3, 4],
+            ops,
             scale,
             only: None,
             edges: fixed,
             part: None,
-            thin: false,
+            thin,
             large: fixed,
             names: false,
         }
@@ -124,9 +127,10 @@ fn print_case(trial: &Trial, what: &str) {
     let case = &trial.case;
     println!("differs: {what}");
     println!(
-        "op {}, x {}, index {} places, work {} places, output {} bytes, answer {} places",
+        "op {}, x {}, y {}, index {} places, work {} places, output {} bytes, answer {} places",
         case.op,
         case.x,
+        case.y,
         case.index_places,
         case.work_places,
         case.output_bytes,
