@@ -13,6 +13,7 @@ pub mod census;
 pub mod changed;
 pub mod generate;
 pub mod make;
+pub mod plain_value;
 pub mod rules;
 pub mod timing;
 pub mod vectors;
