@@ -66,7 +66,7 @@ fn put_missing(buf: &mut [u8; ROOM], o: Out, ask: Ask, n: u32) -> Out {
 }
 
 // What is asked is not there: a wrong call.
-fn missing(file: &[u8], ask: Ask, n: u32) -> Status {
+pub fn missing(file: &[u8], ask: Ask, n: u32) -> Status {
     let mut buf = [0u8; ROOM];
     let o = put(&mut buf, lines::to(STDERR_FILENO), b"scrieve: ");
     let o = put_file(&mut buf, o, file);
@@ -173,7 +173,7 @@ fn put_before(
 }
 
 // A table that is refused.
-fn refused(ask: Ask, file: &[u8], blob: &[u8], index: &mut [u32], told: Numbers) -> Status {
+pub fn refused(ask: Ask, file: &[u8], blob: &[u8], index: &mut [u32], told: Numbers) -> Status {
     let mut buf = [0u8; ROOM];
     let o = put_refused(&mut buf, lines::to(STDOUT_FILENO), file, blob, told);
     let o = put_before(&mut buf, o, ask, blob, index, told.t);

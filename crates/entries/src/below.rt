@@ -32,18 +32,18 @@ pub struct Listed {
 }
 
 // How deep members without a name are followed, and how many lines one gets below it: a small table can nest without measure.
-const LEVELS: usize = 8;
+pub const LEVELS: usize = 8;
 
-const LINES: u32 = 256;
+pub const LINES: u32 = 256;
 
 // Which bits of a struct or union a member takes: the first, and how many.
-struct Span {
-    from: u64,
-    width: u64,
+pub struct Span {
+    pub from: u64,
+    pub width: u64,
 }
 
 // The bits of a type's whole size; an accepted member has one.
-fn whole_bits(s: Sized) -> u64 {
+pub fn whole_bits(s: Sized) -> u64 {
     match s {
         Sized::Exact(n) => 8 * (n as u64),
         _ => 0,
@@ -91,7 +91,7 @@ fn span_of(blob: &[u8], index: &[u32], flag: u32, t: u32, word: u32) -> Span {
 }
 
 // A sum that stops at the largest number; the bits of an accepted table stay far below it.
-fn plus(a: u64, b: u64) -> u64 {
+pub fn plus(a: u64, b: u64) -> u64 {
     if 18446744073709551615 - a < b {
         return 18446744073709551615;
     }
@@ -131,7 +131,7 @@ fn held_by(blob: &[u8], index: &[u32], e: &[u8]) -> u32 {
     }
 }
 
-fn put_indent(buf: &mut [u8; ROOM], o: Out, depth: usize) -> Out {
+pub fn put_indent(buf: &mut [u8; ROOM], o: Out, depth: usize) -> Out {
     let mut o = o;
     let mut left = depth;
     while 0 < left {
@@ -139,6 +139,22 @@ fn put_indent(buf: &mut [u8; ROOM], o: Out, depth: usize) -> Out {
         left -= 1;
     }
     o
+}
+
+// What stands behind a member's name: its type and its bits.
+pub fn put_taken(
+    buf: &mut [u8; ROOM],
+    o: Out,
+    blob: &[u8],
+    index: &[u32],
+    t: u32,
+    bits: Span,
+) -> Out {
+    let o = put(buf, o, b": ");
+    let o = put_based(buf, o, blob, index, t);
+    let o = put(buf, o, b", ");
+    let o = put_many(buf, o, bits.width, b" bit", b" bits");
+    put_with(buf, o, b" from bit ", bits.from)
 }
 
 // A member's line: name, type and bits, so many levels below the record that is shown.
@@ -154,23 +170,19 @@ fn put_line(
     let o = put_start(buf, o);
     let o = put_indent(buf, o, depth);
     let o = put_entry_name(buf, o, blob, e);
-    let o = put(buf, o, b": ");
     let t = words::read(words::order_of(blob), e, Place(4));
-    let o = put_based(buf, o, blob, index, t);
-    let o = put(buf, o, b", ");
-    let o = put_many(buf, o, bits.width, b" bit", b" bits");
-    let o = put_with(buf, o, b" from bit ", bits.from);
+    let o = put_taken(buf, o, blob, index, t, bits);
     put(buf, o, b"\n")
 }
 
 // Where lines are left out.
-fn put_more(buf: &mut [u8; ROOM], o: Out, depth: usize) -> Out {
+pub fn put_more(buf: &mut [u8; ROOM], o: Out, depth: usize) -> Out {
     let o = put_start(buf, o);
     let o = put_indent(buf, o, depth);
     put(buf, o, b"    ...\n")
 }
 
-fn least(a: u32, b: u32) -> u32 {
+pub fn least(a: u32, b: u32) -> u32 {
     if a < b {
         return a;
     }
@@ -178,7 +190,7 @@ fn least(a: u32, b: u32) -> u32 {
 }
 
 // A difference that stops at 0.
-fn less(a: u32, b: u32) -> u32 {
+pub fn less(a: u32, b: u32) -> u32 {
     if a < b {
         return 0;
     }
@@ -242,7 +254,7 @@ fn put_below(
 }
 
 // The same, with other text written.
-pub(crate) fn with(l: Listed, o: Out) -> Listed {
+pub fn with(l: Listed, o: Out) -> Listed {
     Listed {
         o,
         left: l.left,

@@ -26,7 +26,7 @@ use titles::put_many;
 use titles::put_type;
 
 // A number of 64 bits, signed where the flag says so.
-fn put_signed(buf: &mut [u8; ROOM], o: Out, flag: u32, n: u64) -> Out {
+pub fn put_signed(buf: &mut [u8; ROOM], o: Out, flag: u32, n: u64) -> Out {
     if flag == 0 {
         return put_wide(buf, o, n);
     }
@@ -100,19 +100,30 @@ fn put_placed(buf: &mut [u8; ROOM], o: Out, blob: &[u8], index: &[u32], e: &[u8]
     put(buf, o, b"\n")
 }
 
+// The bytes from a value of an enum on, of either width.
+pub fn value_entry(order: Order, r: &[u8], i: u32) -> &[u8] {
+    if kind_of(info_of(order, r)) == ENUM {
+        return short_entry(r, i);
+    }
+    long_entry(r, i)
+}
+
+// Its number, as 64 bits have it.
+pub fn value_number(order: Order, r: &[u8], i: u32) -> u64 {
+    let info = info_of(order, r);
+    let e = value_entry(order, r, i);
+    if kind_of(info) == ENUM {
+        return widened(flag_of(info), words::read(order, e, Place(4)));
+    }
+    wide_value(order, e)
+}
+
 // A value of an enum, of either width.
 fn put_number_of(buf: &mut [u8; ROOM], o: Out, blob: &[u8], r: &[u8], i: u32) -> Out {
     let order = words::order_of(blob);
-    let info = info_of(order, r);
-    let flag = flag_of(info);
-    if kind_of(info) == ENUM {
-        let e = short_entry(r, i);
-        let n = widened(flag, words::read(order, e, Place(4)));
-        return put_value(buf, o, blob, flag, e, n);
-    }
-    let e = long_entry(r, i);
-    let n = wide_value(order, e);
-    put_value(buf, o, blob, flag, e, n)
+    let flag = flag_of(info_of(order, r));
+    let e = value_entry(order, r, i);
+    put_value(buf, o, blob, flag, e, value_number(order, r, i))
 }
 
 // An entry by the kind of its record.

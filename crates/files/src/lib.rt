@@ -1,13 +1,16 @@
 // Files that are read and saved, and how a call of the tool ends.
 mod ends; // how a call ends
-mod reads; // tables that are read
+mod reads; // files that are read
 mod saves; // a table that is written
 
 pub use ends::Status;
 pub use ends::end;
 pub use reads::READ_LIMIT;
 pub use reads::Read;
+pub use reads::close_input;
 pub use reads::fail;
 pub use reads::fail_text;
+pub use reads::open_input;
 pub use reads::read_file;
+pub use reads::read_input;
 pub use saves::save;

@@ -1,4 +1,4 @@
-// A table is read from a file, or from standard input where the name is a dash.
+// What is read, from a file or from standard input where the name is a dash.
 use libc::STDERR_FILENO;
 use libc::STDIN_FILENO;
 use paper::BYTE_LIMIT;
@@ -69,27 +69,52 @@ fn read_from(fd: i32, s: &mut [u8]) -> Read {
     }
 }
 
-// The bytes of the file, as many as the slice holds. Where it cannot be read, standard error says why.
-pub fn read_file(name: &[u8], s: &mut [u8]) -> Read {
+// The descriptor of a file, or of standard input where the name is a dash; below 0 where there is none, and standard error says why.
+pub fn open_input(name: &[u8]) -> i32 {
     if check::same(name, b"-") {
-        let read = read_from(STDIN_FILENO, s);
-        if !read.is_read {
-            fail_text(b"standard input");
-        }
-        return read;
+        return STDIN_FILENO;
     }
     let fd = os::open_read(name);
     if fd < 0 {
         fail(name);
+    }
+    fd
+}
+
+pub fn close_input(fd: i32) {
+    if fd == STDIN_FILENO {
+        return;
+    }
+    libc::close(fd);
+}
+
+fn fail_input(name: &[u8]) {
+    if check::same(name, b"-") {
+        fail_text(b"standard input");
+        return;
+    }
+    fail(name);
+}
+
+// The next bytes of what is open under a name, as many as the slice holds. Where they cannot be read, standard error says why.
+pub fn read_input(name: &[u8], fd: i32, s: &mut [u8]) -> Read {
+    let read = read_from(fd, s);
+    if !read.is_read {
+        fail_input(name);
+    }
+    read
+}
+
+// The bytes of the file, as many as the slice holds. Where it cannot be read, standard error says why.
+pub fn read_file(name: &[u8], s: &mut [u8]) -> Read {
+    let fd = open_input(name);
+    if fd < 0 {
         return Read {
             n: 0,
             is_read: false,
         };
     }
-    let read = read_from(fd, s);
-    if !read.is_read {
-        fail(name);
-    }
-    libc::close(fd);
+    let read = read_input(name, fd, s);
+    close_input(fd);
     read
 }

@@ -6,6 +6,7 @@ pub use out::ROOM;
 pub use out::flush;
 pub use out::marked;
 pub use out::put;
+pub use out::put_byte;
 pub use out::put_file;
 pub use out::put_hex;
 pub use out::put_name;

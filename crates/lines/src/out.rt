@@ -127,7 +127,7 @@ pub fn put_with(buf: &mut [u8; ROOM], o: Out, text: &[u8], n: u64) -> Out {
 }
 
 // A byte in hexadecimal.
-fn put_byte(buf: &mut [u8; ROOM], o: Out, b: u8) -> Out {
+pub fn put_byte(buf: &mut [u8; ROOM], o: Out, b: u8) -> Out {
     let mut digits = [0u8; 16];
     let k = io::hex(b as u64, 2, &mut digits);
     put(buf, o, &digits[..k])

@@ -142,7 +142,7 @@ fn put_details(buf: &mut [u8; ROOM], o: Out, blob: &[u8], index: &[u32], r: &[u8
 }
 
 // The line of a type.
-fn put_line(buf: &mut [u8; ROOM], o: Out, blob: &[u8], index: &[u32], t: u32) -> Out {
+pub fn put_title(buf: &mut [u8; ROOM], o: Out, blob: &[u8], index: &[u32], t: u32) -> Out {
     let o = put_start(buf, o);
     let o = put_type(buf, o, blob, index, t);
     let o = put(buf, o, b": ");
@@ -176,7 +176,7 @@ pub(crate) fn put_whole_type(
     t: u32,
 ) -> Listed {
     let o = l.o;
-    let o = put_line(buf, o, blob, index, t);
+    let o = put_title(buf, o, blob, index, t);
     let listed = Listed {
         o,
         left: l.left,

@@ -11,7 +11,7 @@ use rows::name_of;
 use titles::put_many;
 
 // How many lines members without a name get in one call.
-const NESTED: u32 = 4096;
+pub const NESTED: u32 = 4096;
 
 // What is written so far, how many lines are left, how many types' were cut, and how many types were shown.
 struct Call {
@@ -94,7 +94,7 @@ pub fn show_all(buf: &mut [u8; ROOM], o: Out, blob: &[u8], index: &[u32], n: u32
 }
 
 // A type has this name, byte for byte.
-fn is_named(blob: &[u8], index: &[u32], t: u32, name: &[u8]) -> bool {
+pub fn is_named(blob: &[u8], index: &[u32], t: u32, name: &[u8]) -> bool {
     let r = record_of(blob, index, t);
     check::same(header::name(blob, name_of(words::order_of(blob), r)), name)
 }

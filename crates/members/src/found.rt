@@ -43,7 +43,7 @@ pub(crate) fn no_span(sort: Sort, size: u32) -> MemberSpan
 }
 
 // A struct or a union.
-fn is_struct(kind: u32) -> bool
+pub fn is_struct(kind: u32) -> bool
     ensures { λ r. ⌜ r ≡ member kind (STRUCT ∷ UNION ∷ []) ⌝ }
 {
     if kind == STRUCT {
@@ -95,8 +95,8 @@ fn found(size: u32, signed: bool, span: Lies) -> MemberSpan
     }
 }
 
-// A member by its type and its offset word, in a record of so many bytes.
-fn numbered<'a>(
+// A member by its type and its offset word, in a record of so many bytes; an array's element with kind_flag 0 and offset 0, in its own bytes.
+pub fn numbered<'a>(
     base: &'a [u8],
     b: &'a [u8],
     index: &[u32],

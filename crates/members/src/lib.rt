@@ -2,8 +2,10 @@
 mod found; // what is said of a member of a type's record
 mod shown; // what an index shows: how many types, and which have no place
 
+pub use found::is_struct;
 use found::member_in;
 use found::no_span;
+pub use found::numbered;
 use paper::Order;
 use paper::TypeNo;
 use shown::placeless;
