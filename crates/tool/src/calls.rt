@@ -1,4 +1,5 @@
 // The arguments: which verb, of which files and numbers; and how the status is told.
+use crate::records::read_call;
 use asks::Ask;
 use asks::ask_file;
 use files::Status;
@@ -25,21 +26,22 @@ enum Verb {
     Size,
     Name,
     Join,
+    Read,
     Help,
     Unknown,
 }
 
 // An argument's length in the lent bytes, and whether it is there as a whole.
-struct Arg {
-    n: usize,
-    is_whole: bool,
+pub(crate) struct Arg {
+    pub n: usize,
+    pub is_whole: bool,
 }
 
 // The descriptor on which the launcher waits for the status.
 const STATUS: i32 = 3;
 
 // The place of an argument, counted from the verb on.
-fn place(first: u32, k: u32) -> usize {
+pub(crate) fn place(first: u32, k: u32) -> usize {
     (first as usize) + (k as usize)
 }
 
@@ -51,7 +53,7 @@ fn words_from(first: u32, count: usize) -> usize {
     count - first as usize
 }
 
-fn argument(i: usize, s: &mut [u8]) -> Arg {
+pub(crate) fn argument(i: usize, s: &mut [u8]) -> Arg {
     let n = os::arg(i, s);
     if os::errno() != 0 {
         fail_text(b"argument");
@@ -78,6 +80,9 @@ fn verb_of(s: &[u8]) -> Verb {
     }
     if check::same(s, b"join") {
         return Verb::Join;
+    }
+    if check::same(s, b"read") {
+        return Verb::Read;
     }
     if check::same(s, b"help") || check::same(s, b"--help") || check::same(s, b"-h") {
         return Verb::Help;
@@ -196,6 +201,7 @@ fn least(verb: Verb) -> usize {
         Verb::Size => 2,
         Verb::Name => 2,
         Verb::Join => 3,
+        Verb::Read => 3,
         Verb::Help => 0,
         Verb::Unknown => 0,
     }
@@ -205,6 +211,7 @@ fn least(verb: Verb) -> usize {
 fn most(verb: Verb) -> usize {
     match verb {
         Verb::Show => 2,
+        Verb::Read => 4,
         _ => least(verb),
     }
 }
@@ -222,6 +229,7 @@ fn call_by(verb: Verb, first: u32, behind: usize) -> Status {
         Verb::Size => ask_numbered(verb, first),
         Verb::Name => ask_numbered(verb, first),
         Verb::Join => join_call(first),
+        Verb::Read => read_call(first, behind),
         Verb::Help => help(),
         Verb::Unknown => wrong_at(place(first, 0), UNKNOWN),
     }

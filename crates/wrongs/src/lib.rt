@@ -26,6 +26,14 @@ pub const TWO_DASHES: u32 = 6;
 
 pub const NO_TYPE_NAME: u32 = 7;
 
+pub const TWO_INPUTS: u32 = 8;
+
+pub const NO_EACH: u32 = 9;
+
+pub const NO_DIGITS: u32 = 10;
+
+pub const ODD_DIGITS: u32 = 11;
+
 fn usage(fd: i32) -> bool {
     io::write_all(
         fd,
@@ -34,9 +42,13 @@ fn usage(fd: i32) -> bool {
 \x20      scrieve size FILE TYPE      the exact size of a type\n\
 \x20      scrieve name FILE OFFSET    the string at an offset\n\
 \x20      scrieve join A B OUT        both tables in one; OUT changes only when all of it is written\n\
+\x20      scrieve read TABLE TYPE RECORD [--each]\n\
+\x20      scrieve read TABLE TYPE --hex DIGITS\n\
+\x20                                  a record of a struct or union, by number or by name: each member's bits, bytes and value;\n\
+\x20                                  RECORD is a file, with --each of one record behind another; DIGITS are the bytes themselves\n\
 \x20      scrieve help                this text; -h and --help too\n\
 \x20      scrieve version             the commit, the toolchain, the requests that have landed\n\
-A dash for FILE, A or B is standard input.\n\
+A dash for FILE, A, B, TABLE or RECORD is standard input.\n\
 Status: 0 accepted or done, 1 refused, 2 a wrong call, or a file that cannot be read or written.\n",
     )
 }
@@ -58,7 +70,11 @@ fn put_wrong(word: &[u8], why: u32) {
         OFFSET is a decimal number of 32 bits\n\
         OUT is the name of a file\n\
         A and B cannot both be standard input\n\
-        TYPE is a decimal number of 32 bits, or a name\n";
+        TYPE is a decimal number of 32 bits, or a name\n\
+        TABLE and RECORD cannot both be standard input\n\
+        behind RECORD there may be --each, and nothing else\n\
+        DIGITS are hexadecimal digits and blanks\n\
+        DIGITS are two for each byte, and one is left\n";
     let mut buf = [0u8; lines::ROOM];
     let o = put(&mut buf, lines::to(STDERR_FILENO), b"scrieve: ");
     let o = put_file(&mut buf, o, word);
