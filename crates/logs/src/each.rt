@@ -200,10 +200,10 @@ fn ended(buf: &mut [u8; ROOM], turn: Turn, blob: &[u8], index: &[u32], a: Asked)
     let l = c.l;
     let o = put_left(buf, c, blob, index, a, turn.left);
     let o = put_cut(buf, with(l, o));
-    let o = put_many(buf, o, c.count, b" record\n", b" records\n");
     if !turn.is_read {
         return end(buf, o, Status::Failed);
     }
+    let o = put_many(buf, o, c.count, b" record\n", b" records\n");
     if turn.left != 0 {
         return end(buf, o, Status::Refused);
     }

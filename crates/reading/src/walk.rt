@@ -57,7 +57,7 @@ fn bytes_in(s: &[u8], from: u64, width: u64) -> &[u8] {
     first_of(rest_from(s, first as usize), n as usize)
 }
 
-// Bytes behind a colon, and dots where there are more; nothing where there are none.
+// Bytes behind a colon, and how many there are where not all stand there; nothing where there are none.
 fn put_bytes(buf: &mut [u8; ROOM], o: Out, s: &[u8]) -> Out {
     if s.len() == 0 {
         return o;
@@ -67,7 +67,8 @@ fn put_bytes(buf: &mut [u8; ROOM], o: Out, s: &[u8]) -> Out {
     if s.len() <= SHOWN {
         return o;
     }
-    put(buf, o, b" ...")
+    let o = put_with(buf, o, b" ... (", s.len() as u64);
+    put(buf, o, b" bytes)")
 }
 
 // A member's or an element's line: name or number, type, bits, bytes and value. What holds it begins at a bit of the record.
