@@ -2,23 +2,28 @@
 use answers::Numbers;
 use answers::of_checked;
 use answers::of_joined;
+use answers::of_report;
 use answers::of_sized;
 use handed::high_of;
 use handed::numbers_of;
 use handed::sixteen_of;
 use handed::span_in;
 use handed::span_numbers;
+use handed::within_34;
+use paper::Checked;
 use paper::NameOff;
+use paper::Report;
 use paper::TypeNo;
+use values::MemberSpan;
 use values::MemberValue;
 ghost use mathlib.Core.Path.{_≡_};
 ghost use lib.ListN.{length};
 ghost use Rattle.abi.specs.Told.{CheckTold, JoinTold, MemberTold, ValueTold, givenIn, partAnswer, spanIn, toldIn, toldWide};
 ghost use Rattle.answers.specs.Numbers.{asPaper};
 ghost use Rattle.members.specs.Looked.{soughtAt};
+ghost use Rattle.paper.specs.rules.Answer.{inside, reportAsPaper};
 ghost use Rattle.paper.specs.rules.Size.{sizeOf};
-ghost use Rattle.paper.specs.terms.Put.{laid};
-ghost use Rattle.values.specs.Given.{givenAsPaper};
+ghost use Rattle.values.specs.Given.{foundAsPaper, givenAsPaper, refusedAs};
 
 // The four numbers, in the first places of a lent slice.
 fn tell(n: Numbers, answer: &mut [u32])
@@ -54,7 +59,8 @@ fn tell_wide(n: Numbers, high: u32, answer: &mut [u32])
     answer[4] = high;
 }
 
-// A member's answer: its numbers, and the sixteen bytes of its value where there is room for them.
+// A value: its numbers, and its sixteen bytes where there is room for them. One caller, so that it is compiled in place: who reads a million
+// records calls nothing else.
 fn give(v: MemberValue, answer: &mut [u32], value: &mut [u8])
     ensures { λ r. ⌜ ValueTold (givenAsPaper v) (now (answer .entry)) (now (value .entry)) (now (answer .exit)) (now (value .exit)) ⌝ }
 {
@@ -62,6 +68,22 @@ fn give(v: MemberValue, answer: &mut [u32], value: &mut [u8])
     let bytes = sixteen_of(v);
     tell_wide(numbers_of(v), high_of(from), answer);
     words::lay(value, 0, &bytes);
+}
+
+// 34, with the table's report inside.
+fn refuse(r: Report, answer: &mut [u32], value: &mut [u8])
+    ensures { λ x. ⌜ ValueTold (refusedAs (inside 34 (reportAsPaper r))) (now (answer .entry)) (now (value .entry)) (now (answer .exit)) (now (value .exit)) ⌝ }
+{
+    tell_wide(within_34(of_report(r)), 0, answer);
+    words::lay(value, 0, &[0u8; 16]);
+}
+
+// A span, in the first places of a lent slice.
+fn put_span(found: MemberSpan, span: &mut [u32])
+    ensures { λ r. ⌜ now (span .exit) ≡ spanIn (foundAsPaper found) (now (span .entry)) ⌝ }
+{
+    let from = found.from;
+    tell_wide(span_numbers(found), high_of(from), span);
 }
 
 // Where the name at an offset lies, or that there is none.
@@ -125,7 +147,23 @@ pub extern "C" fn scrieve_join(
     tell(of_joined(join::join(a, b, index, work, out)), answer);
 }
 
-// A member of a record, by a table that is checked in the same call.
+// Where a member's bits lie, by the index that a check has left.
+#[no_mangle]
+pub extern "C" fn scrieve_span(blob: &[u8], index: &[u32], t: u32, m: u32, span: &mut [u32])
+    ensures { λ r. ⌜ now (span .exit) ≡ spanIn (soughtAt (now (blob .entry)) (now (index .entry)) t m) (now (span .entry)) ⌝ }
+{
+    put_span(members::span_of(blob, index, TypeNo(t), m), span);
+}
+
+// The value of such a span in a record's bytes.
+#[no_mangle]
+pub extern "C" fn scrieve_value(span: &[u32], bytes: &[u8], answer: &mut [u32], value: &mut [u8])
+    ensures { λ r. ⌜ ValueTold (givenIn (now (span .entry)) (now (bytes .entry))) (now (answer .entry)) (now (value .entry)) (now (answer .exit)) (now (value .exit)) ⌝ }
+{
+    give(values::value_of(span_in(span), bytes), answer, value);
+}
+
+// A member of a record, by a table that is checked in the same call: the check, the span, the value.
 #[no_mangle]
 pub extern "C" fn scrieve_member(
     blob: &[u8],
@@ -139,27 +177,12 @@ pub extern "C" fn scrieve_member(
 )
     ensures { λ r. ⌜ MemberTold (now (blob .entry)) (length (now (index .entry))) (length (now (work .entry))) t m (now (bytes .entry)) (now (answer .entry)) (now (value .entry)) (now (index .exit)) (now (work .exit)) (now (answer .exit)) (now (value .exit)) ⌝ }
 {
-    give(
-        record::member(blob, index, work, TypeNo(t), m, bytes),
-        answer,
-        value,
-    );
-}
-
-// Where a member's bits lie, by the index that a check has left.
-#[no_mangle]
-pub extern "C" fn scrieve_span(blob: &[u8], index: &[u32], t: u32, m: u32, span: &mut [u32])
-    ensures { λ r. ⌜ now (span .exit) ≡ spanIn (soughtAt (now (blob .entry)) (now (index .entry)) t m) (now (span .entry)) ⌝ }
-{
-    let found = members::span_of(blob, index, TypeNo(t), m);
-    let from = found.from;
-    tell_wide(span_numbers(found), high_of(from), span);
-}
-
-// The value of such a span in a record's bytes.
-#[no_mangle]
-pub extern "C" fn scrieve_value(span: &[u32], bytes: &[u8], answer: &mut [u32], value: &mut [u8])
-    ensures { λ r. ⌜ ValueTold (givenIn (now (span .entry)) (now (bytes .entry))) (now (answer .entry)) (now (value .entry)) (now (answer .exit)) (now (value .exit)) ⌝ }
-{
-    give(values::value_of(span_in(span), bytes), answer, value);
+    match gate::check(blob, index, work) {
+        Checked::Refused(r) => refuse(r, answer, value),
+        Checked::Accepted(_) => {
+            let mut span = [0u32; 5];
+            put_span(members::span_of(blob, index, TypeNo(t), m), &mut span);
+            scrieve_value(&span, bytes, answer, value);
+        }
+    }
 }

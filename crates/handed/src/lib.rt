@@ -58,7 +58,7 @@ fn spanned(number: u32, from: u64, bits: u32) -> Numbers
 }
 
 // The report inside 34.
-fn refused(r: Numbers) -> Numbers
+pub fn within_34(r: Numbers) -> Numbers
     ensures { λ n. ⌜ asPaper n ≡ inside 34 (asPaper r) ⌝ }
 {
     Numbers {
@@ -90,7 +90,7 @@ pub fn numbers_of(v: MemberValue) -> Numbers
         Valued::Unsigned(_) => spanned(0, v.from, v.bits),
         Valued::Signed(_) => spanned(1, v.from, v.bits),
         Valued::Longer => spanned(2, v.from, v.bits),
-        Valued::TableRefused(r) => refused(of_report(r)),
+        Valued::TableRefused(r) => within_34(of_report(r)),
         Valued::HighFirst => bare(35),
         Valued::NoType => bare(21),
         Valued::NoStruct => bare(31),

@@ -33,8 +33,8 @@ enum-known-value c = search needs
 of-report-requires : tie.Need-of-report-requires
 of-report-requires c κs = search needs
 
-refused-requires : tie.Need-refused-requires
-refused-requires c κs = search needs
+within-34-requires : tie.Need-within-34-requires
+within-34-requires c κs = search needs
 
 enum-told-4 : tie.Need-enum-told-4
 enum-told-4 c = search needs
@@ -89,7 +89,7 @@ unfolding numbersOf valuedAnswer
 returns-4 c =
     let o = c .before in
     let k = o .before .before in
-    numbers-by (k .before .before .args .v) (k .value .given .1) (c .refused .ensures ∙ ap (inside 34) (o .of-report .ensures))
+    numbers-by (k .before .before .args .v) (k .value .given .1) (c .within-34 .ensures ∙ ap (inside 34) (o .of-report .ensures))
 
 returns-5 : tie.Need-returns-5
 unfolding numbersOf valuedAnswer
@@ -127,7 +127,7 @@ numbers-of-spec =
     spanned-requires-3
     enum-known-value
     of-report-requires
-    refused-requires
+    within-34-requires
     enum-told-4
     bare-requires
     enum-told-5
