@@ -43,17 +43,17 @@ abbrev pub foundSpan : Found → Span
 foundSpan f = record { from = f .from; size = f .bits }
 
 -- 30 comes behind 31 and before 32 and 33; a span that is of no bits or of more than 128 is no number's, and one that ends behind the record asks for a longer record
-abbrev pub foundRules : Found → List ℕ → List Rule
-foundRules f s =
+abbrev pub foundRules : Found → ℕ → List Rule
+foundRules f length =
     f .number when member (f .number) (35 ∷ 21 ∷ 31 ∷ [])
-    ∷ 30 when ltb (length s) (f .size)
+    ∷ 30 when ltb length (f .size)
     ∷ f .number when member (f .number) (32 ∷ 33 ∷ [])
     ∷ 33 when not (leb 1 (f .bits) && leb (f .bits) 128)
-    ∷ 30 when ltb (8 * length s) (f .from + f .bits)
+    ∷ 30 when ltb (8 * length) (f .from + f .bits)
     ∷ []
 
 unfoldable pub readFound : Found → List ℕ → Read
-readFound f s = readUnless (firstDue (foundRules f s)) (reads (foundSpan f) (eqb (f .number) 1) (spanBits (foundSpan f) s))
+readFound f s = readUnless (firstDue (foundRules f (length s))) (reads (foundSpan f) (eqb (f .number) 1) (spanBits (foundSpan f) s))
 
 -- ── the answer ──
 

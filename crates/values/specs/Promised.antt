@@ -1,15 +1,21 @@
 -- What the functions promise that `value_of` stands on.
 use Prim.Native.Nat.{ℕ, zero, suc, _*_, _-_, _/_, _%_, _^_}
 use mathlib.Core.Bool.{Bool, cond, _&&_}
-use mathlib.Core.List.{List, [], _∷_, _++_}
+use mathlib.Core.List.{List, [], _∷_}
+use mathlib.Core.Option.{none, some}
+use mathlib.Core.Path.{_≡_}
 use lib.Dec.{eqb}
 use lib.IntN.{ℤ, pos, negsuc}
 use lib.ListN.{take, drop}
-use Rattle.values.specs.Given.{Found, noBytes}
+use Rattle.paper.specs.rules.Answer.{report}
+use Rattle.paper.specs.rules.Choice.{firstDue}
+use Rattle.values.specs.Given.{Found, foundRules, noBytes, refusedAs, givenAsPaper}
 use Rattle.values.specs.Value.{recordBits, bitsNumber}
 use Rattle.values.specs.declared.MemberSpan.{MemberSpan}
 use Rattle.values.specs.declared.MemberValue.{MemberValue}
 use Rattle.values.specs.declared.Valued.{Valued}
+use Rattle.values.specs.declared.Verdict.{Verdict}
+use Rattle.values.specs.declared.Verdict.the-variants.{Bits, Refused}
 
 -- ── numbers for bits ──
 
@@ -40,7 +46,7 @@ abbrev pub bytesFrom : ℕ → ℕ → ℕ → List ℕ
 bytesFrom zero i n = []
 bytesFrom (suc k) i n = n / 2 ^ (8 * i) % 256 ∷ bytesFrom k (suc i) n
 
--- ── answers ──
+-- ── what the rules say ──
 
 -- what is handed back with a refusal
 abbrev pub refusal : Valued → MemberValue
@@ -49,3 +55,8 @@ refusal why = record { value = why; from = 0; bits = 0; bytes = noBytes }
 -- a member that was found to be numeric
 abbrev pub numeric : Bool → MemberSpan → Found
 numeric signed m = record { number = cond signed 1 0; size = m .size; from = m .from; bits = m .bits }
+
+-- no rule is due for a record of so many bytes, or one is, and that is the refusal
+unfoldable pub JudgedAs : Found → ℕ → Verdict → Type 0
+JudgedAs f length (Bits signed) = (firstDue (foundRules f length) ≡ none) × (signed ≡ eqb (f .number) 1)
+JudgedAs f length (Refused why) = (number : ℕ) × (firstDue (foundRules f length) ≡ some number) × (givenAsPaper (refusal why) ≡ refusedAs (report number 0))

@@ -1,0 +1,83 @@
+-- `values::judging::judge` meets its contract: by the sort.
+-- Assumes nothing.
+use Rattle.values.proofs.FoundRules.{sort-unsigned, sort-signed, sort-high, sort-type, sort-struct, sort-member, sort-number}
+use borrow.Author.Needs.{needs}
+use Rattle.values.proofs.judging.judge.Statement.{statement}
+use Rattle.values.proofs.judging.judge.Tie as tie
+
+enum-told : tie.Need-enum-told
+enum-told c = search needs
+
+judge-span-requires : tie.Need-judge-span-requires
+judge-span-requires c κs = search needs
+
+enum-told-2 : tie.Need-enum-told-2
+enum-told-2 c = search needs
+
+judge-span-requires-2 : tie.Need-judge-span-requires-2
+judge-span-requires-2 c κs = search needs
+
+enum-told-3 : tie.Need-enum-told-3
+enum-told-3 c = search needs
+
+enum-told-4 : tie.Need-enum-told-4
+enum-told-4 c = search needs
+
+enum-told-5 : tie.Need-enum-told-5
+enum-told-5 c = search needs
+
+enum-told-6 : tie.Need-enum-told-6
+enum-told-6 c = search needs
+
+behind-length-requires : tie.Need-behind-length-requires
+behind-length-requires c κs = search needs
+
+enum-told-7 : tie.Need-enum-told-7
+enum-told-7 c = search needs
+
+behind-length-requires-2 : tie.Need-behind-length-requires-2
+behind-length-requires-2 c κs = search needs
+
+returns : tie.Need-returns
+returns c = let a = c .before .before .before .args in sort-unsigned (a .m) (a .len) (c .judge-span .result) (c .before .enum-told .given .1) (c .judge-span .ensures)
+
+returns-2 : tie.Need-returns-2
+returns-2 c = let a = c .before .before .before .args in sort-signed (a .m) (a .len) (c .judge-span2 .result) (c .before .enum-told2 .given .1) (c .judge-span2 .ensures)
+
+returns-3 : tie.Need-returns-3
+returns-3 c = let a = c .before .before .args in sort-high (a .m) (a .len) (c .enum-told3 .given .1)
+
+returns-4 : tie.Need-returns-4
+returns-4 c = let a = c .before .before .args in sort-type (a .m) (a .len) (c .enum-told4 .given .1)
+
+returns-5 : tie.Need-returns-5
+returns-5 c = let a = c .before .before .args in sort-struct (a .m) (a .len) (c .enum-told5 .given .1)
+
+returns-6 : tie.Need-returns-6
+returns-6 c = let a = c .before .before .before .args in sort-member (a .m) (a .len) (c .behind-length .result) (c .before .enum-told6 .given .1) (c .behind-length .ensures)
+
+returns-7 : tie.Need-returns-7
+returns-7 c = let a = c .before .before .before .args in sort-number (a .m) (a .len) (c .behind-length2 .result) (c .before .enum-told7 .given .1) (c .behind-length2 .ensures)
+
+pub judge-spec : {M : Type 1} → statement M
+judge-spec =
+    tie.close
+    (tie.spec
+    enum-told
+    judge-span-requires
+    enum-told-2
+    judge-span-requires-2
+    enum-told-3
+    enum-told-4
+    enum-told-5
+    enum-told-6
+    behind-length-requires
+    enum-told-7
+    behind-length-requires-2
+    returns
+    returns-2
+    returns-3
+    returns-4
+    returns-5
+    returns-6
+    returns-7)

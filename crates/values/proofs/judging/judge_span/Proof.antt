@@ -1,0 +1,52 @@
+-- `values::judging::judge_span` meets its contract: each rule in its turn.
+-- Assumes nothing.
+use native.Mathlib.Omega.{arith}
+use Rattle.values.proofs.FoundRules.{numeric-short, numeric-no-bits, numeric-many-bits, numeric-behind, numeric-inside}
+use borrow.Author.Needs.{needs}
+use Rattle.values.proofs.judging.judge_span.Statement.{statement}
+use Rattle.values.proofs.judging.judge_span.Tie as tie
+
+cast-if1 : tie.Need-cast-if1
+cast-if1 c = search needs
+
+returns : tie.Need-returns
+returns c = let a = c .before .before .args in numeric-short (a .signed) (a .m) (a .len) (omega arith)
+
+returns-2 : tie.Need-returns-2
+returns-2 c = let a = c .before .before .before .args in numeric-no-bits (a .signed) (a .m) (a .len) (omega arith) (omega arith)
+
+returns-3 : tie.Need-returns-3
+returns-3 c = let a = c .before .before .before .before .args in numeric-many-bits (a .signed) (a .m) (a .len) (omega arith) (omega arith) (omega arith)
+
+cast-end : tie.Need-cast-end
+cast-end c = search needs
+
+add-end : tie.Need-add-end
+add-end c = search needs
+
+add-end-2 : tie.Need-add-end-2
+add-end-2 c = search needs
+
+add-end-3 : tie.Need-add-end-3
+add-end-3 c = search needs
+
+returns-4 : tie.Need-returns-4
+returns-4 c = let a = c .before .before .before .before .before .args in numeric-behind (a .signed) (a .m) (a .len) (omega arith) (omega arith) (omega arith) (omega arith)
+
+returns-5 : tie.Need-returns-5
+returns-5 c = let a = c .before .before .before .before .before .args in numeric-inside (a .signed) (a .m) (a .len) (omega arith) (omega arith) (omega arith) (omega arith)
+
+pub judge-span-spec : {M : Type 1} → statement M
+judge-span-spec =
+    tie.close
+    (tie.spec
+    cast-if1
+    returns
+    returns-2
+    returns-3
+    cast-end
+    add-end
+    add-end-2
+    add-end-3
+    returns-4
+    returns-5)
