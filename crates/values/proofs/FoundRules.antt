@@ -1,156 +1,179 @@
--- Laws of `foundRules`: which rule is due, in their order, a law for each return, and what follows where none is.
+-- Laws of `foundRules`: which rule is due, in their order, a law for each return, and what follows of the number.
 -- Assumes nothing.
-use Prim.Native.Nat.{ℕ, _+_, _*_, _≤_, _<_}
+use Prim.Native.Nat.{ℕ, zero, suc, _+_, _*_, _≤_, _<_}
 use mathlib.Core.Path.{_≡_, refl, sym, ap, ap₂, _∙_, subst}
-use mathlib.Core.Bool.{Bool, true, false, not, cond, _&&_}
-use mathlib.Core.List.{List}
+use mathlib.Core.Bool.{Bool, true, false, not, cond, _&&_, false≢true}
+use mathlib.Core.List.{List, [], _∷_}
 use mathlib.Core.Option.{Option, none, some}
 use native.Mathlib.Omega.{arith}
 use borrow.Author.Tests.{le-leb, lt-leb, le-ltb, lt-ltb, leb-true, ltb-false, not-false}
 use lib.Dec.{leb, ltb, eqb}
-use lib.ListN.{length}
-use Rattle.paper.proofs.basics.Choices.{and-left, and-right, firstDue-none}
-use Rattle.paper.specs.rules.Choice.{firstDue}
-use Rattle.values.specs.Given.{Found, foundSpan, foundRules, givenBits, given, valuedAnswer, valuedNumber, givenAsPaper, sortNumber, foundAsPaper, readFound}
-use Rattle.values.specs.Promised.{refusal, numeric, JudgedAs}
-use Rattle.values.specs.Value.{spanBits, Read, reads, readUnless}
+use Rattle.paper.proofs.basics.Choices.{Each, and-left, and-right, firstDue-none, member-each}
+use Rattle.paper.specs.rules.Choice.{Rule, _when_, firstDue, member}
+use Rattle.values.specs.Given.{Found, foundRules, sortNumber, foundAsPaper}
+use Rattle.values.specs.Promised.{numeric, dueOr, judged, refusals}
 use Rattle.values.specs.declared.MemberSpan.{MemberSpan}
 use Rattle.values.specs.declared.Sort.{Sort}
-use Rattle.values.specs.declared.Valued.{Valued}
-use Rattle.values.specs.declared.Verdict.{Verdict}
-use Rattle.values.specs.declared.Verdict.the-variants.{Bits, Refused}
 
 -- ── a numeric member ──
 
-due : Bool → Bool → Bool → Bool → Option ℕ
-due short least most behind = cond short (some 30) (cond (not (least && most)) (some 33) (cond behind (some 30) none))
+due : ℕ → Bool → Bool → Bool → Bool → ℕ
+due number short least most behind = dueOr number (cond short (some 30) (cond (not (least && most)) (some 33) (cond behind (some 30) none)))
 
-numeric-due : (signed : Bool) (m : MemberSpan) (n : ℕ)
-    → firstDue (foundRules (numeric signed m) n) ≡ due (ltb n (m .size)) (leb 1 (m .bits)) (leb (m .bits) 128) (ltb (8 * n) (m .from + m .bits))
-unfolding due
-numeric-due false m n = refl
-numeric-due true m n = refl
+numeric-due : (number : ℕ) → number < 2 → (m : MemberSpan) (n : ℕ)
+    → judged (numeric number m) n ≡ due number (ltb n (m .size)) (leb 1 (m .bits)) (leb (m .bits) 128) (ltb (8 * n) (m .from + m .bits))
+unfolding due judged
+numeric-due zero h m n = refl
+numeric-due (suc zero) h m n = refl
+numeric-due (suc (suc number)) h m n = absurd (omega arith)
 
-numeric-sign : (signed : Bool) → signed ≡ eqb (cond signed 1 0) 1
-numeric-sign false = refl
-numeric-sign true = refl
-
-module _ (signed : Bool) (m : MemberSpan) (n : ℕ) where
+module _ (number : ℕ) (plain : number < 2) (m : MemberSpan) (n : ℕ) where
   -- 30: the record is shorter than the type
-  pub numeric-short : n < m .size → JudgedAs (numeric signed m) n (Refused Valued.RecordShort)
-  unfolding due JudgedAs valuedAnswer valuedNumber
-  numeric-short h = (
-    30,
-    numeric-due signed m n
-        ∙ ap (λ (b : Bool). due b (leb 1 (m .bits)) (leb (m .bits) 128) (ltb (8 * n) (m .from + m .bits))) (lt-ltb n (m .size) h),
-    refl,
-  )
+  pub numeric-short : n < m .size → 30 ≡ judged (numeric number m) n
+  unfolding due
+  numeric-short h =
+      sym (numeric-due number plain m n
+      ∙ ap (λ (b : Bool). due number b (leb 1 (m .bits)) (leb (m .bits) 128) (ltb (8 * n) (m .from + m .bits))) (lt-ltb n (m .size) h))
 
   module _ (long : m .size ≤ n) where
-    long-due : firstDue (foundRules (numeric signed m) n) ≡ due false (leb 1 (m .bits)) (leb (m .bits) 128) (ltb (8 * n) (m .from + m .bits))
+    long-due : judged (numeric number m) n ≡ due number false (leb 1 (m .bits)) (leb (m .bits) 128) (ltb (8 * n) (m .from + m .bits))
     long-due =
-        numeric-due signed m n
-        ∙ ap (λ (b : Bool). due b (leb 1 (m .bits)) (leb (m .bits) 128) (ltb (8 * n) (m .from + m .bits))) (le-ltb n (m .size) long)
+        numeric-due number plain m n
+        ∙ ap (λ (b : Bool). due number b (leb 1 (m .bits)) (leb (m .bits) 128) (ltb (8 * n) (m .from + m .bits))) (le-ltb n (m .size) long)
 
     -- 33: a span of no bits, or of too many
-    pub numeric-no-bits : m .bits ≡ 0 → JudgedAs (numeric signed m) n (Refused Valued.NoNumber)
-    unfolding due JudgedAs valuedAnswer valuedNumber
-    numeric-no-bits h = (
-      33,
-      long-due ∙ ap (λ (b : Bool). due false b (leb (m .bits) 128) (ltb (8 * n) (m .from + m .bits))) (lt-leb 1 (m .bits) (omega arith)),
-      refl,
-    )
+    pub numeric-no-bits : m .bits ≡ 0 → 33 ≡ judged (numeric number m) n
+    unfolding due
+    numeric-no-bits h =
+        sym (long-due ∙ ap (λ (b : Bool). due number false b (leb (m .bits) 128) (ltb (8 * n) (m .from + m .bits))) (lt-leb 1 (m .bits) (omega arith)))
 
     module _ (least : 1 ≤ m .bits) where
-      pub numeric-many-bits : 128 < m .bits → JudgedAs (numeric signed m) n (Refused Valued.NoNumber)
-      unfolding due JudgedAs valuedAnswer valuedNumber
-      numeric-many-bits h = (
-        33,
-        long-due ∙ ap₂ (λ (a b : Bool). due false a b (ltb (8 * n) (m .from + m .bits))) (le-leb 1 (m .bits) least) (lt-leb (m .bits) 128 h),
-        refl,
-      )
+      pub numeric-many-bits : 128 < m .bits → 33 ≡ judged (numeric number m) n
+      unfolding due
+      numeric-many-bits h =
+          sym (long-due ∙ ap₂ (λ (a b : Bool). due number false a b (ltb (8 * n) (m .from + m .bits))) (le-leb 1 (m .bits) least) (lt-leb (m .bits) 128 h))
 
       module _ (most : m .bits ≤ 128) where
-        span-due : firstDue (foundRules (numeric signed m) n) ≡ due false true true (ltb (8 * n) (m .from + m .bits))
-        span-due = long-due ∙ ap₂ (λ (a b : Bool). due false a b (ltb (8 * n) (m .from + m .bits))) (le-leb 1 (m .bits) least) (le-leb (m .bits) 128 most)
+        span-due : judged (numeric number m) n ≡ due number false true true (ltb (8 * n) (m .from + m .bits))
+        span-due =
+            long-due ∙ ap₂ (λ (a b : Bool). due number false a b (ltb (8 * n) (m .from + m .bits))) (le-leb 1 (m .bits) least) (le-leb (m .bits) 128 most)
 
         -- 30: it ends behind the record
-        pub numeric-behind : 8 * n < m .from + m .bits → JudgedAs (numeric signed m) n (Refused Valued.RecordShort)
-        unfolding due JudgedAs valuedAnswer valuedNumber
-        numeric-behind h = (30, span-due ∙ ap (due false true true) (lt-ltb (8 * n) (m .from + m .bits) h), refl)
+        pub numeric-behind : 8 * n < m .from + m .bits → 30 ≡ judged (numeric number m) n
+        unfolding due
+        numeric-behind h = sym (span-due ∙ ap (due number false true true) (lt-ltb (8 * n) (m .from + m .bits) h))
 
         -- none of these
-        pub numeric-inside : m .from + m .bits ≤ 8 * n → JudgedAs (numeric signed m) n (Bits signed)
-        unfolding due JudgedAs
-        numeric-inside h = (span-due ∙ ap (due false true true) (le-ltb (8 * n) (m .from + m .bits) h), numeric-sign signed)
+        pub numeric-inside : m .from + m .bits ≤ 8 * n → number ≡ judged (numeric number m) n
+        unfolding due
+        numeric-inside h = sym (span-due ∙ ap (due number false true true) (le-ltb (8 * n) (m .from + m .bits) h))
 
 -- ── any member, by its sort ──
 
-abbrev withSort : MemberSpan → Sort → Found
-withSort m k = record { number = sortNumber k; size = m .size; from = m .from; bits = m .bits }
+behind : (own number : ℕ) (short : Bool) → cond short 30 number ≡ dueOr own (cond short (some 30) (some number))
+behind own number false = refl
+behind own number true = refl
 
--- 32 and 33 behind 30
-behind-32 : (m : MemberSpan) (n : ℕ) (short : Bool) → ltb n (m .size) ≡ short
-    → JudgedAs (withSort m Sort.NoMember) n (Refused (cond short Valued.RecordShort Valued.NoMember))
-unfolding sortNumber JudgedAs valuedAnswer valuedNumber
-behind-32 m n true e = (30, ap (λ (b : Bool). cond b (some 30) (some 32)) e, refl)
-behind-32 m n false e = (32, ap (λ (b : Bool). cond b (some 30) (some 32)) e, refl)
-
-behind-33 : (m : MemberSpan) (n : ℕ) (short : Bool) → ltb n (m .size) ≡ short
-    → JudgedAs (withSort m Sort.NoNumber) n (Refused (cond short Valued.RecordShort Valued.NoNumber))
-unfolding sortNumber JudgedAs valuedAnswer valuedNumber
-behind-33 m n true e = (30, ap (λ (b : Bool). cond b (some 30) (some 33)) e, refl)
-behind-33 m n false e = (33, ap (λ (b : Bool). cond b (some 30) (some 33)) e, refl)
-
-module _ (m : MemberSpan) (n : ℕ) (v : Verdict) where
-  sorted : (k : Sort) → m .sort ≡ k → JudgedAs (withSort m k) n v → JudgedAs (foundAsPaper m) n v
-  sorted k e j = subst (λ (x : Sort). JudgedAs (withSort m x) n v) (sym e) j
-
-  pub sort-unsigned : m .sort ≡ Sort.Unsigned → JudgedAs (numeric false m) n v → JudgedAs (foundAsPaper m) n v
-  unfolding sortNumber
-  sort-unsigned = sorted Sort.Unsigned
-
-  pub sort-signed : m .sort ≡ Sort.Signed → JudgedAs (numeric true m) n v → JudgedAs (foundAsPaper m) n v
-  unfolding sortNumber
-  sort-signed = sorted Sort.Signed
-
-  pub sort-member : m .sort ≡ Sort.NoMember → v ≡ Refused (cond (ltb n (m .size)) Valued.RecordShort Valued.NoMember) → JudgedAs (foundAsPaper m) n v
-  sort-member e r = sorted Sort.NoMember e (subst (JudgedAs (withSort m Sort.NoMember) n) (sym r) (behind-32 m n (ltb n (m .size)) refl))
-
-  pub sort-number : m .sort ≡ Sort.NoNumber → v ≡ Refused (cond (ltb n (m .size)) Valued.RecordShort Valued.NoNumber) → JudgedAs (foundAsPaper m) n v
-  sort-number e r = sorted Sort.NoNumber e (subst (JudgedAs (withSort m Sort.NoNumber) n) (sym r) (behind-33 m n (ltb n (m .size)) refl))
-
--- 35, 21 and 31 at once
 module _ (m : MemberSpan) (n : ℕ) where
-  pub sort-high : m .sort ≡ Sort.HighFirst → JudgedAs (foundAsPaper m) n (Refused Valued.HighFirst)
-  unfolding sortNumber JudgedAs valuedAnswer valuedNumber
-  sort-high e = sorted m n (Refused Valued.HighFirst) Sort.HighFirst e (35, refl, refl)
+  sorted : {k : Sort} → m .sort ≡ k
+      → judged (record { number = sortNumber k; size = m .size; from = m .from; bits = m .bits }) n ≡ judged (foundAsPaper m) n
+  sorted e = ap (λ (k : Sort). judged (record { number = sortNumber k; size = m .size; from = m .from; bits = m .bits }) n) (sym e)
 
-  pub sort-type : m .sort ≡ Sort.NoType → JudgedAs (foundAsPaper m) n (Refused Valued.NoType)
-  unfolding sortNumber JudgedAs valuedAnswer valuedNumber
-  sort-type e = sorted m n (Refused Valued.NoType) Sort.NoType e (21, refl, refl)
+  pub sort-unsigned : m .sort ≡ Sort.Unsigned → judged (numeric 0 m) n ≡ judged (foundAsPaper m) n
+  unfolding sortNumber
+  sort-unsigned e = sorted e
 
-  pub sort-struct : m .sort ≡ Sort.NoStruct → JudgedAs (foundAsPaper m) n (Refused Valued.NoStruct)
-  unfolding sortNumber JudgedAs valuedAnswer valuedNumber
-  sort-struct e = sorted m n (Refused Valued.NoStruct) Sort.NoStruct e (31, refl, refl)
+  pub sort-signed : m .sort ≡ Sort.Signed → judged (numeric 1 m) n ≡ judged (foundAsPaper m) n
+  unfolding sortNumber
+  sort-signed e = sorted e
 
--- ── what is read ──
+  -- 35, 21 and 31 at once
+  pub sort-high : m .sort ≡ Sort.HighFirst → 35 ≡ judged (foundAsPaper m) n
+  unfolding sortNumber judged
+  sort-high e = sorted e
 
-module _ (f : Found) (s : List ℕ) where
-  pub judged-refused : (why : Valued) → JudgedAs f (length s) (Refused why) → givenAsPaper (refusal why) ≡ given (readFound f s)
-  unfolding JudgedAs readFound given
-  judged-refused why j = j .2 ∙ ap (λ (o : Option ℕ). given (readUnless o (reads (foundSpan f) (eqb (f .number) 1) (spanBits (foundSpan f) s)))) (sym (j .1))
+  pub sort-type : m .sort ≡ Sort.NoType → 21 ≡ judged (foundAsPaper m) n
+  unfolding sortNumber judged
+  sort-type e = sorted e
 
-  pub judged-bits : (signed : Bool) → JudgedAs f (length s) (Bits signed) → givenBits (foundSpan f) signed (spanBits (foundSpan f) s) ≡ given (readFound f s)
-  unfolding JudgedAs readFound given
-  judged-bits signed j =
-      ap (λ (b : Bool). givenBits (foundSpan f) b (spanBits (foundSpan f) s)) (j .1)
-      ∙ ap (λ (o : Option ℕ). given (readUnless o (reads (foundSpan f) (eqb (f .number) 1) (spanBits (foundSpan f) s)))) (sym (j .0))
+  pub sort-struct : m .sort ≡ Sort.NoStruct → 31 ≡ judged (foundAsPaper m) n
+  unfolding sortNumber judged
+  sort-struct e = sorted e
+
+  -- 32 and 33 behind 30
+  pub sort-member : m .sort ≡ Sort.NoMember → cond (ltb n (m .size)) 30 32 ≡ judged (foundAsPaper m) n
+  unfolding sortNumber judged
+  sort-member e = behind 32 32 (ltb n (m .size)) ∙ sorted e
+
+  pub sort-number : m .sort ≡ Sort.NoNumber → cond (ltb n (m .size)) 30 33 ≡ judged (foundAsPaper m) n
+  unfolding sortNumber judged
+  sort-number e = behind 33 33 (ltb n (m .size)) ∙ sorted e
+
+-- ── what follows of the number ──
+
+-- what holds of the number of every rule that is due
+abbrev AllDue : (ℕ → Type 0) → List Rule → Type 0
+AllDue P [] = Unit {0}
+AllDue P (n when due ∷ rules) = (due ≡ true → P n) × AllDue P rules
+
+due-each : (P : ℕ → Type 0) (rules : List Rule) (k : ℕ) → AllDue P rules → firstDue rules ≡ some k → P k
+due-each P [] k h e = absurd (let z : _≡_ {A = ℕ} 0 1 = cc in omega arith)
+due-each P (n when true ∷ rules) k h e = let same : n ≡ k = cc in subst P same (h .0 refl)
+due-each P (n when false ∷ rules) k h e = due-each P rules k (h .1) e
+
+abbrev Known : ℕ → Type 0
+Known k = member k refusals ≡ true
+
+known : (f : Found) (n k : ℕ) → firstDue (foundRules f n) ≡ some k → Known k
+known f n k =
+    let early : member (f .number) (35 ∷ 21 ∷ 31 ∷ []) ≡ true → Known (f .number) =
+    λ e. member-each Known (f .number) (35 ∷ 21 ∷ 31 ∷ []) e (refl, (refl, (refl, tt))) in
+    let late : member (f .number) (32 ∷ 33 ∷ []) ≡ true → Known (f .number) = λ e. member-each Known (f .number) (32 ∷ 33 ∷ []) e (refl, (refl, tt)) in
+    due-each Known (foundRules f n) k (early, ((λ e. refl), (late, ((λ e. refl), ((λ e. refl), tt)))))
+
+known-high : (k : ℕ) → Known k → 1 < k
+known-high k e =
+    member-each (λ (x : ℕ). 1 < x) k refusals e (omega arith, (omega arith, (omega arith, (omega arith, (omega arith, (omega arith, tt))))))
+
+-- where none is due the member is numeric
+plain : (k : Sort) → member (sortNumber k) (35 ∷ 21 ∷ 31 ∷ []) ≡ false → member (sortNumber k) (32 ∷ 33 ∷ []) ≡ false → sortNumber k < 2
+unfolding sortNumber
+plain Sort.Unsigned e e′ = omega arith
+plain Sort.Signed e e′ = omega arith
+plain Sort.HighFirst e e′ = absurd (false≢true (sym e))
+plain Sort.NoType e e′ = absurd (false≢true (sym e))
+plain Sort.NoStruct e e′ = absurd (false≢true (sym e))
+plain Sort.NoMember e e′ = absurd (false≢true (sym e′))
+plain Sort.NoNumber e e′ = absurd (false≢true (sym e′))
+
+module _ (m : MemberSpan) (n : ℕ) {r : ℕ} (is : r ≡ judged (foundAsPaper m) n) where
+  number-by : (o : Option ℕ) → firstDue (foundRules (foundAsPaper m) n) ≡ o → r ≡ dueOr (sortNumber (m .sort)) o
+  unfolding judged
+  number-by o e = is ∙ ap (dueOr (sortNumber (m .sort))) e
+
+  pub number-plain : r < 2 → (firstDue (foundRules (foundAsPaper m) n) ≡ none) × (r ≡ sortNumber (m .sort))
+  number-plain h = go (firstDue (foundRules (foundAsPaper m) n)) refl
+    where
+      go : (o : Option ℕ) → firstDue (foundRules (foundAsPaper m) n) ≡ o → (firstDue (foundRules (foundAsPaper m) n) ≡ none) × (r ≡ sortNumber (m .sort))
+      go none e = (e, number-by none e)
+      go (some k) e = absurd (let same = number-by (some k) e in let high = known-high k (known (foundAsPaper m) n k e) in omega arith)
+
+  pub number-refused : 1 < r → (firstDue (foundRules (foundAsPaper m) n) ≡ some r) × Known r
+  number-refused h = go (firstDue (foundRules (foundAsPaper m) n)) refl
+    where
+      go : (o : Option ℕ) → firstDue (foundRules (foundAsPaper m) n) ≡ o → (firstDue (foundRules (foundAsPaper m) n) ≡ some r) × Known r
+      go none e =
+          absurd (
+          let off = firstDue-none (foundRules (foundAsPaper m) n) e in
+          let same = number-by none e in
+          let low = plain (m .sort) (off .0) (off .1 .1 .0) in
+          omega arith
+          )
+      go (some k) e = let same = sym (number-by (some k) e) in (e ∙ ap some same, subst Known same (known (foundAsPaper m) n k e))
 
 -- where none is due the span is one of 1 to 128 bits inside the record
-pub judged-inside : (f : Found) (n : ℕ) (signed : Bool) → JudgedAs f n (Bits signed) → (1 ≤ f .bits) × (f .bits ≤ 128) × (f .from + f .bits ≤ 8 * n)
-unfolding JudgedAs
-judged-inside f n signed j =
-    let none-due = firstDue-none (foundRules f n) (j .0) in
-    let few = not-false _ (none-due .1 .1 .1 .0) in
-    (leb-true _ _ (and-left (leb 1 (f .bits)) _ few), leb-true _ _ (and-right (leb 1 (f .bits)) _ few), ltb-false _ _ (none-due .1 .1 .1 .1 .0))
+pub due-none : (f : Found) (n : ℕ) → firstDue (foundRules f n) ≡ none → (1 ≤ f .bits) × (f .bits ≤ 128) × (f .from + f .bits ≤ 8 * n)
+due-none f n e =
+    let off = firstDue-none (foundRules f n) e in
+    let few = not-false _ (off .1 .1 .1 .0) in
+    (leb-true _ _ (and-left (leb 1 (f .bits)) _ few), leb-true _ _ (and-right (leb 1 (f .bits)) _ few), ltb-false _ _ (off .1 .1 .1 .1 .0))

@@ -2,20 +2,17 @@
 use Prim.Native.Nat.{ℕ, zero, suc, _*_, _-_, _/_, _%_, _^_}
 use mathlib.Core.Bool.{Bool, cond, _&&_}
 use mathlib.Core.List.{List, [], _∷_}
-use mathlib.Core.Option.{none, some}
+use mathlib.Core.Option.{Option, none, some}
 use mathlib.Core.Path.{_≡_}
 use lib.Dec.{eqb}
 use lib.IntN.{ℤ, pos, negsuc}
 use lib.ListN.{take, drop}
-use Rattle.paper.specs.rules.Answer.{report}
 use Rattle.paper.specs.rules.Choice.{firstDue}
-use Rattle.values.specs.Given.{Found, foundRules, noBytes, refusedAs, givenAsPaper}
+use Rattle.values.specs.Given.{Found, Given, foundRules, noBytes, valuedAnswer, valuedNumber}
 use Rattle.values.specs.Value.{recordBits, bitsNumber}
 use Rattle.values.specs.declared.MemberSpan.{MemberSpan}
 use Rattle.values.specs.declared.MemberValue.{MemberValue}
 use Rattle.values.specs.declared.Valued.{Valued}
-use Rattle.values.specs.declared.Verdict.{Verdict}
-use Rattle.values.specs.declared.Verdict.the-variants.{Bits, Refused}
 
 -- ── numbers for bits ──
 
@@ -52,11 +49,25 @@ bytesFrom (suc k) i n = n / 2 ^ (8 * i) % 256 ∷ bytesFrom k (suc i) n
 abbrev pub refusal : Valued → MemberValue
 refusal why = record { value = why; from = 0; bits = 0; bytes = noBytes }
 
--- a member that was found to be numeric
-abbrev pub numeric : Bool → MemberSpan → Found
-numeric signed m = record { number = cond signed 1 0; size = m .size; from = m .from; bits = m .bits }
+-- a member that was found to be numeric: 0 unsigned, 1 signed
+abbrev pub numeric : ℕ → MemberSpan → Found
+numeric number m = record { number = number; size = m .size; from = m .from; bits = m .bits }
 
--- no rule is due for a record of so many bytes, or one is, and that is the refusal
-unfoldable pub JudgedAs : Found → ℕ → Verdict → Type 0
-JudgedAs f length (Bits signed) = (firstDue (foundRules f length) ≡ none) × (signed ≡ eqb (f .number) 1)
-JudgedAs f length (Refused why) = (number : ℕ) × (firstDue (foundRules f length) ≡ some number) × (givenAsPaper (refusal why) ≡ refusedAs (report number 0))
+abbrev pub dueOr : ℕ → Option ℕ → ℕ
+dueOr own none = own
+dueOr own (some number) = number
+
+-- the number of the rule that is due for a record of so many bytes, or the member's own
+unfoldable pub judged : Found → ℕ → ℕ
+judged f length = dueOr (f .number) (firstDue (foundRules f length))
+
+-- the numbers of the rules
+abbrev pub refusals : List ℕ
+refusals = 21 ∷ 30 ∷ 31 ∷ 32 ∷ 33 ∷ 35 ∷ []
+
+-- ── what is given ──
+
+-- an answer and its value
+pub record ValueOf (g : Given) (v : Valued) : Type 0 where
+  pub answers : valuedAnswer v ≡ g .answer
+  pub numbers : valuedNumber v ≡ g .value

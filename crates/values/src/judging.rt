@@ -1,58 +1,73 @@
-// Which of the rules is due for a member and a record of so many bytes.
+// Which of the rules is due for a member and a record of so many bytes, by the paper's numbers.
 use crate::MemberSpan;
 use crate::Sort;
 use crate::Valued;
-use crate::Verdict;
 ghost use mathlib.Core.Path.{_≡_};
-ghost use mathlib.Core.Bool.{cond};
+ghost use mathlib.Core.Bool.{cond, true};
+ghost use Prim.Native.Nat.{_<_};
 ghost use lib.Dec.{ltb};
-ghost use Rattle.values.specs.Given.{foundAsPaper};
-ghost use Rattle.values.specs.Promised.{JudgedAs, numeric};
+ghost use Rattle.paper.specs.rules.Answer.{report};
+ghost use Rattle.paper.specs.rules.Choice.{member};
+ghost use Rattle.values.specs.Given.{foundAsPaper, givenAsPaper, refusedAs};
+ghost use Rattle.values.specs.Promised.{judged, numeric, refusal, refusals};
 
 // A refusal that comes behind 30.
-fn behind_length(size: u32, len: u64, why: Valued) -> Verdict
-    ensures { λ r. ⌜ r ≡ Verdict.Refused (cond (ltb len size) Valued.RecordShort why) ⌝ }
+fn behind_length(size: u32, len: u64, number: u32) -> u32
+    ensures { λ r. ⌜ r ≡ cond (ltb len size) 30 number ⌝ }
 {
-    if len < size as u64 {
-        return Verdict::Refused(Valued::RecordShort);
-    }
-    Verdict::Refused(why)
+    if len < size as u64 { 30 } else { number }
 }
 
 // A numeric member. The end is compared in bytes, since eight times a length may pass 2^64.
-fn judge_span(m: MemberSpan, len: u64, signed: bool) -> Verdict
-    ensures { λ r. ⌜ JudgedAs (numeric signed m) len r ⌝ }
+fn judge_span(m: MemberSpan, len: u64, number: u32) -> u32
+    requires { ⌜ number < 2 ⌝ }
+    ensures { λ r. ⌜ r ≡ judged (numeric number m) len ⌝ }
 {
     let from = m.from;
     let bits = m.bits;
     if len < m.size as u64 {
-        return Verdict::Refused(Valued::RecordShort);
+        return 30;
     }
     if bits == 0 {
-        return Verdict::Refused(Valued::NoNumber);
+        return 33;
     }
     if 128 < bits {
-        return Verdict::Refused(Valued::NoNumber);
+        return 33;
     }
     let end = from / 8 + (from % 8 + (bits as u64) + 7) / 8;
     if len < end {
-        return Verdict::Refused(Valued::RecordShort);
+        return 30;
     }
-    Verdict::Bits(signed)
+    number
 }
 
 // Any member, by its sort.
-pub(crate) fn judge(m: MemberSpan, len: u64) -> Verdict
-    ensures { λ r. ⌜ JudgedAs (foundAsPaper m) len r ⌝ }
+pub(crate) fn judge(m: MemberSpan, len: u64) -> u32
+    ensures { λ r. ⌜ r ≡ judged (foundAsPaper m) len ⌝ }
 {
     let sort = m.sort;
     match sort {
-        Sort::Unsigned => judge_span(m, len, false),
-        Sort::Signed => judge_span(m, len, true),
-        Sort::HighFirst => Verdict::Refused(Valued::HighFirst),
-        Sort::NoType => Verdict::Refused(Valued::NoType),
-        Sort::NoStruct => Verdict::Refused(Valued::NoStruct),
-        Sort::NoMember => behind_length(m.size, len, Valued::NoMember),
-        Sort::NoNumber => behind_length(m.size, len, Valued::NoNumber),
+        Sort::Unsigned => judge_span(m, len, 0),
+        Sort::Signed => judge_span(m, len, 1),
+        Sort::HighFirst => 35,
+        Sort::NoType => 21,
+        Sort::NoStruct => 31,
+        Sort::NoMember => behind_length(m.size, len, 32),
+        Sort::NoNumber => behind_length(m.size, len, 33),
+    }
+}
+
+// The refusal of a number.
+pub(crate) fn refused(number: u32) -> Valued
+    requires { ⌜ member number refusals ≡ true ⌝ }
+    ensures { λ r. ⌜ givenAsPaper (refusal r) ≡ refusedAs (report number 0) ⌝ }
+{
+    match number {
+        21 => Valued::NoType,
+        30 => Valued::RecordShort,
+        31 => Valued::NoStruct,
+        32 => Valued::NoMember,
+        35 => Valued::HighFirst,
+        _ => Valued::NoNumber,
     }
 }

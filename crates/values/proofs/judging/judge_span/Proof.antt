@@ -10,13 +10,15 @@ cast-if1 : tie.Need-cast-if1
 cast-if1 c = search needs
 
 returns : tie.Need-returns
-returns c = let a = c .before .before .args in numeric-short (a .signed) (a .m) (a .len) (omega arith)
+returns c = let b = c .before .before in numeric-short (b .args .number) (b .pre) (b .args .m) (b .args .len) (omega arith)
 
 returns-2 : tie.Need-returns-2
-returns-2 c = let a = c .before .before .before .args in numeric-no-bits (a .signed) (a .m) (a .len) (omega arith) (omega arith)
+returns-2 c = let b = c .before .before .before in numeric-no-bits (b .args .number) (b .pre) (b .args .m) (b .args .len) (omega arith) (omega arith)
 
 returns-3 : tie.Need-returns-3
-returns-3 c = let a = c .before .before .before .before .args in numeric-many-bits (a .signed) (a .m) (a .len) (omega arith) (omega arith) (omega arith)
+returns-3 c =
+    let b = c .before .before .before .before in
+    numeric-many-bits (b .args .number) (b .pre) (b .args .m) (b .args .len) (omega arith) (omega arith) (omega arith)
 
 cast-end : tie.Need-cast-end
 cast-end c = search needs
@@ -31,10 +33,14 @@ add-end-3 : tie.Need-add-end-3
 add-end-3 c = search needs
 
 returns-4 : tie.Need-returns-4
-returns-4 c = let a = c .before .before .before .before .before .args in numeric-behind (a .signed) (a .m) (a .len) (omega arith) (omega arith) (omega arith) (omega arith)
+returns-4 c =
+    let b = c .before .before .before .before .before in
+    numeric-behind (b .args .number) (b .pre) (b .args .m) (b .args .len) (omega arith) (omega arith) (omega arith) (omega arith)
 
 returns-5 : tie.Need-returns-5
-returns-5 c = let a = c .before .before .before .before .before .args in numeric-inside (a .signed) (a .m) (a .len) (omega arith) (omega arith) (omega arith) (omega arith)
+returns-5 c =
+    let b = c .before .before .before .before .before in
+    numeric-inside (b .args .number) (b .pre) (b .args .m) (b .args .len) (omega arith) (omega arith) (omega arith) (omega arith)
 
 pub judge-span-spec : {M : Type 1} → statement M
 judge-span-spec =
