@@ -11,7 +11,7 @@ use lib.Dec.{leb, ltb, eqb}
 use Rattle.paper.proofs.basics.Choices.{Each, and-left, and-right, firstDue-none, member-each}
 use Rattle.paper.specs.rules.Choice.{Rule, _when_, firstDue, member}
 use Rattle.values.specs.Given.{Found, foundRules, sortNumber, foundAsPaper}
-use Rattle.values.specs.Promised.{numeric, dueOr, judged, refusals}
+use Rattle.values.specs.Promised.{dueOr, judged, refusals}
 use Rattle.values.specs.declared.MemberSpan.{MemberSpan}
 use Rattle.values.specs.declared.Sort.{Sort}
 
@@ -20,53 +20,51 @@ use Rattle.values.specs.declared.Sort.{Sort}
 due : ℕ → Bool → Bool → Bool → Bool → ℕ
 due number short least most behind = dueOr number (cond short (some 30) (cond (not (least && most)) (some 33) (cond behind (some 30) none)))
 
-numeric-due : (number : ℕ) → number < 2 → (m : MemberSpan) (n : ℕ)
-    → judged (numeric number m) n ≡ due number (ltb n (m .size)) (leb 1 (m .bits)) (leb (m .bits) 128) (ltb (8 * n) (m .from + m .bits))
-unfolding due judged
-numeric-due zero h m n = refl
-numeric-due (suc zero) h m n = refl
-numeric-due (suc (suc number)) h m n = absurd (omega arith)
+abbrev found : ℕ → ℕ → ℕ → ℕ → Found
+found number size from bits = record { number = number; size = size; from = from; bits = bits }
 
-module _ (number : ℕ) (plain : number < 2) (m : MemberSpan) (n : ℕ) where
+numeric-due : (number : ℕ) → number < 2 → (size from bits n : ℕ)
+    → judged (found number size from bits) n ≡ due number (ltb n size) (leb 1 bits) (leb bits 128) (ltb (8 * n) (from + bits))
+unfolding due judged
+numeric-due zero h size from bits n = refl
+numeric-due (suc zero) h size from bits n = refl
+numeric-due (suc (suc number)) h size from bits n = absurd (omega arith)
+
+module _ (number : ℕ) (plain : number < 2) (size from bits n : ℕ) where
   -- 30: the record is shorter than the type
-  pub numeric-short : n < m .size → 30 ≡ judged (numeric number m) n
+  pub numeric-short : n < size → 30 ≡ judged (found number size from bits) n
   unfolding due
   numeric-short h =
-      sym (numeric-due number plain m n
-      ∙ ap (λ (b : Bool). due number b (leb 1 (m .bits)) (leb (m .bits) 128) (ltb (8 * n) (m .from + m .bits))) (lt-ltb n (m .size) h))
+      sym (numeric-due number plain size from bits n ∙ ap (λ (b : Bool). due number b (leb 1 bits) (leb bits 128) (ltb (8 * n) (from + bits))) (lt-ltb n size h))
 
-  module _ (long : m .size ≤ n) where
-    long-due : judged (numeric number m) n ≡ due number false (leb 1 (m .bits)) (leb (m .bits) 128) (ltb (8 * n) (m .from + m .bits))
+  module _ (long : size ≤ n) where
+    long-due : judged (found number size from bits) n ≡ due number false (leb 1 bits) (leb bits 128) (ltb (8 * n) (from + bits))
     long-due =
-        numeric-due number plain m n
-        ∙ ap (λ (b : Bool). due number b (leb 1 (m .bits)) (leb (m .bits) 128) (ltb (8 * n) (m .from + m .bits))) (le-ltb n (m .size) long)
+        numeric-due number plain size from bits n ∙ ap (λ (b : Bool). due number b (leb 1 bits) (leb bits 128) (ltb (8 * n) (from + bits))) (le-ltb n size long)
 
     -- 33: a span of no bits, or of too many
-    pub numeric-no-bits : m .bits ≡ 0 → 33 ≡ judged (numeric number m) n
+    pub numeric-no-bits : bits ≡ 0 → 33 ≡ judged (found number size from bits) n
     unfolding due
-    numeric-no-bits h =
-        sym (long-due ∙ ap (λ (b : Bool). due number false b (leb (m .bits) 128) (ltb (8 * n) (m .from + m .bits))) (lt-leb 1 (m .bits) (omega arith)))
+    numeric-no-bits h = sym (long-due ∙ ap (λ (b : Bool). due number false b (leb bits 128) (ltb (8 * n) (from + bits))) (lt-leb 1 bits (omega arith)))
 
-    module _ (least : 1 ≤ m .bits) where
-      pub numeric-many-bits : 128 < m .bits → 33 ≡ judged (numeric number m) n
+    module _ (least : 1 ≤ bits) where
+      pub numeric-many-bits : 128 < bits → 33 ≡ judged (found number size from bits) n
       unfolding due
-      numeric-many-bits h =
-          sym (long-due ∙ ap₂ (λ (a b : Bool). due number false a b (ltb (8 * n) (m .from + m .bits))) (le-leb 1 (m .bits) least) (lt-leb (m .bits) 128 h))
+      numeric-many-bits h = sym (long-due ∙ ap₂ (λ (a b : Bool). due number false a b (ltb (8 * n) (from + bits))) (le-leb 1 bits least) (lt-leb bits 128 h))
 
-      module _ (most : m .bits ≤ 128) where
-        span-due : judged (numeric number m) n ≡ due number false true true (ltb (8 * n) (m .from + m .bits))
-        span-due =
-            long-due ∙ ap₂ (λ (a b : Bool). due number false a b (ltb (8 * n) (m .from + m .bits))) (le-leb 1 (m .bits) least) (le-leb (m .bits) 128 most)
+      module _ (most : bits ≤ 128) where
+        span-due : judged (found number size from bits) n ≡ due number false true true (ltb (8 * n) (from + bits))
+        span-due = long-due ∙ ap₂ (λ (a b : Bool). due number false a b (ltb (8 * n) (from + bits))) (le-leb 1 bits least) (le-leb bits 128 most)
 
         -- 30: it ends behind the record
-        pub numeric-behind : 8 * n < m .from + m .bits → 30 ≡ judged (numeric number m) n
+        pub numeric-behind : 8 * n < from + bits → 30 ≡ judged (found number size from bits) n
         unfolding due
-        numeric-behind h = sym (span-due ∙ ap (due number false true true) (lt-ltb (8 * n) (m .from + m .bits) h))
+        numeric-behind h = sym (span-due ∙ ap (due number false true true) (lt-ltb (8 * n) (from + bits) h))
 
         -- none of these
-        pub numeric-inside : m .from + m .bits ≤ 8 * n → number ≡ judged (numeric number m) n
+        pub numeric-inside : from + bits ≤ 8 * n → number ≡ judged (found number size from bits) n
         unfolding due
-        numeric-inside h = sym (span-due ∙ ap (due number false true true) (le-ltb (8 * n) (m .from + m .bits) h))
+        numeric-inside h = sym (span-due ∙ ap (due number false true true) (le-ltb (8 * n) (from + bits) h))
 
 -- ── any member, by its sort ──
 
@@ -74,40 +72,39 @@ behind : (own number : ℕ) (short : Bool) → cond short 30 number ≡ dueOr ow
 behind own number false = refl
 behind own number true = refl
 
-module _ (m : MemberSpan) (n : ℕ) where
-  sorted : {k : Sort} → m .sort ≡ k
-      → judged (record { number = sortNumber k; size = m .size; from = m .from; bits = m .bits }) n ≡ judged (foundAsPaper m) n
-  sorted e = ap (λ (k : Sort). judged (record { number = sortNumber k; size = m .size; from = m .from; bits = m .bits }) n) (sym e)
+module _ {sort : Sort} (size from bits n : ℕ) where
+  sorted : {k : Sort} → sort ≡ k → judged (found (sortNumber k) size from bits) n ≡ judged (found (sortNumber sort) size from bits) n
+  sorted e = ap (λ (k : Sort). judged (found (sortNumber k) size from bits) n) (sym e)
 
-  pub sort-unsigned : m .sort ≡ Sort.Unsigned → judged (numeric 0 m) n ≡ judged (foundAsPaper m) n
+  pub sort-unsigned : {r : ℕ} → sort ≡ Sort.Unsigned → r ≡ judged (found 0 size from bits) n → r ≡ judged (found (sortNumber sort) size from bits) n
   unfolding sortNumber
-  sort-unsigned e = sorted e
+  sort-unsigned e j = j ∙ sorted e
 
-  pub sort-signed : m .sort ≡ Sort.Signed → judged (numeric 1 m) n ≡ judged (foundAsPaper m) n
+  pub sort-signed : {r : ℕ} → sort ≡ Sort.Signed → r ≡ judged (found 1 size from bits) n → r ≡ judged (found (sortNumber sort) size from bits) n
   unfolding sortNumber
-  sort-signed e = sorted e
+  sort-signed e j = j ∙ sorted e
 
   -- 35, 21 and 31 at once
-  pub sort-high : m .sort ≡ Sort.HighFirst → 35 ≡ judged (foundAsPaper m) n
+  pub sort-high : sort ≡ Sort.HighFirst → 35 ≡ judged (found (sortNumber sort) size from bits) n
   unfolding sortNumber judged
   sort-high e = sorted e
 
-  pub sort-type : m .sort ≡ Sort.NoType → 21 ≡ judged (foundAsPaper m) n
+  pub sort-type : sort ≡ Sort.NoType → 21 ≡ judged (found (sortNumber sort) size from bits) n
   unfolding sortNumber judged
   sort-type e = sorted e
 
-  pub sort-struct : m .sort ≡ Sort.NoStruct → 31 ≡ judged (foundAsPaper m) n
+  pub sort-struct : sort ≡ Sort.NoStruct → 31 ≡ judged (found (sortNumber sort) size from bits) n
   unfolding sortNumber judged
   sort-struct e = sorted e
 
   -- 32 and 33 behind 30
-  pub sort-member : m .sort ≡ Sort.NoMember → cond (ltb n (m .size)) 30 32 ≡ judged (foundAsPaper m) n
+  pub sort-member : {r : ℕ} → sort ≡ Sort.NoMember → r ≡ cond (ltb n size) 30 32 → r ≡ judged (found (sortNumber sort) size from bits) n
   unfolding sortNumber judged
-  sort-member e = behind 32 32 (ltb n (m .size)) ∙ sorted e
+  sort-member e j = j ∙ behind 32 32 (ltb n size) ∙ sorted e
 
-  pub sort-number : m .sort ≡ Sort.NoNumber → cond (ltb n (m .size)) 30 33 ≡ judged (foundAsPaper m) n
+  pub sort-number : {r : ℕ} → sort ≡ Sort.NoNumber → r ≡ cond (ltb n size) 30 33 → r ≡ judged (found (sortNumber sort) size from bits) n
   unfolding sortNumber judged
-  sort-number e = behind 33 33 (ltb n (m .size)) ∙ sorted e
+  sort-number e j = j ∙ behind 33 33 (ltb n size) ∙ sorted e
 
 -- ── what follows of the number ──
 

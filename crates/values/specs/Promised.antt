@@ -10,7 +10,6 @@ use lib.ListN.{take, drop}
 use Rattle.paper.specs.rules.Choice.{firstDue}
 use Rattle.values.specs.Given.{Found, Given, foundRules, noBytes, valuedAnswer, valuedNumber}
 use Rattle.values.specs.Value.{recordBits, bitsNumber}
-use Rattle.values.specs.declared.MemberSpan.{MemberSpan}
 use Rattle.values.specs.declared.MemberValue.{MemberValue}
 use Rattle.values.specs.declared.Valued.{Valued}
 
@@ -48,10 +47,6 @@ bytesFrom (suc k) i n = n / 2 ^ (8 * i) % 256 ∷ bytesFrom k (suc i) n
 -- what is handed back with a refusal
 abbrev pub refusal : Valued → MemberValue
 refusal why = record { value = why; from = 0; bits = 0; bytes = noBytes }
-
--- a member that was found to be numeric: 0 unsigned, 1 signed
-abbrev pub numeric : ℕ → MemberSpan → Found
-numeric number m = record { number = number; size = m .size; from = m .from; bits = m .bits }
 
 abbrev pub dueOr : ℕ → Option ℕ → ℕ
 dueOr own none = own

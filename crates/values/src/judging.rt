@@ -1,5 +1,4 @@
 // Which of the rules is due for a member and a record of so many bytes, by the paper's numbers.
-use crate::MemberSpan;
 use crate::Sort;
 use crate::Valued;
 ghost use mathlib.Core.Path.{_≡_};
@@ -8,8 +7,8 @@ ghost use Prim.Native.Nat.{_<_};
 ghost use lib.Dec.{ltb};
 ghost use Rattle.paper.specs.rules.Answer.{report};
 ghost use Rattle.paper.specs.rules.Choice.{member};
-ghost use Rattle.values.specs.Given.{foundAsPaper, givenAsPaper, refusedAs};
-ghost use Rattle.values.specs.Promised.{judged, numeric, refusal, refusals};
+ghost use Rattle.values.specs.Given.{givenAsPaper, refusedAs, sortNumber};
+ghost use Rattle.values.specs.Promised.{judged, refusal, refusals};
 
 // A refusal that comes behind 30.
 fn behind_length(size: u32, len: u64, number: u32) -> u32
@@ -19,13 +18,11 @@ fn behind_length(size: u32, len: u64, number: u32) -> u32
 }
 
 // A numeric member. The end is compared in bytes, since eight times a length may pass 2^64.
-fn judge_span(m: MemberSpan, len: u64, number: u32) -> u32
+fn judge_span(number: u32, size: u32, from: u64, bits: u32, len: u64) -> u32
     requires { ⌜ number < 2 ⌝ }
-    ensures { λ r. ⌜ r ≡ judged (numeric number m) len ⌝ }
+    ensures { λ r. ⌜ r ≡ judged (record { number = number; size = size; from = from; bits = bits }) len ⌝ }
 {
-    let from = m.from;
-    let bits = m.bits;
-    if len < m.size as u64 {
+    if len < size as u64 {
         return 30;
     }
     if bits == 0 {
@@ -42,18 +39,17 @@ fn judge_span(m: MemberSpan, len: u64, number: u32) -> u32
 }
 
 // Any member, by its sort.
-pub(crate) fn judge(m: MemberSpan, len: u64) -> u32
-    ensures { λ r. ⌜ r ≡ judged (foundAsPaper m) len ⌝ }
+pub(crate) fn judge(sort: Sort, size: u32, from: u64, bits: u32, len: u64) -> u32
+    ensures { λ r. ⌜ r ≡ judged (record { number = sortNumber sort; size = size; from = from; bits = bits }) len ⌝ }
 {
-    let sort = m.sort;
     match sort {
-        Sort::Unsigned => judge_span(m, len, 0),
-        Sort::Signed => judge_span(m, len, 1),
+        Sort::Unsigned => judge_span(0, size, from, bits, len),
+        Sort::Signed => judge_span(1, size, from, bits, len),
         Sort::HighFirst => 35,
         Sort::NoType => 21,
         Sort::NoStruct => 31,
-        Sort::NoMember => behind_length(m.size, len, 32),
-        Sort::NoNumber => behind_length(m.size, len, 33),
+        Sort::NoMember => behind_length(size, len, 32),
+        Sort::NoNumber => behind_length(size, len, 33),
     }
 }
 

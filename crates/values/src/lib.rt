@@ -58,9 +58,10 @@ pub struct MemberValue {
 pub fn value_of(m: MemberSpan, s: &[u8]) -> MemberValue
     ensures { λ r. ⌜ givenAsPaper r ≡ given (readFound (foundAsPaper m) (now (s .entry))) ⌝ }
 {
+    let sort = m.sort;
     let from = m.from;
     let bits = m.bits;
-    let number = judge(m, s.len() as u64);
+    let number = judge(sort, m.size, from, bits, s.len() as u64);
     if 1 < number {
         return MemberValue {
             value: refused(number),

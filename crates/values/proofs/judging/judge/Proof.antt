@@ -1,6 +1,5 @@
 -- `values::judging::judge` meets its contract: by the sort.
 -- Assumes nothing.
-use mathlib.Core.Path.{_∙_}
 use Rattle.values.proofs.FoundRules.{sort-unsigned, sort-signed, sort-high, sort-type, sort-struct, sort-member, sort-number}
 use borrow.Author.Needs.{needs}
 use Rattle.values.proofs.judging.judge.Statement.{statement}
@@ -40,25 +39,25 @@ behind-length-requires-2 : tie.Need-behind-length-requires-2
 behind-length-requires-2 c κs = search needs
 
 returns : tie.Need-returns
-returns c = let a = c .before .before .before .args in c .judge-span .ensures ∙ sort-unsigned (a .m) (a .len) (c .before .enum-told .given .1)
+returns c = let a = c .before .before .before .args in sort-unsigned (a .size) (a .from) (a .bits) (a .len) (c .before .enum-told .given .1) (c .judge-span .ensures)
 
 returns-2 : tie.Need-returns-2
-returns-2 c = let a = c .before .before .before .args in c .judge-span2 .ensures ∙ sort-signed (a .m) (a .len) (c .before .enum-told2 .given .1)
+returns-2 c = let a = c .before .before .before .args in sort-signed (a .size) (a .from) (a .bits) (a .len) (c .before .enum-told2 .given .1) (c .judge-span2 .ensures)
 
 returns-3 : tie.Need-returns-3
-returns-3 c = let a = c .before .before .args in sort-high (a .m) (a .len) (c .enum-told3 .given .1)
+returns-3 c = let a = c .before .before .args in sort-high (a .size) (a .from) (a .bits) (a .len) (c .enum-told3 .given .1)
 
 returns-4 : tie.Need-returns-4
-returns-4 c = let a = c .before .before .args in sort-type (a .m) (a .len) (c .enum-told4 .given .1)
+returns-4 c = let a = c .before .before .args in sort-type (a .size) (a .from) (a .bits) (a .len) (c .enum-told4 .given .1)
 
 returns-5 : tie.Need-returns-5
-returns-5 c = let a = c .before .before .args in sort-struct (a .m) (a .len) (c .enum-told5 .given .1)
+returns-5 c = let a = c .before .before .args in sort-struct (a .size) (a .from) (a .bits) (a .len) (c .enum-told5 .given .1)
 
 returns-6 : tie.Need-returns-6
-returns-6 c = let a = c .before .before .before .args in c .behind-length .ensures ∙ sort-member (a .m) (a .len) (c .before .enum-told6 .given .1)
+returns-6 c = let a = c .before .before .before .args in sort-member (a .size) (a .from) (a .bits) (a .len) (c .before .enum-told6 .given .1) (c .behind-length .ensures)
 
 returns-7 : tie.Need-returns-7
-returns-7 c = let a = c .before .before .before .args in c .behind-length2 .ensures ∙ sort-number (a .m) (a .len) (c .before .enum-told7 .given .1)
+returns-7 c = let a = c .before .before .before .args in sort-number (a .size) (a .from) (a .bits) (a .len) (c .before .enum-told7 .given .1) (c .behind-length2 .ensures)
 
 pub judge-spec : {M : Type 1} → statement M
 judge-spec =

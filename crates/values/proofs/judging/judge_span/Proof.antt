@@ -6,22 +6,16 @@ use borrow.Author.Needs.{needs}
 use Rattle.values.proofs.judging.judge_span.Statement.{statement}
 use Rattle.values.proofs.judging.judge_span.Tie as tie
 
-cast-if1 : tie.Need-cast-if1
-cast-if1 c = search needs
-
 returns : tie.Need-returns
-returns c = let b = c .before .before in numeric-short (b .args .number) (b .pre) (b .args .m) (b .args .len) (omega arith)
+returns c = let b = c .before in numeric-short (b .args .number) (b .pre) (b .args .size) (b .args .from) (b .args .bits) (b .args .len) (omega arith)
 
 returns-2 : tie.Need-returns-2
-returns-2 c = let b = c .before .before .before in numeric-no-bits (b .args .number) (b .pre) (b .args .m) (b .args .len) (omega arith) (omega arith)
+returns-2 c = let b = c .before .before in numeric-no-bits (b .args .number) (b .pre) (b .args .size) (b .args .from) (b .args .bits) (b .args .len) (omega arith) (omega arith)
 
 returns-3 : tie.Need-returns-3
 returns-3 c =
-    let b = c .before .before .before .before in
-    numeric-many-bits (b .args .number) (b .pre) (b .args .m) (b .args .len) (omega arith) (omega arith) (omega arith)
-
-cast-end : tie.Need-cast-end
-cast-end c = search needs
+    let b = c .before .before .before in
+    numeric-many-bits (b .args .number) (b .pre) (b .args .size) (b .args .from) (b .args .bits) (b .args .len) (omega arith) (omega arith) (omega arith)
 
 add-end : tie.Need-add-end
 add-end c = search needs
@@ -34,23 +28,21 @@ add-end-3 c = search needs
 
 returns-4 : tie.Need-returns-4
 returns-4 c =
-    let b = c .before .before .before .before .before in
-    numeric-behind (b .args .number) (b .pre) (b .args .m) (b .args .len) (omega arith) (omega arith) (omega arith) (omega arith)
+    let b = c .before .before .before .before in
+    numeric-behind (b .args .number) (b .pre) (b .args .size) (b .args .from) (b .args .bits) (b .args .len) (omega arith) (omega arith) (omega arith) (omega arith)
 
 returns-5 : tie.Need-returns-5
 returns-5 c =
-    let b = c .before .before .before .before .before in
-    numeric-inside (b .args .number) (b .pre) (b .args .m) (b .args .len) (omega arith) (omega arith) (omega arith) (omega arith)
+    let b = c .before .before .before .before in
+    numeric-inside (b .args .number) (b .pre) (b .args .size) (b .args .from) (b .args .bits) (b .args .len) (omega arith) (omega arith) (omega arith) (omega arith)
 
 pub judge-span-spec : {M : Type 1} → statement M
 judge-span-spec =
     tie.close
     (tie.spec
-    cast-if1
     returns
     returns-2
     returns-3
-    cast-end
     add-end
     add-end-2
     add-end-3
