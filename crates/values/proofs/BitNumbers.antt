@@ -10,7 +10,7 @@ use lib.Pow.{pow-pos, shr-shr, field, mod-mod-pow, mod-pow-add}
 use lib.ListN.{length, getD, take, drop, drop-of-length-le, List·getD-eq-default}
 use lib.Seq.{take-nil, drop-nil, drop-cons, take-append-add, drop-append-add}
 use Rattle.paper.proofs.bytes.Bytes.{below-drop}
-use Rattle.paper.specs.terms.Fit.{Below, Bytes}
+use Rattle.paper.specs.terms.Fit.{Below}
 use Rattle.values.proofs.Bits.{length-bitsOf, bits-recordBits, number-append}
 use Rattle.values.specs.Promised.{recordNumber, numberAt}
 use Rattle.values.specs.Value.{bitsOf, recordBits, bitsNumber}
@@ -86,53 +86,10 @@ pub number-from : (p : ℕ) (s : List ℕ) → recordNumber (drop p s) ≡ recor
 unfolding recordNumber
 number-from p s = ap bitsNumber (recordBits-drop p s) ∙ number-drop (8 * p) (recordBits s) (bits-recordBits s)
 
--- the first eight
-pub number-eight : (s : List ℕ) → recordNumber (take 8 s) ≡ recordNumber s % 2 ^ 64
+-- the first so many
+pub number-first : (k : ℕ) (s : List ℕ) → recordNumber (take k s) ≡ recordNumber s % 2 ^ (8 * k)
 unfolding recordNumber
-number-eight s = ap bitsNumber (recordBits-take 8 s) ∙ number-take 64 (recordBits s) (bits-recordBits s)
+number-first k s = ap bitsNumber (recordBits-take k s) ∙ number-take (8 * k) (recordBits s) (bits-recordBits s)
 
--- ── byte by byte ──
-
--- so many bytes from a place on, with zeros past the end
-abbrev bytesAt : ℕ → ℕ → List ℕ → List ℕ
-bytesAt zero i s = []
-bytesAt (suc k) i s = getD s i 0 ∷ bytesAt k (suc i) s
-
-no-bytes : recordNumber [] ≡ 0
-unfolding recordNumber
-no-bytes = refl
-
-byte-on : (k i : ℕ) (s : List ℕ) → getD s i 0 % 256 + 256 * recordNumber (take k (drop (suc i) s)) ≡ recordNumber (take (suc k) (drop i s))
-byte-on k zero [] = ap (λ (xs : List ℕ). 0 + 256 * recordNumber xs) (take-nil k) ∙ ap (λ (n : ℕ). 0 + 256 * n) no-bytes ∙ sym no-bytes
-byte-on k (suc i) [] = ap (λ (xs : List ℕ). 0 + 256 * recordNumber xs) (take-nil k) ∙ ap (λ (n : ℕ). 0 + 256 * n) no-bytes ∙ sym no-bytes
-byte-on k zero (x ∷ s) = sym (number-cons x (take k s))
-byte-on k (suc i) (x ∷ s) = byte-on k i s
-
-number-bytesAt : (k i : ℕ) (s : List ℕ) → recordNumber (bytesAt k i s) ≡ recordNumber (take k (drop i s))
-number-bytesAt zero i s = refl
-number-bytesAt (suc k) i s =
-    number-cons (getD s i 0) (bytesAt k (suc i) s) ∙ ap (λ (n : ℕ). getD s i 0 % 256 + 256 * n) (number-bytesAt k (suc i) s) ∙ byte-on k i s
-
-number-4 : (a b c d : ℕ) (s : List ℕ) → a < 256 → b < 256 → c < 256 → d < 256
-    → recordNumber (a ∷ b ∷ c ∷ d ∷ s) ≡ a + b * 256 + c * 65536 + d * 16777216 + recordNumber s * 4294967296
-number-4 a b c d s la lb lc ld =
-    let nd = number-cons d s in
-    let nc = number-cons c (d ∷ s) in
-    let nb = number-cons b (c ∷ d ∷ s) in
-    let na = number-cons a (b ∷ c ∷ d ∷ s) in
-    omega arith
-
-pub number-8 : (a b c d e f g h : ℕ) → a < 256 → b < 256 → c < 256 → d < 256 → e < 256 → f < 256 → g < 256 → h < 256
-    → a + b * 256 + c * 65536 + d * 16777216 + (e + f * 256 + g * 65536 + h * 16777216) * 4294967296 ≡ recordNumber (a ∷ b ∷ c ∷ d ∷ e ∷ f ∷ g ∷ h ∷ [])
-number-8 a b c d e f g h la lb lc ld le lf lg lh =
-    let none = no-bytes in
-    let high = number-4 e f g h [] le lf lg lh in
-    let low = number-4 a b c d (e ∷ f ∷ g ∷ h ∷ []) la lb lc ld in
-    omega arith
-
--- eight bytes that were read one by one
-pub read-bytes : {w a b c d e f g h : ℕ} (s : List ℕ) → w ≡ recordNumber (a ∷ b ∷ c ∷ d ∷ e ∷ f ∷ g ∷ h ∷ [])
-    → a ≡ getD s 0 0 → b ≡ getD s 1 0 → c ≡ getD s 2 0 → d ≡ getD s 3 0 → e ≡ getD s 4 0 → f ≡ getD s 5 0 → g ≡ getD s 6 0 → h ≡ getD s 7 0
-    → w ≡ recordNumber (take 8 s)
-read-bytes s read a b c d e f g h =
-    read ∙ (λ i. recordNumber (a i ∷ b i ∷ c i ∷ d i ∷ e i ∷ f i ∷ g i ∷ h i ∷ [])) ∙ number-bytesAt 8 0 s
+pub number-first-below : (k : ℕ) (s : List ℕ) → recordNumber (take k s) < 2 ^ (8 * k)
+number-first-below k s = subst (λ (n : ℕ). n < 2 ^ (8 * k)) (sym (number-first k s)) (mod-lt _ (pow-pos (8 * k)))

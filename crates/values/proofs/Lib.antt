@@ -1,6 +1,7 @@
 -- Laws of order 3: a record's bits as numbers, and what a member says of every record.
 pub mod Bits
 pub mod BitNumbers
+pub mod ReadBytes
 pub mod Windows
 pub mod SignNumbers
 pub mod Negative

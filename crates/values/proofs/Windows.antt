@@ -7,9 +7,9 @@ use native.Mathlib.Nat.{add-comm, mod-lt, lt-of-lt-of-le}
 use native.Mathlib.Omega.{arith}
 use lib.Pow.{pow-pos, pow-mono, shr-shr, shl-exact, field, mod-mod-pow, mod-pow-add, ones-split, ones-lt, high}
 use lib.ListN.{length, getD, take, drop}
-use lib.Seq.{take-all, drop-cons}
+use lib.Seq.{drop-cons}
 use Rattle.paper.proofs.bytes.Bytes.{part-rest}
-use Rattle.values.proofs.BitNumbers.{number-part, number-below, number-cons, number-from, number-eight}
+use Rattle.values.proofs.BitNumbers.{number-part, number-below, number-cons, number-from, number-first}
 use Rattle.values.specs.Promised.{recordNumber, numberAt}
 
 -- ── numbers ──
@@ -38,7 +38,7 @@ ones-cut {bits} h =
 
 -- these, without the bits before the span
 shifted : (s : List ℕ) (from : ℕ) → from ≤ 64 → recordNumber (take 8 s) / 2 ^ from ≡ recordNumber s / 2 ^ from % 2 ^ (64 - from)
-shifted s from few = ap (λ (n : ℕ). n / 2 ^ from) (number-eight s) ∙ mod-field (recordNumber s) few
+shifted s from few = ap (λ (n : ℕ). n / 2 ^ from) (number-first 8 s) ∙ mod-field (recordNumber s) few
 
 module _ {w : ℕ} (s : List ℕ) (from bits : ℕ) (read : w ≡ recordNumber (take 8 s)) (few : from ≤ 64) where
   first : w / 2 ^ from ≡ recordNumber s / 2 ^ from % 2 ^ (64 - from)
@@ -81,9 +81,8 @@ module _ {w next : ℕ} (s : List ℕ) (from bits : ℕ) (read : w ≡ recordNum
 
 -- ── the bytes from a place on ──
 
-pub read-few : {w r : ℕ} (s : List ℕ) (from bits : ℕ) → w ≡ recordNumber (take 8 s) → length s ≤ 8 → r ≡ w / 2 ^ from % 2 ^ bits → r ≡ numberAt from bits s
-read-few s from bits read short cut =
-    cut ∙ ap (λ (n : ℕ). n / 2 ^ from % 2 ^ bits) (read ∙ ap recordNumber (take-all 8 s short)) ∙ sym (number-part from bits s)
+pub read-few : {w r : ℕ} (s : List ℕ) (from bits : ℕ) → w ≡ recordNumber s → r ≡ w / 2 ^ from % 2 ^ bits → r ≡ numberAt from bits s
+read-few s from bits read cut = cut ∙ ap (λ (n : ℕ). n / 2 ^ from % 2 ^ bits) read ∙ sym (number-part from bits s)
 
 -- a span of the record is one of theirs
 pub read-part : {r : ℕ} (s : List ℕ) (p from bits : ℕ) → 8 * p ≤ from → r ≡ numberAt (from - 8 * p) bits (take (length s - p) (drop p s)) → r ≡ numberAt from bits s

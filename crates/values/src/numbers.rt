@@ -1,6 +1,8 @@
 // The number of a span's bits in a record's bytes: eight bytes are read at once, shifted, and cut.
+use paper::Order;
+use paper::Place;
+use words::read;
 ghost use mathlib.Core.Path.{_≡_};
-ghost use mathlib.Core.List.{[], _∷_};
 ghost use Prim.Native.Nat.{_+_, _*_, _-_, _%_, _^_, _≤_, _<_, min};
 ghost use lib.ListN.{getD, length, take};
 ghost use Rattle.values.specs.Promised.{numberAt, recordNumber};
@@ -21,21 +23,14 @@ fn low_bits(x: u64, bits: u64) -> u64
     x & ones(bits)
 }
 
-// The number of eight bytes, low byte first: one load where they lie side by side.
-fn compose(a: u8, b: u8, c: u8, d: u8, e: u8, f: u8, g: u8, h: u8) -> u64
-    ensures { λ r. ⌜ r ≡ recordNumber (a ∷ b ∷ c ∷ d ∷ e ∷ f ∷ g ∷ h ∷ []) ⌝ }
-{
-    let low = (a as u64) + (b as u64) * 0x100 + (c as u64) * 0x1_0000 + (d as u64) * 0x100_0000;
-    let high = (e as u64) + (f as u64) * 0x100 + (g as u64) * 0x1_0000 + (h as u64) * 0x100_0000;
-    low + high * 0x1_0000_0000
-}
-
-// The first eight bytes.
+// The first eight bytes, as two words.
 fn eight(s: &[u8]) -> u64
     requires { ⌜ 8 ≤ length (now s) ⌝ }
     ensures { λ r. ⌜ r ≡ recordNumber (take 8 (now (s .entry))) ⌝ }
 {
-    compose(s[0], s[1], s[2], s[3], s[4], s[5], s[6], s[7])
+    let low = read(Order::LowFirst, s, Place(0));
+    let high = read(Order::LowFirst, s, Place(4));
+    (low as u64) + (high as u64) * 0x1_0000_0000
 }
 
 // A byte; 0 past the end.
@@ -45,20 +40,23 @@ fn byte(s: &[u8], at: usize) -> u8
     if at < s.len() { s[at] } else { 0 }
 }
 
-// The same of any bytes, with zeros past the end.
-fn few(s: &[u8]) -> u64
-    ensures { λ r. ⌜ r ≡ recordNumber (take 8 (now (s .entry))) ⌝ }
+// The first three bytes.
+fn three(s: &[u8]) -> u64
+    ensures { λ r. ⌜ r ≡ recordNumber (take 3 (now (s .entry))) ⌝ }
 {
-    compose(
-        byte(s, 0),
-        byte(s, 1),
-        byte(s, 2),
-        byte(s, 3),
-        byte(s, 4),
-        byte(s, 5),
-        byte(s, 6),
-        byte(s, 7),
-    )
+    (byte(s, 0) as u64) + (byte(s, 1) as u64) * 0x100 + (byte(s, 2) as u64) * 0x1_0000
+}
+
+// All of fewer than eight bytes: a word where there is one, and those behind it.
+fn few(s: &[u8]) -> u64
+    requires { ⌜ length (now s) < 8 ⌝ }
+    ensures { λ r. ⌜ r ≡ recordNumber (now (s .entry)) ⌝ }
+{
+    if s.len() < 4 {
+        return three(s);
+    }
+    let low = read(Order::LowFirst, s, Place(0));
+    (low as u64) + three(&s[4..]) * 0x1_0000_0000
 }
 
 // The smaller of two places.

@@ -1,8 +1,8 @@
 -- `values::numbers::byte` meets its contract.
 -- Assumes nothing.
 use mathlib.Core.Path.{sym}
-use lib.ListN.{List·getD-eq-default}
 use denote.Ref.{now}
+use lib.ListN.{List·getD-eq-default}
 use borrow.Author.Needs.{needs}
 use Rattle.values.proofs.numbers.byte.Statement.{statement}
 use Rattle.values.proofs.numbers.byte.Tie as tie

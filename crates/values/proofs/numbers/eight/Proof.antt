@@ -1,53 +1,45 @@
 -- `values::numbers::eight` meets its contract.
 -- Assumes nothing.
-use mathlib.Core.Path.{refl}
+use native.Mathlib.Omega.{arith}
 use denote.Ref.{now}
-use Rattle.values.proofs.BitNumbers.{read-bytes}
+use Rattle.paper.proofs.bytes.Bytes.{slice-bytes}
+use Rattle.values.proofs.ReadBytes.{read-eight}
 use borrow.Author.Needs.{needs}
 use Rattle.values.proofs.numbers.eight.Statement.{statement}
 use Rattle.values.proofs.numbers.eight.Tie as tie
 
-shared-slice-read-compose : tie.Need-shared-slice-read-compose
-shared-slice-read-compose c = search needs
+read-requires : tie.Need-read-requires
+read-requires c κs = search needs
 
-shared-slice-read-compose-2 : tie.Need-shared-slice-read-compose-2
-shared-slice-read-compose-2 c = search needs
+read-requires-2 : tie.Need-read-requires-2
+read-requires-2 c κs = search needs
 
-shared-slice-read-compose-3 : tie.Need-shared-slice-read-compose-3
-shared-slice-read-compose-3 c = search needs
+cast-result : tie.Need-cast-result
+cast-result c = search needs
 
-shared-slice-read-compose-4 : tie.Need-shared-slice-read-compose-4
-shared-slice-read-compose-4 c = search needs
+cast-result-2 : tie.Need-cast-result-2
+cast-result-2 c = search needs
 
-shared-slice-read-compose-5 : tie.Need-shared-slice-read-compose-5
-shared-slice-read-compose-5 c = search needs
+mul-result : tie.Need-mul-result
+mul-result c = search needs
 
-shared-slice-read-compose-6 : tie.Need-shared-slice-read-compose-6
-shared-slice-read-compose-6 c = search needs
-
-shared-slice-read-compose-7 : tie.Need-shared-slice-read-compose-7
-shared-slice-read-compose-7 c = search needs
-
-shared-slice-read-compose-8 : tie.Need-shared-slice-read-compose-8
-shared-slice-read-compose-8 c = search needs
-
-compose-requires : tie.Need-compose-requires
-compose-requires c κs = search needs
+add-result : tie.Need-add-result
+add-result c = search needs
 
 returns : tie.Need-returns
-returns c = read-bytes (now (c .before .before .before .before .before .before .before .before .before .before .args .s)) (c .compose .ensures) refl refl refl refl refl refl refl refl
+returns c =
+    let k = c .before .before in
+    let s = now (k .before .args .s) in
+    read-eight s (slice-bytes s (k .shared-slice-known .given)) (c .before .read .ensures) (omega arith) (c .read2 .ensures) (omega arith)
 
 pub eight-spec : {M : Type 1} → statement M
 eight-spec =
     tie.close
     (tie.spec
-    shared-slice-read-compose
-    shared-slice-read-compose-2
-    shared-slice-read-compose-3
-    shared-slice-read-compose-4
-    shared-slice-read-compose-5
-    shared-slice-read-compose-6
-    shared-slice-read-compose-7
-    shared-slice-read-compose-8
-    compose-requires
+    read-requires
+    read-requires-2
+    cast-result
+    cast-result-2
+    mul-result
+    add-result
     returns)

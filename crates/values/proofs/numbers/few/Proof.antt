@@ -1,62 +1,73 @@
 -- `values::numbers::few` meets its contract.
 -- Assumes nothing.
+use Prim.Native.Nat.{ℕ, _-_, _^_, _<_}
+use mathlib.Core.Path.{sym, ap, _∙_, subst}
+use native.Mathlib.Omega.{arith}
 use denote.Ref.{now}
-use Rattle.values.proofs.BitNumbers.{read-bytes}
+use lib.ListN.{length, take, drop}
+use lib.Seq.{take-all}
+use Rattle.paper.proofs.bytes.Bytes.{slice-bytes}
+use Rattle.values.proofs.BitNumbers.{number-first-below}
+use Rattle.values.proofs.ReadBytes.{read-short}
+use Rattle.values.specs.Promised.{recordNumber}
 use borrow.Author.Needs.{needs}
 use Rattle.values.proofs.numbers.few.Statement.{statement}
 use Rattle.values.proofs.numbers.few.Tie as tie
 
-byte-requires : tie.Need-byte-requires
-byte-requires c κs = search needs
+rest-below : (c : tie.After-three2) → c .three2 .result < 2 ^ 24
+rest-below c =
+    let s = now (c .before .before .before .before .before .args .s) in
+    subst (λ (n : ℕ). n < 2 ^ 24) (sym (c .three2 .ensures)) (number-first-below 3 (take (length s - 4) (drop 4 s)))
 
-byte-requires-2 : tie.Need-byte-requires-2
-byte-requires-2 c κs = search needs
-
-byte-requires-3 : tie.Need-byte-requires-3
-byte-requires-3 c κs = search needs
-
-byte-requires-4 : tie.Need-byte-requires-4
-byte-requires-4 c κs = search needs
-
-byte-requires-5 : tie.Need-byte-requires-5
-byte-requires-5 c κs = search needs
-
-byte-requires-6 : tie.Need-byte-requires-6
-byte-requires-6 c κs = search needs
-
-byte-requires-7 : tie.Need-byte-requires-7
-byte-requires-7 c κs = search needs
-
-byte-requires-8 : tie.Need-byte-requires-8
-byte-requires-8 c κs = search needs
-
-compose-requires : tie.Need-compose-requires
-compose-requires c κs = search needs
+three-requires : tie.Need-three-requires
+three-requires c κs = search needs
 
 returns : tie.Need-returns
-returns c =
-    let b8 = c .before in
-    let b7 = b8 .before in
-    let b6 = b7 .before in
-    let b5 = b6 .before in
-    let b4 = b5 .before in
-    let b3 = b4 .before in
-    let b2 = b3 .before in
-    let b1 = b2 .before in
-    read-bytes (now (b1 .before .before .args .s)) (c .compose .ensures) (b1 .byte .ensures) (b2 .byte2 .ensures) (b3 .byte3 .ensures) (b4 .byte4 .ensures)
-    (b5 .byte5 .ensures) (b6 .byte6 .ensures) (b7 .byte7 .ensures) (b8 .byte8 .ensures)
+returns c = c .three .ensures ∙ ap recordNumber (take-all 3 (now (c .before .before .before .args .s)) (omega arith))
+
+read-requires : tie.Need-read-requires
+read-requires c κs = search needs
+
+cast-result : tie.Need-cast-result
+cast-result c = search needs
+
+sub-three : tie.Need-sub-three
+sub-three c = search needs
+
+part-three-start : tie.Need-part-three-start
+part-three-start c = search needs
+
+part-three-end : tie.Need-part-three-end
+part-three-end c = search needs
+
+three-requires-2 : tie.Need-three-requires-2
+three-requires-2 c κs = search needs
+
+mul-result : tie.Need-mul-result
+mul-result c = omega (arith, rest-below c)
+
+add-result : tie.Need-add-result
+add-result c = omega (arith, rest-below c)
+
+returns-2 : tie.Need-returns-2
+returns-2 c =
+    let r = c .before .before in
+    let k = r .before .before in
+    let s = now (k .before .args .s) in
+    read-short s (slice-bytes s (k .shared-slice-known .given)) (r .read .ensures) (omega arith) (c .three2 .ensures) (omega arith)
 
 pub few-spec : {M : Type 1} → statement M
 few-spec =
     tie.close
     (tie.spec
-    byte-requires
-    byte-requires-2
-    byte-requires-3
-    byte-requires-4
-    byte-requires-5
-    byte-requires-6
-    byte-requires-7
-    byte-requires-8
-    compose-requires
-    returns)
+    three-requires
+    returns
+    read-requires
+    cast-result
+    sub-three
+    part-three-start
+    part-three-end
+    three-requires-2
+    mul-result
+    add-result
+    returns-2)

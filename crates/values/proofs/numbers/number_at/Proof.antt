@@ -19,7 +19,7 @@ low-bits-requires c κs = search needs
 returns : tie.Need-returns
 returns c =
     let a = c .before .before .before .before .args in
-    read-few (now (a .s)) (a .from) (a .bits) (c .before .few .ensures) (omega arith) (c .low-bits .ensures)
+    read-few (now (a .s)) (a .from) (a .bits) (c .before .few .ensures) (c .low-bits .ensures)
 
 sub-earlier : tie.Need-sub-earlier
 sub-earlier c = search needs
