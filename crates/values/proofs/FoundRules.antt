@@ -1,10 +1,11 @@
 -- Laws of `foundRules`: which rule is due, in their order, a law for each return, and what follows of the number.
 -- Assumes nothing.
-use Prim.Native.Nat.{ℕ, zero, suc, _+_, _*_, _≤_, _<_}
+use Prim.Native.Nat.{ℕ, _+_, _*_, _/_, _%_, _≤_, _<_}
 use mathlib.Core.Path.{_≡_, refl, sym, ap, ap₂, _∙_, subst}
 use mathlib.Core.Bool.{Bool, true, false, not, cond, _&&_, false≢true}
 use mathlib.Core.List.{List, [], _∷_}
 use mathlib.Core.Option.{Option, none, some}
+use native.Mathlib.Nat.{pos-of-ne-zero}
 use native.Mathlib.Omega.{arith}
 use borrow.Author.Tests.{le-leb, lt-leb, le-ltb, lt-ltb, leb-true, ltb-false, not-false}
 use lib.Dec.{leb, ltb, eqb}
@@ -15,96 +16,113 @@ use Rattle.values.specs.Promised.{dueOr, judged, refusals}
 use Rattle.values.specs.declared.MemberSpan.{MemberSpan}
 use Rattle.values.specs.declared.Sort.{Sort}
 
--- ── a numeric member ──
-
-due : ℕ → Bool → Bool → Bool → Bool → ℕ
-due number short least most behind = dueOr number (cond short (some 30) (cond (not (least && most)) (some 33) (cond behind (some 30) none)))
+-- ── behind 31 ──
 
 abbrev found : ℕ → ℕ → ℕ → ℕ → Found
 found number size from bits = record { number = number; size = size; from = from; bits = bits }
 
-numeric-due : (number : ℕ) → number < 2 → (size from bits n : ℕ)
-    → judged (found number size from bits) n ≡ due number (ltb n size) (leb 1 bits) (leb bits 128) (ltb (8 * n) (from + bits))
-unfolding due judged
-numeric-due zero h size from bits n = refl
-numeric-due (suc zero) h size from bits n = refl
-numeric-due (suc (suc number)) h size from bits n = absurd (omega arith)
+-- by what each rule finds
+due : ℕ → Bool → Bool → Bool → Bool → Bool → ℕ
+due number short late least most behind =
+    dueOr number (cond short (some 30) (cond late (some number) (cond (not (least && most)) (some 33) (cond behind (some 30) none))))
 
-module _ (number : ℕ) (plain : number < 2) (size from bits n : ℕ) where
+module _ (number : ℕ) (one : member number (0 ∷ 1 ∷ 32 ∷ 33 ∷ []) ≡ true) (size from bits n : ℕ) where
+  all-due : judged (found number size from bits) n
+      ≡ due number (ltb n size) (member number (32 ∷ 33 ∷ [])) (leb 1 bits) (leb bits 128) (ltb (8 * n) (from + bits))
+  unfolding due judged
+  all-due =
+      ap (λ (b : Bool). dueOr number (cond b (some number) (cond (ltb n size) (some 30) (cond (member number (32 ∷ 33 ∷ [])) (some number) (cond (not (leb 1 bits && leb bits 128)) (some 33) (cond (ltb (8 * n) (from + bits)) (some 30) none))))))
+      (member-each (λ (k : ℕ). member k (35 ∷ 21 ∷ 31 ∷ []) ≡ false) number (0 ∷ 1 ∷ 32 ∷ 33 ∷ []) one (refl, (refl, (refl, (refl, tt)))))
+
   -- 30: the record is shorter than the type
-  pub numeric-short : n < size → 30 ≡ judged (found number size from bits) n
+  pub late-short : n < size → 30 ≡ judged (found number size from bits) n
   unfolding due
-  numeric-short h =
-      sym (numeric-due number plain size from bits n ∙ ap (λ (b : Bool). due number b (leb 1 bits) (leb bits 128) (ltb (8 * n) (from + bits))) (lt-ltb n size h))
+  late-short h =
+      sym (all-due ∙ ap (λ (b : Bool). due number b (member number (32 ∷ 33 ∷ [])) (leb 1 bits) (leb bits 128) (ltb (8 * n) (from + bits))) (lt-ltb n size h))
 
   module _ (long : size ≤ n) where
-    long-due : judged (found number size from bits) n ≡ due number false (leb 1 bits) (leb bits 128) (ltb (8 * n) (from + bits))
-    long-due =
-        numeric-due number plain size from bits n ∙ ap (λ (b : Bool). due number b (leb 1 bits) (leb bits 128) (ltb (8 * n) (from + bits))) (le-ltb n size long)
+    long-due : judged (found number size from bits) n ≡ due number false (member number (32 ∷ 33 ∷ [])) (leb 1 bits) (leb bits 128) (ltb (8 * n) (from + bits))
+    long-due = all-due ∙ ap (λ (b : Bool). due number b (member number (32 ∷ 33 ∷ [])) (leb 1 bits) (leb bits 128) (ltb (8 * n) (from + bits))) (le-ltb n size long)
 
-    -- 33: a span of no bits, or of too many
-    pub numeric-no-bits : bits ≡ 0 → 33 ≡ judged (found number size from bits) n
+    -- 32 and 33: there is no such member, or it is no number
+    pub late-refused : 1 < number → number ≡ judged (found number size from bits) n
     unfolding due
-    numeric-no-bits h = sym (long-due ∙ ap (λ (b : Bool). due number false b (leb bits 128) (ltb (8 * n) (from + bits))) (lt-leb 1 bits (omega arith)))
+    late-refused h =
+        sym (long-due
+        ∙ ap (λ (b : Bool). due number false b (leb 1 bits) (leb bits 128) (ltb (8 * n) (from + bits)))
+        (member-each (λ (k : ℕ). 1 < k → member k (32 ∷ 33 ∷ []) ≡ true) number (0 ∷ 1 ∷ 32 ∷ 33 ∷ []) one
+        ((λ h. absurd (omega arith)), ((λ h. absurd (omega arith)), ((λ h. refl), ((λ h. refl), tt)))) h))
 
-    module _ (least : 1 ≤ bits) where
-      pub numeric-many-bits : 128 < bits → 33 ≡ judged (found number size from bits) n
+    module _ (plain : number ≤ 1) where
+      plain-due : judged (found number size from bits) n ≡ due number false false (leb 1 bits) (leb bits 128) (ltb (8 * n) (from + bits))
+      plain-due =
+          long-due
+          ∙ ap (λ (b : Bool). due number false b (leb 1 bits) (leb bits 128) (ltb (8 * n) (from + bits)))
+          (member-each (λ (k : ℕ). k ≤ 1 → member k (32 ∷ 33 ∷ []) ≡ false) number (0 ∷ 1 ∷ 32 ∷ 33 ∷ []) one
+          ((λ h. refl), ((λ h. refl), ((λ h. absurd (omega arith)), ((λ h. absurd (omega arith)), tt)))) plain)
+
+      -- 33: a span of no bits, or of too many
+      pub late-no-bits : bits ≡ 0 → 33 ≡ judged (found number size from bits) n
       unfolding due
-      numeric-many-bits h = sym (long-due ∙ ap₂ (λ (a b : Bool). due number false a b (ltb (8 * n) (from + bits))) (le-leb 1 bits least) (lt-leb bits 128 h))
+      late-no-bits h = sym (plain-due ∙ ap (λ (b : Bool). due number false false b (leb bits 128) (ltb (8 * n) (from + bits))) (lt-leb 1 bits (omega arith)))
 
-      module _ (most : bits ≤ 128) where
-        span-due : judged (found number size from bits) n ≡ due number false true true (ltb (8 * n) (from + bits))
-        span-due = long-due ∙ ap₂ (λ (a b : Bool). due number false a b (ltb (8 * n) (from + bits))) (le-leb 1 bits least) (le-leb bits 128 most)
+      module _ (some-bits : bits ≡ 0 → ⊥) where
+        least : leb 1 bits ≡ true
+        least = le-leb 1 bits (pos-of-ne-zero some-bits)
 
-        -- 30: it ends behind the record
-        pub numeric-behind : 8 * n < from + bits → 30 ≡ judged (found number size from bits) n
+        pub late-many-bits : 128 < bits → 33 ≡ judged (found number size from bits) n
         unfolding due
-        numeric-behind h = sym (span-due ∙ ap (due number false true true) (lt-ltb (8 * n) (from + bits) h))
+        late-many-bits h = sym (plain-due ∙ ap₂ (λ (a b : Bool). due number false false a b (ltb (8 * n) (from + bits))) least (lt-leb bits 128 h))
 
-        -- none of these
-        pub numeric-inside : from + bits ≤ 8 * n → number ≡ judged (found number size from bits) n
-        unfolding due
-        numeric-inside h = sym (span-due ∙ ap (due number false true true) (le-ltb (8 * n) (from + bits) h))
+        module _ (most : bits ≤ 128) where
+          span-due : judged (found number size from bits) n ≡ due number false false true true (ltb (8 * n) (from + bits))
+          span-due = plain-due ∙ ap₂ (λ (a b : Bool). due number false false a b (ltb (8 * n) (from + bits))) least (le-leb bits 128 most)
+
+          -- 30: it ends behind the record; compared in bytes
+          pub late-behind : n < from / 8 + (from % 8 + bits + 7) / 8 → 30 ≡ judged (found number size from bits) n
+          unfolding due
+          late-behind h = sym (span-due ∙ ap (due number false false true true) (lt-ltb (8 * n) (from + bits) (omega arith)))
+
+          -- none of these
+          pub late-inside : from / 8 + (from % 8 + bits + 7) / 8 ≤ n → number ≡ judged (found number size from bits) n
+          unfolding due
+          late-inside h = sym (span-due ∙ ap (due number false false true true) (le-ltb (8 * n) (from + bits) (omega arith)))
 
 -- ── any member, by its sort ──
 
-behind : (own number : ℕ) (short : Bool) → cond short 30 number ≡ dueOr own (cond short (some 30) (some number))
-behind own number false = refl
-behind own number true = refl
+module _ {sort : Sort} (size from bits n : ℕ) {r : ℕ} where
+  sorted : (k : Sort) → sort ≡ k → r ≡ judged (found (sortNumber k) size from bits) n → r ≡ judged (found (sortNumber sort) size from bits) n
+  sorted k e is = is ∙ ap (λ (x : Sort). judged (found (sortNumber x) size from bits) n) (sym e)
 
+  pub sort-unsigned : sort ≡ Sort.Unsigned → r ≡ judged (found 0 size from bits) n → r ≡ judged (found (sortNumber sort) size from bits) n
+  unfolding sortNumber
+  sort-unsigned = sorted Sort.Unsigned
+
+  pub sort-signed : sort ≡ Sort.Signed → r ≡ judged (found 1 size from bits) n → r ≡ judged (found (sortNumber sort) size from bits) n
+  unfolding sortNumber
+  sort-signed = sorted Sort.Signed
+
+  pub sort-member : sort ≡ Sort.NoMember → r ≡ judged (found 32 size from bits) n → r ≡ judged (found (sortNumber sort) size from bits) n
+  unfolding sortNumber
+  sort-member = sorted Sort.NoMember
+
+  pub sort-number : sort ≡ Sort.NoNumber → r ≡ judged (found 33 size from bits) n → r ≡ judged (found (sortNumber sort) size from bits) n
+  unfolding sortNumber
+  sort-number = sorted Sort.NoNumber
+
+-- 35, 21 and 31 at once
 module _ {sort : Sort} (size from bits n : ℕ) where
-  sorted : {k : Sort} → sort ≡ k → judged (found (sortNumber k) size from bits) n ≡ judged (found (sortNumber sort) size from bits) n
-  sorted e = ap (λ (k : Sort). judged (found (sortNumber k) size from bits) n) (sym e)
-
-  pub sort-unsigned : {r : ℕ} → sort ≡ Sort.Unsigned → r ≡ judged (found 0 size from bits) n → r ≡ judged (found (sortNumber sort) size from bits) n
-  unfolding sortNumber
-  sort-unsigned e j = j ∙ sorted e
-
-  pub sort-signed : {r : ℕ} → sort ≡ Sort.Signed → r ≡ judged (found 1 size from bits) n → r ≡ judged (found (sortNumber sort) size from bits) n
-  unfolding sortNumber
-  sort-signed e j = j ∙ sorted e
-
-  -- 35, 21 and 31 at once
   pub sort-high : sort ≡ Sort.HighFirst → 35 ≡ judged (found (sortNumber sort) size from bits) n
   unfolding sortNumber judged
-  sort-high e = sorted e
+  sort-high e = sorted size from bits n Sort.HighFirst e refl
 
   pub sort-type : sort ≡ Sort.NoType → 21 ≡ judged (found (sortNumber sort) size from bits) n
   unfolding sortNumber judged
-  sort-type e = sorted e
+  sort-type e = sorted size from bits n Sort.NoType e refl
 
   pub sort-struct : sort ≡ Sort.NoStruct → 31 ≡ judged (found (sortNumber sort) size from bits) n
   unfolding sortNumber judged
-  sort-struct e = sorted e
-
-  -- 32 and 33 behind 30
-  pub sort-member : {r : ℕ} → sort ≡ Sort.NoMember → r ≡ cond (ltb n size) 30 32 → r ≡ judged (found (sortNumber sort) size from bits) n
-  unfolding sortNumber judged
-  sort-member e j = j ∙ behind 32 32 (ltb n size) ∙ sorted e
-
-  pub sort-number : {r : ℕ} → sort ≡ Sort.NoNumber → r ≡ cond (ltb n size) 30 33 → r ≡ judged (found (sortNumber sort) size from bits) n
-  unfolding sortNumber judged
-  sort-number e j = j ∙ behind 33 33 (ltb n size) ∙ sorted e
+  sort-struct e = sorted size from bits n Sort.NoStruct e refl
 
 -- ── what follows of the number ──
 

@@ -1,18 +1,18 @@
 -- Laws of reading whole bytes: words, three bytes, and all of a short record.
 -- Assumes nothing.
-use Prim.Native.Nat.{ℕ, _+_, _*_, _-_, _/_, _%_, _^_, _≤_, _<_}
-use mathlib.Core.Path.{_≡_, refl, sym, ap, ap₂, _∙_}
+use Prim.Native.Nat.{ℕ, suc, _+_, _*_, _-_, _/_, _%_, _^_, _≤_, _<_}
+use mathlib.Core.Path.{_≡_, refl, sym, ap, ap₂, _∙_, subst}
 use mathlib.Core.List.{List, [], _∷_}
 use native.Mathlib.Nat.{add-comm}
 use native.Mathlib.Omega.{arith}
 use lib.ListN.{length, getD, take, drop, length-drop}
-use lib.Pow.{split, mod-pow-add}
-use lib.Seq.{take-all}
-use Rattle.paper.proofs.bytes.Bytes.{below-drop, part-rest}
+use lib.Pow.{mod-pow-add}
+use lib.Seq.{take-all, drop-length, drop-cons}
+use Rattle.paper.proofs.bytes.Bytes.{below-drop}
 use Rattle.paper.specs.declared.Order.the-variants.{LowFirst}
 use Rattle.paper.specs.rules.Word.{firstWord, wordAt}
 use Rattle.paper.specs.terms.Fit.{Bytes}
-use Rattle.values.proofs.BitNumbers.{number-cons, number-from, number-first}
+use Rattle.values.proofs.BitNumbers.{number-cons, number-from, number-first, number-first-below}
 use Rattle.values.specs.Promised.{recordNumber}
 
 no-bytes : recordNumber [] ≡ 0
@@ -39,22 +39,6 @@ first-word (a ∷ b ∷ []) h inside = absurd (omega arith)
 first-word (a ∷ b ∷ c ∷ []) h inside = absurd (omega arith)
 first-word (a ∷ b ∷ c ∷ d ∷ s) h inside = number-4 a b c d (h .0) (h .1 .0) (h .1 .1 .0) (h .1 .1 .1 .0)
 
--- three bytes, with zeros past the end
-first-three : (s : List ℕ) → getD s 0 0 % 256 + getD s 1 0 % 256 * 256 + getD s 2 0 % 256 * 65536 ≡ recordNumber (take 3 s)
-first-three [] = sym no-bytes
-first-three (a ∷ []) = let none = no-bytes in let na = number-cons a [] in omega arith
-first-three (a ∷ b ∷ []) = let none = no-bytes in let nb = number-cons b [] in let na = number-cons a (b ∷ []) in omega arith
-first-three (a ∷ b ∷ c ∷ s) =
-    let none = no-bytes in
-    let nc = number-cons c [] in
-    let nb = number-cons b (c ∷ []) in
-    let na = number-cons a (b ∷ c ∷ []) in
-    omega arith
-
-pub read-three : {a b c : ℕ} (s : List ℕ) → a ≡ getD s 0 0 → b ≡ getD s 1 0 → c ≡ getD s 2 0 → a < 256 → b < 256 → c < 256
-    → a + b * 256 + c * 65536 ≡ recordNumber (take 3 s)
-read-three s ea eb ec la lb lc = let all = first-three s in omega arith
-
 module _ (s : List ℕ) (bytes : Bytes s) {low : ℕ} (read : low ≡ wordAt LowFirst s 0) (inside : 4 ≤ length s) where
   low-word : low ≡ recordNumber s % 2 ^ 32
   unfolding wordAt
@@ -71,11 +55,28 @@ module _ (s : List ℕ) (bytes : Bytes s) {low : ℕ} (read : low ≡ wordAt Low
       ∙ sym (mod-pow-add (recordNumber s) 32 32)
       ∙ sym (number-first 8 s)
 
-  -- a word, and what is left of a short record
-  pub read-short : {rest : ℕ} → rest ≡ recordNumber (take 3 (take (length s - 4) (drop 4 s))) → length s < 8 → low + rest * 4294967296 ≡ recordNumber s
-  read-short next short =
-      let left = length-drop 4 s in
-      ap₂ (λ (m n : ℕ). m + n * 4294967296) low-word
-      (next ∙ ap (λ (xs : List ℕ). recordNumber (take 3 xs)) (part-rest s 4) ∙ ap recordNumber (take-all 3 (drop 4 s) (omega arith)) ∙ number-from 4 s)
-      ∙ add-comm _ _
-      ∙ split (recordNumber s) 32
+-- ── a short record, from its last byte on ──
+
+pub record FewInv (s : List ℕ) (n i : ℕ) : Type 0 where
+  pub passed : n ≡ recordNumber (drop i s)
+  pub inside : i ≤ length s
+
+pub few-start : (s : List ℕ) → FewInv s 0 (length s)
+few-start s = record { passed = sym (ap recordNumber (drop-length s) ∙ no-bytes); inside = omega arith }
+
+pub few-below : (s : List ℕ) → length s < 8 → {n i : ℕ} → FewInv s n i → n < 2 ^ 56
+few-below s short {n} {i} inv =
+    let left = length-drop i s in
+    subst (λ (k : ℕ). k < 2 ^ 56) (ap recordNumber (take-all 7 (drop i s) (omega arith)) ∙ sym (inv .passed)) (number-first-below 7 (drop i s))
+
+pub few-step : (s : List ℕ) {n i : ℕ} → FewInv s n i → 0 < i → getD s (i - 1) 0 < 256 → FewInv s (n * 256 + getD s (i - 1) 0) (i - 1)
+few-step s {n} {i} inv more byte =
+    let in-s = inv .inside in
+    let back : suc (i - 1) ≡ i = omega arith in
+    let first = number-byte (getD s (i - 1) 0) (drop (suc (i - 1)) s) byte in
+    let rest : recordNumber (drop (suc (i - 1)) s) ≡ n = ap (λ (k : ℕ). recordNumber (drop k s)) back ∙ sym (inv .passed) in
+    let at = ap recordNumber (drop-cons s (i - 1) 0 (omega arith)) in
+    record { passed = omega arith; inside = omega arith }
+
+pub few-done : (s : List ℕ) {n i : ℕ} → FewInv s n i → i ≤ 0 → n ≡ recordNumber s
+few-done s {n} {i} inv h = let none : i ≡ 0 = omega arith in inv .passed ∙ ap (λ (k : ℕ). recordNumber (drop k s)) none

@@ -2,11 +2,11 @@
 -- Assumes nothing.
 use Prim.Native.Nat.{ℕ, zero, suc, _+_, _*_, _-_, _/_, _%_, _^_, _≤_, _<_}
 use mathlib.Core.Path.{_≡_, refl, sym, ap, ap₂, _∙_, subst}
-use mathlib.Core.Bool.{Bool, true, false, cond, _&&_}
+use mathlib.Core.Bool.{Bool, true, false, not, cond, _&&_}
 use mathlib.Core.List.{List, [], _∷_, _++_}
 use native.Mathlib.Nat.{pow-suc, div-one, div-mul-le-self, div-lt-iff-lt-mul, lt-of-lt-of-le}
 use native.Mathlib.Omega.{arith}
-use borrow.Author.Tests.{eqb-true, eqb-false}
+use borrow.Author.Tests.{eqb-true, eqb-false, eq-eqb, ne-eqb, not-true, not-false}
 use lib.Dec.{eqb}
 use lib.IntN.{ℤ, pos, negsuc}
 use lib.Pow.{pow-pos, pow-mono}
@@ -46,34 +46,41 @@ module _ {bits n : ℕ} (some : 1 ≤ bits) (few : bits ≤ 64) (below : n < 2 ^
       let most = half-fits few in
       omega arith
 
--- what the code makes of them, by the top bit
-module _ (bits n : ℕ) {all : ℕ} (ones : all ≡ 2 ^ bits - 1) where
-  complement : all - n ≡ 2 ^ bits - suc n
-  complement = ap (λ (k : ℕ). k - n) ones ∙ omega arith
-
-  pub complement-fits : 1 ≤ bits → bits ≤ 64 → n < 2 ^ bits → isMinus bits n ≡ true → all - n < 2 ^ 63
-  complement-fits some few below e = subst (λ (k : ℕ). k < 2 ^ 63) (sym complement) (minus-fits some few below e)
-
-  pub signed-minus : {z : ℤ} → isMinus bits n ≡ true → z ≡ negsuc (all - n) → z ≡ signedNumber bits n
-  unfolding signedNumber
-  signed-minus e read = read ∙ ap negsuc complement ∙ sym (ap (λ (b : Bool). cond b (negsuc (2 ^ bits - suc n)) (pos n)) e)
-
-  pub filled-minus : isMinus bits n ≡ true → 2 ^ 64 - 1 - (all - n) ≡ filledNumber true bits n
-  unfolding filledNumber
-  filled-minus e =
-      ap (λ (k : ℕ). 2 ^ 64 - 1 - k) complement ∙ omega arith ∙ sym (ap (λ (b : Bool). cond b (2 ^ 64 - suc (2 ^ bits - suc n)) n) e)
-
-pub signed-plus : (bits n : ℕ) {z : ℤ} → isMinus bits n ≡ false → z ≡ pos n → z ≡ signedNumber bits n
-unfolding signedNumber
-signed-plus bits n e read = read ∙ sym (ap (λ (b : Bool). cond b (negsuc (2 ^ bits - suc n)) (pos n)) e)
-
-pub filled-zeros : (bits n : ℕ) → n ≡ filledNumber false bits n
+-- filled up to 64 bits, by the top bit
+pub filled-zeros : {n : ℕ} (bits : ℕ) (signed : Bool) → not signed ≡ true → n ≡ filledNumber signed bits n
 unfolding filledNumber
-filled-zeros bits n = refl
+filled-zeros {n} bits signed e = sym (ap (λ (b : Bool). cond (b && isMinus bits n) (2 ^ 64 - suc (2 ^ bits - suc n)) n) (not-true signed e))
 
-pub filled-plus : (bits n : ℕ) → isMinus bits n ≡ false → n ≡ filledNumber true bits n
+pub filled-plus : {n : ℕ} (bits : ℕ) (signed : Bool) → not signed ≡ false → (n / 2 ^ (bits - 1) ≡ 1 → ⊥) → n ≡ filledNumber signed bits n
 unfolding filledNumber
-filled-plus bits n e = sym (ap (λ (b : Bool). cond b (2 ^ 64 - suc (2 ^ bits - suc n)) n) e)
+filled-plus {n} bits signed on h =
+    sym (ap₂ (λ (a b : Bool). cond (a && b) (2 ^ 64 - suc (2 ^ bits - suc n)) n) (not-false signed on) (ne-eqb (n / 2 ^ (bits - 1)) 1 h))
+
+pub filled-minus : {all : ℕ} (n bits : ℕ) (signed : Bool) → not signed ≡ false → n / 2 ^ (bits - 1) ≡ 1 → all ≡ 2 ^ bits - 1
+    → 2 ^ 64 - 1 - (all - n) ≡ filledNumber signed bits n
+unfolding filledNumber
+filled-minus {all} n bits signed on h ones =
+    ap (λ (k : ℕ). 2 ^ 64 - 1 - (k - n)) ones ∙ omega arith
+    ∙ sym (ap₂ (λ (a b : Bool). cond (a && b) (2 ^ 64 - suc (2 ^ bits - suc n)) n) (not-false signed on) (eq-eqb (n / 2 ^ (bits - 1)) 1 h))
+
+-- and the exact value of that
+module _ {bits n : ℕ} (some : 1 ≤ bits) (few : bits ≤ 64) (below : n < 2 ^ bits) {x : ℕ} where
+  low-half : (b : Bool) → isMinus bits n ≡ b → x ≡ cond b (2 ^ 64 - suc (2 ^ bits - suc n)) n → x < 2 ^ 63 → pos x ≡ cond b (negsuc (2 ^ bits - suc n)) (pos n)
+  low-half true e is h = absurd (let high = minus-fits some few below e in omega arith)
+  low-half false e is h = ap pos is
+
+  high-half : (b : Bool) → isMinus bits n ≡ b → x ≡ cond b (2 ^ 64 - suc (2 ^ bits - suc n)) n → 2 ^ 63 ≤ x
+      → negsuc (2 ^ 64 - 1 - x) ≡ cond b (negsuc (2 ^ bits - suc n)) (pos n)
+  high-half true e is h = let high = minus-fits some few below e in ap negsuc (omega arith)
+  high-half false e is h = absurd (let low = plus-fits some few below e in omega arith)
+
+  pub value-plus : {z : ℤ} → x ≡ filledNumber true bits n → x < 2 ^ 63 → z ≡ pos x → z ≡ signedNumber bits n
+  unfolding filledNumber signedNumber
+  value-plus is h read = read ∙ low-half (isMinus bits n) refl is h
+
+  pub value-minus : {z : ℤ} → x ≡ filledNumber true bits n → 2 ^ 63 ≤ x → z ≡ negsuc (2 ^ 64 - 1 - x) → z ≡ signedNumber bits n
+  unfolding filledNumber signedNumber
+  value-minus is h read = read ∙ high-half (isMinus bits n) refl is h
 
 -- ── bits ──
 

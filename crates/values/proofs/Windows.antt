@@ -5,6 +5,7 @@ use mathlib.Core.Path.{_≡_, refl, sym, ap, ap₂, _∙_, subst}
 use mathlib.Core.List.{List, _∷_}
 use native.Mathlib.Nat.{add-comm, mod-lt, lt-of-lt-of-le}
 use native.Mathlib.Omega.{arith}
+use lib.Bits.{bitAnd, and-mask}
 use lib.Pow.{pow-pos, pow-mono, shr-shr, shl-exact, field, mod-mod-pow, mod-pow-add, ones-split, ones-lt, high}
 use lib.ListN.{length, getD, take, drop}
 use lib.Seq.{drop-cons}
@@ -13,6 +14,10 @@ use Rattle.values.proofs.BitNumbers.{number-part, number-below, number-
 use Rattle.values.specs.Promised.{recordNumber, numberAt}
 
 -- ── numbers ──
+
+-- the low bits, by a mask of so many ones
+pub masked : {ones : ℕ} (x bits : ℕ) → ones ≡ 2 ^ bits - 1 → bitAnd x ones ≡ x % 2 ^ bits
+masked x bits e = ap (bitAnd x) e ∙ and-mask x bits
 
 -- the low bits of some low bits
 pub mod-low : (x : ℕ) {k n : ℕ} → n ≤ k → x % 2 ^ k % 2 ^ n ≡ x % 2 ^ n
@@ -40,9 +45,9 @@ ones-cut {bits} h =
 shifted : (s : List ℕ) (from : ℕ) → from ≤ 64 → recordNumber (take 8 s) / 2 ^ from ≡ recordNumber s / 2 ^ from % 2 ^ (64 - from)
 shifted s from few = ap (λ (n : ℕ). n / 2 ^ from) (number-first 8 s) ∙ mod-field (recordNumber s) few
 
-module _ {w : ℕ} (s : List ℕ) (from bits : ℕ) (read : w ≡ recordNumber (take 8 s)) (few : from ≤ 64) where
+module _ {w : ℕ} (s : List ℕ) (from bits : ℕ) (read : w ≡ recordNumber (take 8 s)) (few : from < 64) where
   first : w / 2 ^ from ≡ recordNumber s / 2 ^ from % 2 ^ (64 - from)
-  first = ap (λ (n : ℕ). n / 2 ^ from) read ∙ shifted s from few
+  first = ap (λ (n : ℕ). n / 2 ^ from) read ∙ shifted s from (omega arith)
 
   pub read-inside : {r : ℕ} → r ≡ w / 2 ^ from % 2 ^ bits → bits ≤ 64 - from → r ≡ numberAt from bits s
   read-inside cut inside = cut ∙ ap (λ (n : ℕ). n % 2 ^ bits) first ∙ mod-low (recordNumber s / 2 ^ from) inside ∙ sym (number-part from bits s)
@@ -59,16 +64,16 @@ ninth s q m inside few =
     ∙ mod-low (getD s q 0) few
 
 module _ {w next : ℕ} (s : List ℕ) (from bits : ℕ) (read : w ≡ recordNumber (take 8 s)) (low : next ≡ getD s 8 0 % 2 ^ (bits - (64 - from)))
-    (few : from ≤ 64) (across : 64 - from < bits) (short : bits ≤ 64) (near : from + bits ≤ 72) (inside : 8 < length s) where
+    (few : from < 64) (across : 64 - from < bits) (short : bits ≤ 64) (near : from + bits ≤ 72) (ends : from + bits ≤ 8 * length s) where
   pub read-across : w / 2 ^ from + next * 2 ^ (64 - from) % 2 ^ 64 ≡ numberAt from bits s
   read-across =
       let left : ℕ = 64 - from in
       let more : ℕ = bits - left in
       let start : ℕ = recordNumber s / 2 ^ from in
-      let ends : from + left ≡ 64 = omega arith in
+      let word : from + left ≡ 64 = omega arith in
       let all : more + left ≡ bits = omega arith in
       let byte : next ≡ start / 2 ^ left % 2 ^ more =
-      low ∙ sym (ap (λ (n : ℕ). n % 2 ^ more) (shr-shr (recordNumber s) from left ∙ ap (λ (k : ℕ). recordNumber s / 2 ^ k) ends) ∙ ninth s 8 more inside (omega arith)) in
+      low ∙ sym (ap (λ (n : ℕ). n % 2 ^ more) (shr-shr (recordNumber s) from left ∙ ap (λ (k : ℕ). recordNumber s / 2 ^ k) word) ∙ ninth s 8 more (omega arith) (omega arith)) in
       let small : next < 2 ^ more = subst (λ (n : ℕ). n < 2 ^ more) (sym low) (mod-lt (getD s 8 0) (pow-pos more)) in
       ap₂ _+_ (first s from bits read few) (shl-exact more left 64 small (omega arith) ∙ ap (λ (n : ℕ). n * 2 ^ left) byte)
       ∙ add-comm _ _

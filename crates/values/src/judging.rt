@@ -2,28 +2,23 @@
 use crate::Sort;
 use crate::Valued;
 ghost use mathlib.Core.Path.{_≡_};
-ghost use mathlib.Core.Bool.{cond, true};
-ghost use Prim.Native.Nat.{_<_};
-ghost use lib.Dec.{ltb};
+ghost use mathlib.Core.Bool.{true};
+ghost use mathlib.Core.List.{[], _∷_};
 ghost use Rattle.paper.specs.rules.Answer.{report};
 ghost use Rattle.paper.specs.rules.Choice.{member};
 ghost use Rattle.values.specs.Given.{givenAsPaper, refusedAs, sortNumber};
 ghost use Rattle.values.specs.Promised.{judged, refusal, refusals};
 
-// A refusal that comes behind 30.
-fn behind_length(size: u32, len: u64, number: u32) -> u32
-    ensures { λ r. ⌜ r ≡ cond (ltb len size) 30 number ⌝ }
-{
-    if len < size as u64 { 30 } else { number }
-}
-
-// A numeric member. The end is compared in bytes, since eight times a length may pass 2^64.
+// Behind 31: by the record's length, by the member, and by the span. The end is compared in bytes, since eight times a length may pass 2^64.
 fn judge_span(number: u32, size: u32, from: u64, bits: u32, len: u64) -> u32
-    requires { ⌜ number < 2 ⌝ }
+    requires { ⌜ member number (0 ∷ 1 ∷ 32 ∷ 33 ∷ []) ≡ true ⌝ }
     ensures { λ r. ⌜ r ≡ judged (record { number = number; size = size; from = from; bits = bits }) len ⌝ }
 {
     if len < size as u64 {
         return 30;
+    }
+    if 1 < number {
+        return number;
     }
     if bits == 0 {
         return 33;
@@ -48,8 +43,8 @@ pub(crate) fn judge(sort: Sort, size: u32, from: u64, bits: u32, len: u64) -> u3
         Sort::HighFirst => 35,
         Sort::NoType => 21,
         Sort::NoStruct => 31,
-        Sort::NoMember => behind_length(size, len, 32),
-        Sort::NoNumber => behind_length(size, len, 33),
+        Sort::NoMember => judge_span(32, size, from, bits, len),
+        Sort::NoNumber => judge_span(33, size, from, bits, len),
     }
 }
 

@@ -3,8 +3,8 @@ use paper::Order;
 use paper::Place;
 use words::read;
 ghost use mathlib.Core.Path.{_≡_};
-ghost use Prim.Native.Nat.{_+_, _*_, _-_, _%_, _^_, _≤_, _<_, min};
-ghost use lib.ListN.{getD, length, take};
+ghost use Prim.Native.Nat.{_+_, _*_, _-_, _^_, _≤_, _<_, min};
+ghost use lib.ListN.{length, take};
 ghost use Rattle.values.specs.Promised.{numberAt, recordNumber};
 
 // So many ones.
@@ -13,14 +13,6 @@ pub(crate) fn ones(bits: u64) -> u64
     ensures { λ r. ⌜ r ≡ 2 ^ bits - 1 ⌝ }
 {
     u64::MAX >> (64 - bits)
-}
-
-// The low bits of a number.
-fn low_bits(x: u64, bits: u64) -> u64
-    requires { ⌜ (1 ≤ bits) × (bits ≤ 64) ⌝ }
-    ensures { λ r. ⌜ r ≡ x % 2 ^ bits ⌝ }
-{
-    x & ones(bits)
 }
 
 // The first eight bytes, as two words.
@@ -33,30 +25,18 @@ fn eight(s: &[u8]) -> u64
     (low as u64) + (high as u64) * 0x1_0000_0000
 }
 
-// A byte; 0 past the end.
-fn byte(s: &[u8], at: usize) -> u8
-    ensures { λ r. ⌜ r ≡ getD (now (s .entry)) at 0 ⌝ }
-{
-    if at < s.len() { s[at] } else { 0 }
-}
-
-// The first three bytes.
-fn three(s: &[u8]) -> u64
-    ensures { λ r. ⌜ r ≡ recordNumber (take 3 (now (s .entry))) ⌝ }
-{
-    (byte(s, 0) as u64) + (byte(s, 1) as u64) * 0x100 + (byte(s, 2) as u64) * 0x1_0000
-}
-
-// All of fewer than eight bytes: a word where there is one, and those behind it.
+// All of fewer than eight bytes, from the last on.
 fn few(s: &[u8]) -> u64
     requires { ⌜ length (now s) < 8 ⌝ }
     ensures { λ r. ⌜ r ≡ recordNumber (now (s .entry)) ⌝ }
 {
-    if s.len() < 4 {
-        return three(s);
+    let mut n: u64 = 0;
+    let mut i = s.len();
+    while 0 < i {
+        i -= 1;
+        n = n * 256 + (s[i] as u64);
     }
-    let low = read(Order::LowFirst, s, Place(0));
-    (low as u64) + three(&s[4..]) * 0x1_0000_0000
+    n
 }
 
 // The smaller of two places.
@@ -74,9 +54,9 @@ fn in_window(s: &[u8], from: u64, bits: u64) -> u64
     let low = eight(s) >> from;
     let left = 64 - from;
     if bits <= left {
-        return low_bits(low, bits);
+        return low & ones(bits);
     }
-    low + (low_bits(s[8] as u64, bits - left) << left)
+    low + (((s[8] as u64) & ones(bits - left)) << left)
 }
 
 // The bits of a span: the eight bytes from its first on are read, or the record's last eight.
@@ -85,7 +65,7 @@ pub(crate) fn number_at(s: &[u8], from: u64, bits: u64) -> u64
     ensures { λ r. ⌜ r ≡ numberAt from bits (now (s .entry)) ⌝ }
 {
     if s.len() < 8 {
-        return low_bits(few(s) >> from, bits);
+        return (few(s) >> from) & ones(bits);
     }
     let place = earlier((from / 8) as usize, s.len() - 8);
     in_window(&s[place..], from - 8 * (place as u64), bits)

@@ -9,28 +9,8 @@ ghost use mathlib.Core.List.{_++_};
 ghost use Prim.Native.Nat.{_+_, _*_, _^_, _≤_, _<_};
 ghost use lib.ListN.{length};
 ghost use Rattle.values.specs.Given.{bytesIn};
-ghost use Rattle.values.specs.Promised.{bytesFrom, filledNumber, isMinus, signedNumber};
+ghost use Rattle.values.specs.Promised.{bytesFrom, filledNumber, signedNumber};
 ghost use Rattle.values.specs.Value.{filledUp, spanBits};
-
-// The top bit is 1.
-fn is_minus(n: u64, bits: u64) -> bool
-    requires { ⌜ (1 ≤ bits) × (bits ≤ 64) ⌝ }
-    ensures { λ r. ⌜ r ≡ isMinus bits n ⌝ }
-{
-    n >> (bits - 1) == 1
-}
-
-// The exact value: 2^bits less where the top bit is 1.
-pub(crate) fn signed_of(n: u64, bits: u64) -> i64
-    requires { ⌜ (1 ≤ bits) × (bits ≤ 64) × (n < 2 ^ bits) ⌝ }
-    ensures { λ r. ⌜ r ≡ signedNumber bits n ⌝ }
-{
-    if is_minus(n, bits) {
-        let k = ones(bits) - n;
-        return -(k as i64) - 1;
-    }
-    n as i64
-}
 
 // Filled up to 64 bits with its top bit where it is signed, else with zeros.
 fn filled(n: u64, bits: u64, signed: bool) -> u64
@@ -40,12 +20,25 @@ fn filled(n: u64, bits: u64, signed: bool) -> u64
     if !signed {
         return n;
     }
-    if !is_minus(n, bits) {
+    if n >> (bits - 1) != 1 {
         return n;
     }
     let all = ones(bits);
     let k = all - n;
     u64::MAX - k
+}
+
+// The exact value: 2^bits less where the top bit is 1.
+pub(crate) fn signed_of(n: u64, bits: u64) -> i64
+    requires { ⌜ (1 ≤ bits) × (bits ≤ 64) × (n < 2 ^ bits) ⌝ }
+    ensures { λ r. ⌜ r ≡ signedNumber bits n ⌝ }
+{
+    let x = filled(n, bits, true);
+    if x < 0x8000_0000_0000_0000 {
+        return x as i64;
+    }
+    let k = u64::MAX - x;
+    -(k as i64) - 1
 }
 
 // The bytes of two numbers, low byte first.

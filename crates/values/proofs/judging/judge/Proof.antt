@@ -29,14 +29,14 @@ enum-told-5 c = search needs
 enum-told-6 : tie.Need-enum-told-6
 enum-told-6 c = search needs
 
-behind-length-requires : tie.Need-behind-length-requires
-behind-length-requires c κs = search needs
+judge-span-requires-3 : tie.Need-judge-span-requires-3
+judge-span-requires-3 c κs = search needs
 
 enum-told-7 : tie.Need-enum-told-7
 enum-told-7 c = search needs
 
-behind-length-requires-2 : tie.Need-behind-length-requires-2
-behind-length-requires-2 c κs = search needs
+judge-span-requires-4 : tie.Need-judge-span-requires-4
+judge-span-requires-4 c κs = search needs
 
 returns : tie.Need-returns
 returns c = let a = c .before .before .before .args in sort-unsigned (a .size) (a .from) (a .bits) (a .len) (c .before .enum-told .given .1) (c .judge-span .ensures)
@@ -54,10 +54,10 @@ returns-5 : tie.Need-returns-5
 returns-5 c = let a = c .before .before .args in sort-struct (a .size) (a .from) (a .bits) (a .len) (c .enum-told5 .given .1)
 
 returns-6 : tie.Need-returns-6
-returns-6 c = let a = c .before .before .before .args in sort-member (a .size) (a .from) (a .bits) (a .len) (c .before .enum-told6 .given .1) (c .behind-length .ensures)
+returns-6 c = let a = c .before .before .before .args in sort-member (a .size) (a .from) (a .bits) (a .len) (c .before .enum-told6 .given .1) (c .judge-span3 .ensures)
 
 returns-7 : tie.Need-returns-7
-returns-7 c = let a = c .before .before .before .args in sort-number (a .size) (a .from) (a .bits) (a .len) (c .before .enum-told7 .given .1) (c .behind-length2 .ensures)
+returns-7 c = let a = c .before .before .before .args in sort-number (a .size) (a .from) (a .bits) (a .len) (c .before .enum-told7 .given .1) (c .judge-span4 .ensures)
 
 pub judge-spec : {M : Type 1} → statement M
 judge-spec =
@@ -71,9 +71,9 @@ judge-spec =
     enum-told-4
     enum-told-5
     enum-told-6
-    behind-length-requires
+    judge-span-requires-3
     enum-told-7
-    behind-length-requires-2
+    judge-span-requires-4
     returns
     returns-2
     returns-3

@@ -1,73 +1,64 @@
--- `values::numbers::few` meets its contract.
+-- `values::numbers::few` meets its contract. What is passed is the number of the bytes from i on.
 -- Assumes nothing.
-use Prim.Native.Nat.{ℕ, _-_, _^_, _<_}
-use mathlib.Core.Path.{sym, ap, _∙_, subst}
+use Prim.Native.Nat.{_-_, _<_}
 use native.Mathlib.Omega.{arith}
 use denote.Ref.{now}
-use lib.ListN.{length, take, drop}
-use lib.Seq.{take-all}
-use Rattle.paper.proofs.bytes.Bytes.{slice-bytes}
-use Rattle.values.proofs.BitNumbers.{number-first-below}
-use Rattle.values.proofs.ReadBytes.{read-short}
-use Rattle.values.specs.Promised.{recordNumber}
-use borrow.Author.Needs.{needs}
+use lib.ListN.{getD}
+use Rattle.values.proofs.ReadBytes.{FewInv, few-start, few-below, few-step, few-done}
 use Rattle.values.proofs.numbers.few.Statement.{statement}
 use Rattle.values.proofs.numbers.few.Tie as tie
 
-rest-below : (c : tie.After-three2) → c .three2 .result < 2 ^ 24
-rest-below c =
-    let s = now (c .before .before .before .before .before .args .s) in
-    subst (λ (n : ℕ). n < 2 ^ 24) (sym (c .three2 .ensures)) (number-first-below 3 (take (length s - 4) (drop 4 s)))
+abbrev Inv-loop : tie.InvT-loop
+Inv-loop s n₀ i₀ n i = FewInv s n i
 
-three-requires : tie.Need-three-requires
-three-requires c κs = search needs
+abbrev μ-loop : tie.MeasureT-loop
+μ-loop s n₀ i₀ n i = i
 
-returns : tie.Need-returns
-returns c = c .three .ensures ∙ ap recordNumber (take-all 3 (now (c .before .before .before .args .s)) (omega arith))
+loop-holds : tie.Need-loop-holds Inv-loop μ-loop
+loop-holds c = few-start (now (c .args .s))
 
-read-requires : tie.Need-read-requires
-read-requires c κs = search needs
+sub-i : tie.Need-sub-i Inv-loop μ-loop
+sub-i c = c .loop-test .taken
 
-cast-result : tie.Need-cast-result
-cast-result c = search needs
+mul-n : tie.Need-mul-n Inv-loop μ-loop
+mul-n c = let b = few-below (now (c .before .before .args .s)) (c .before .before .pre) (c .before .loop .inv) in omega arith
 
-sub-three : tie.Need-sub-three
-sub-three c = search needs
+shared-slice-read-n : tie.Need-shared-slice-read-n Inv-loop μ-loop
+shared-slice-read-n c = omega arith
 
-part-three-start : tie.Need-part-three-start
-part-three-start c = search needs
+byte : (c : tie.After-shared-slice-known Inv-loop μ-loop) → getD (now (c .before .before .before .args .s)) (c .before .before .loop .i - 1) 0 < 256
+byte c = c .shared-slice-known .given (c .before .before .loop .i - 1) .fits
 
-part-three-end : tie.Need-part-three-end
-part-three-end c = search needs
+cast-n : tie.Need-cast-n Inv-loop μ-loop
+cast-n c = omega (arith, byte c)
 
-three-requires-2 : tie.Need-three-requires-2
-three-requires-2 c κs = search needs
+add-n : tie.Need-add-n Inv-loop μ-loop
+add-n c =
+    let l = c .before .before in
+    let b = few-below (now (l .before .args .s)) (l .before .pre) (l .loop .inv) in
+    omega (arith, byte c)
 
-mul-result : tie.Need-mul-result
-mul-result c = omega (arith, rest-below c)
+loop-less : tie.Need-loop-less Inv-loop μ-loop
+loop-less c = omega arith
 
-add-result : tie.Need-add-result
-add-result c = omega (arith, rest-below c)
+loop-again : tie.Need-loop-again Inv-loop μ-loop
+loop-again c = few-step (now (c .before .before .before .args .s)) (c .before .before .loop .inv) (c .before .loop-test .taken) (byte c)
 
-returns-2 : tie.Need-returns-2
-returns-2 c =
-    let r = c .before .before in
-    let k = r .before .before in
-    let s = now (k .before .args .s) in
-    read-short s (slice-bytes s (k .shared-slice-known .given)) (r .read .ensures) (omega arith) (c .three2 .ensures) (omega arith)
+returns : tie.Need-returns Inv-loop μ-loop
+returns c = few-done (now (c .before .before .args .s)) (c .before .loop .inv) (omega arith)
 
 pub few-spec : {M : Type 1} → statement M
 few-spec =
     tie.close
     (tie.spec
-    three-requires
-    returns
-    read-requires
-    cast-result
-    sub-three
-    part-three-start
-    part-three-end
-    three-requires-2
-    mul-result
-    add-result
-    returns-2)
+    Inv-loop
+    μ-loop
+    loop-holds
+    sub-i
+    mul-n
+    shared-slice-read-n
+    cast-n
+    add-n
+    loop-less
+    loop-again
+    returns)

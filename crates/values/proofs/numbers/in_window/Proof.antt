@@ -1,8 +1,9 @@
 -- `values::numbers::in_window` meets its contract: the eight bytes, or the ninth's low bits above them.
 -- Assumes nothing.
+use Prim.Native.Nat.{_-_}
 use native.Mathlib.Omega.{arith}
 use denote.Ref.{now}
-use Rattle.values.proofs.Windows.{read-inside, read-across, across-fits}
+use Rattle.values.proofs.Windows.{masked, read-inside, read-across, across-fits}
 use borrow.Author.Needs.{needs}
 use Rattle.values.proofs.numbers.in_window.Statement.{statement}
 use Rattle.values.proofs.numbers.in_window.Tie as tie
@@ -16,26 +17,27 @@ shr-low c = search needs
 sub-left : tie.Need-sub-left
 sub-left c = search needs
 
-low-bits-requires : tie.Need-low-bits-requires
-low-bits-requires c κs = search needs
+ones-requires : tie.Need-ones-requires
+ones-requires c κs = search needs
 
 returns : tie.Need-returns
 returns c =
     let e = c .before .before in
-    let a = e .before .before .args in
-    read-inside (now (a .s)) (a .from) (a .bits) (e .eight .ensures) (omega arith) (c .low-bits .ensures) (omega arith)
+    let g = e .before .before in
+    let a = g .args in
+    read-inside (now (a .s)) (a .from) (a .bits) (e .eight .ensures) (g .pre .1) (masked _ (a .bits) (c .ones .ensures)) (c .before .if1 .taken)
 
-shared-slice-read-low-bits : tie.Need-shared-slice-read-low-bits
-shared-slice-read-low-bits c = search needs
+shared-slice-read-result : tie.Need-shared-slice-read-result
+shared-slice-read-result c = search needs
 
-cast-low-bits : tie.Need-cast-low-bits
-cast-low-bits c = omega (arith, c .shared-slice-known2 .given 8)
+cast-result : tie.Need-cast-result
+cast-result c = omega (arith, c .shared-slice-known2 .given 8)
 
-sub-low-bits : tie.Need-sub-low-bits
-sub-low-bits c = search needs
+sub-ones : tie.Need-sub-ones
+sub-ones c = search needs
 
-low-bits-requires-2 : tie.Need-low-bits-requires-2
-low-bits-requires-2 c κs = search needs
+ones-requires-2 : tie.Need-ones-requires-2
+ones-requires-2 c κs = search needs
 
 shl-result : tie.Need-shl-result
 shl-result c = search needs
@@ -43,16 +45,23 @@ shl-result c = search needs
 add-result : tie.Need-add-result
 add-result c =
     let e = c .before .before .before in
-    let a = e .before .before .args in
+    let g = e .before .before in
+    let a = g .args in
+    let p = g .pre in
     record {
-      fits = across-fits (now (a .s)) (a .from) (a .bits) (e .eight .ensures) (c .low-bits2 .ensures) (omega arith) (omega arith) (omega arith) (omega arith) (omega arith);
+      fits =
+          across-fits (now (a .s)) (a .from) (a .bits) (e .eight .ensures) (masked _ (a .bits - (64 - a .from)) (c .ones2 .ensures)) (p .1) (c .before .before .if1 .left) (p .3)
+          (p .4) (p .5);
     }
 
 returns-2 : tie.Need-returns-2
 returns-2 c =
     let e = c .before .before .before in
-    let a = e .before .before .args in
-    read-across (now (a .s)) (a .from) (a .bits) (e .eight .ensures) (c .low-bits2 .ensures) (omega arith) (omega arith) (omega arith) (omega arith) (omega arith)
+    let g = e .before .before in
+    let a = g .args in
+    let p = g .pre in
+    read-across (now (a .s)) (a .from) (a .bits) (e .eight .ensures) (masked _ (a .bits - (64 - a .from)) (c .ones2 .ensures)) (p .1) (c .before .before .if1 .left) (p .3)
+    (p .4) (p .5)
 
 pub in-window-spec : {M : Type 1} → statement M
 in-window-spec =
@@ -61,12 +70,12 @@ in-window-spec =
     eight-requires
     shr-low
     sub-left
-    low-bits-requires
+    ones-requires
     returns
-    shared-slice-read-low-bits
-    cast-low-bits
-    sub-low-bits
-    low-bits-requires-2
+    shared-slice-read-result
+    cast-result
+    sub-ones
+    ones-requires-2
     shl-result
     add-result
     returns-2)

@@ -2,7 +2,7 @@
 -- Assumes nothing.
 use native.Mathlib.Omega.{arith}
 use denote.Ref.{now}
-use Rattle.values.proofs.Windows.{read-few, read-part}
+use Rattle.values.proofs.Windows.{masked, read-few, read-part}
 use borrow.Author.Needs.{needs}
 use Rattle.values.proofs.numbers.number_at.Statement.{statement}
 use Rattle.values.proofs.numbers.number_at.Tie as tie
@@ -10,16 +10,17 @@ use Rattle.values.proofs.numbers.number_at.Tie as tie
 few-requires : tie.Need-few-requires
 few-requires c κs = search needs
 
-shr-low-bits : tie.Need-shr-low-bits
-shr-low-bits c = search needs
+shr-result : tie.Need-shr-result
+shr-result c = search needs
 
-low-bits-requires : tie.Need-low-bits-requires
-low-bits-requires c κs = search needs
+ones-requires : tie.Need-ones-requires
+ones-requires c κs = search needs
 
 returns : tie.Need-returns
 returns c =
-    let a = c .before .before .before .before .args in
-    read-few (now (a .s)) (a .from) (a .bits) (c .before .few .ensures) (c .low-bits .ensures)
+    let f = c .before in
+    let a = f .before .before .before .args in
+    read-few (now (a .s)) (a .from) (a .bits) (f .few .ensures) (masked _ (a .bits) (c .ones .ensures))
 
 sub-earlier : tie.Need-sub-earlier
 sub-earlier c = search needs
@@ -56,8 +57,8 @@ number-at-spec =
     tie.close
     (tie.spec
     few-requires
-    shr-low-bits
-    low-bits-requires
+    shr-result
+    ones-requires
     returns
     sub-earlier
     earlier-requires
