@@ -70,16 +70,20 @@ fn place(s: &[u32], i: usize) -> u32
     s[i]
 }
 
-// The span that five places hold.
+// The span that five places hold. The last is read first: where it is there, so are the others, and nothing more is tested.
 pub fn span_in(s: &[u32]) -> MemberSpan
     ensures { λ r. ⌜ foundAsPaper r ≡ foundIn (now (s .entry)) ⌝ }
 {
-    let low = place(s, 2) as u64;
     let high = place(s, 4) as u64;
+    let bits = place(s, 3);
+    let low = place(s, 2) as u64;
+    let size = place(s, 1);
+    let sort = sort_of(place(s, 0));
+    let from = low + 4294967296 * high;
     MemberSpan {
-        sort: sort_of(place(s, 0)),
-        size: place(s, 1),
-        from: low + 4294967296 * high,
-        bits: place(s, 3),
+        sort,
+        size,
+        from,
+        bits,
     }
 }

@@ -6,10 +6,10 @@ mod signs; // with a sign, and as sixteen bytes
 
 use judging::judge;
 use judging::refused;
-pub use signs::sixteen;
 use paper::Report;
 use reading::bytes_at;
 use reading::value_at;
+pub use signs::sixteen;
 ghost use mathlib.Core.Path.{_≡_};
 ghost use Rattle.values.specs.Given.{foundAsPaper, given, givenAsPaper, readFound};
 
