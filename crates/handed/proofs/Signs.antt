@@ -70,13 +70,13 @@ pub over-low : (z : ℤ) → mag z < 2 ^ 63 → ltZ (held z) (pos 0) ≡ true �
 over-low (pos n) h e = absurd (not-below n h e)
 over-low (negsuc k) h e = subst (λ (x : ℤ). natAbs x ≤ 18446744073709551615) (sym (back k h)) (omega arith)
 
-pub bytes-minus : (z : ℤ) → mag z < 2 ^ 63 → ltZ (held z) (pos 0) ≡ true
-    → bytesFrom 8 0 (18446744073709551615 - natAbs (over z)) ++ bytesFrom 8 0 18446744073709551615 ≡ intBytes z
+pub word-minus : (z : ℤ) → mag z < 2 ^ 63 → ltZ (held z) (pos 0) ≡ true → 18446744073709551615 - natAbs (over z) ≡ ofZ w64 z
+word-minus (pos n) h e = absurd (not-below n h e)
+word-minus (negsuc k) h e = ap (λ (x : ℤ). 18446744073709551615 - natAbs x) (back k h) ∙ omega arith
+
+pub bytes-minus : (z : ℤ) → mag z < 2 ^ 63 → ltZ (held z) (pos 0) ≡ true → bytesFrom 8 0 (ofZ w64 z) ++ bytesFrom 8 0 18446744073709551615 ≡ intBytes z
 bytes-minus (pos n) h e = absurd (not-below n h e)
-bytes-minus (negsuc k) h e =
-    let low : 18446744073709551615 - k ≡ 2 ^ 64 - suc k = omega arith in
-    ap (λ (x : ℤ). bytesFrom 8 0 (18446744073709551615 - natAbs x) ++ bytesFrom 8 0 18446744073709551615) (back k h)
-    ∙ ap (λ (x : ℕ). bytesFrom 8 0 x ++ bytesFrom 8 0 18446744073709551615) low
+bytes-minus (negsuc k) h e = refl
 
 -- ── any other ──
 
@@ -84,6 +84,10 @@ pub held-fits : (z : ℤ) → mag z < 2 ^ 63 → ltZ (held z) (pos 0) ≡ false 
 held-fits (pos n) h e = subst (λ (x : ℤ). T (nonNeg x) × Fits w64 (natAbs x)) (sym (held-is (pos n) h)) (tt, record { fits = omega arith })
 held-fits (negsuc k) h e = absurd (false≢true (sym e ∙ ap (λ (x : ℤ). ltZ x (pos 0)) (held-is (negsuc k) h)))
 
-pub bytes-plus : (z : ℤ) → mag z < 2 ^ 63 → ltZ (held z) (pos 0) ≡ false → bytesFrom 8 0 (natAbs (held z)) ++ bytesFrom 8 0 0 ≡ intBytes z
-bytes-plus (pos n) h e = ap (λ (x : ℤ). bytesFrom 8 0 (natAbs x) ++ bytesFrom 8 0 0) (held-is (pos n) h)
+pub word-plus : (z : ℤ) → mag z < 2 ^ 63 → ltZ (held z) (pos 0) ≡ false → natAbs (held z) ≡ ofZ w64 z
+word-plus (pos n) h e = ap natAbs (held-is (pos n) h)
+word-plus (negsuc k) h e = absurd (false≢true (sym e ∙ ap (λ (x : ℤ). ltZ x (pos 0)) (held-is (negsuc k) h)))
+
+pub bytes-plus : (z : ℤ) → mag z < 2 ^ 63 → ltZ (held z) (pos 0) ≡ false → bytesFrom 8 0 (ofZ w64 z) ++ bytesFrom 8 0 0 ≡ intBytes z
+bytes-plus (pos n) h e = refl
 bytes-plus (negsuc k) h e = absurd (false≢true (sym e ∙ ap (λ (x : ℤ). ltZ x (pos 0)) (held-is (negsuc k) h)))

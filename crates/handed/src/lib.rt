@@ -10,20 +10,32 @@ use values::MemberValue;
 use values::Valued;
 use values::sixteen;
 ghost use mathlib.Core.Path.{_≡_};
+ghost use mir.Syntax.{w64};
+ghost use mir.Val.{ofZ};
 ghost use Rattle.answers.specs.Numbers.{asPaper};
 ghost use Rattle.handed.specs.Handed.{intBytes, numbersOf, sixteenOf, spanNumbers};
 ghost use Rattle.paper.specs.rules.Answer.{inside, report};
 ghost use Rattle.values.specs.Given.{givenAsPaper};
+
+// The 64 bits of an integer, as a number.
+pub fn word_of(z: i64) -> u64
+    ensures { λ r. ⌜ r ≡ ofZ w64 z ⌝ }
+{
+    if z < 0 {
+        let k = -(z + 1);
+        return 0xffff_ffff_ffff_ffff - (k as u64);
+    }
+    z as u64
+}
 
 // An integer's sixteen bytes.
 fn of_int(z: i64) -> [u8; 16]
     ensures { λ r. ⌜ r ≡ intBytes z ⌝ }
 {
     if z < 0 {
-        let k = -(z + 1);
-        return sixteen(0xffff_ffff_ffff_ffff - (k as u64), 0xffff_ffff_ffff_ffff);
+        return sixteen(word_of(z), 0xffff_ffff_ffff_ffff);
     }
-    sixteen(z as u64, 0)
+    sixteen(word_of(z), 0)
 }
 
 // The sixteen bytes of a value, low byte first, however many bits it has.

@@ -4,6 +4,7 @@ use bases::record_of;
 use entries::put_signed;
 use entries::value_entry;
 use entries::value_number;
+use handed::word_of;
 use kindrows::ENUM;
 use kindrows::ENUM64;
 use lines::Out;
@@ -18,15 +19,6 @@ use rows::name_of;
 use rows::vlen_of;
 use values::MemberValue;
 use values::Valued;
-
-// A number with a sign, as 64 bits have it.
-fn word_of(z: i64) -> u64 {
-    if z < 0 {
-        let k = -(z + 1);
-        return 18446744073709551615 - (k as u64);
-    }
-    z as u64
-}
 
 // Which value of an enum has a number; as many as there are where none has it.
 fn value_at(order: Order, r: &[u8], number: u64) -> u32 {
