@@ -13,7 +13,6 @@ use Rattle.values.proofs.FoundRules.{number-plain, number-refused, due-
 use Rattle.values.proofs.GivenValues.{given-parts, given-none, given-due}
 use Rattle.values.specs.Given.{foundRules, sortNumber, foundAsPaper}
 use Rattle.values.specs.declared.MemberSpan.{MemberSpan}
-use borrow.Author.Needs.{needs}
 use Rattle.values.proofs.value_of.Statement.{statement}
 use Rattle.values.proofs.value_of.Tie as tie
 
@@ -31,7 +30,7 @@ module _ (e : tie.Else1) where
   inside = due-none (foundAsPaper m) (length s) (none-due .0)
 
 judge-requires : tie.Need-judge-requires
-judge-requires c κs = search needs
+judge-requires c κs = tt
 
 refused-requires : tie.Need-refused-requires
 refused-requires c κs =

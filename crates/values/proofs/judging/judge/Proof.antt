@@ -1,5 +1,6 @@
 -- `values::judging::judge` meets its contract: by the sort.
 -- Assumes nothing.
+use mathlib.Core.Path.{refl}
 use Rattle.values.proofs.FoundRules.{sort-unsigned, sort-signed, sort-high, sort-type, sort-struct, sort-member, sort-number}
 use borrow.Author.Needs.{needs}
 use Rattle.values.proofs.judging.judge.Statement.{statement}
@@ -9,13 +10,13 @@ enum-told : tie.Need-enum-told
 enum-told c = search needs
 
 judge-span-requires : tie.Need-judge-span-requires
-judge-span-requires c κs = search needs
+judge-span-requires c κs = refl
 
 enum-told-2 : tie.Need-enum-told-2
 enum-told-2 c = search needs
 
 judge-span-requires-2 : tie.Need-judge-span-requires-2
-judge-span-requires-2 c κs = search needs
+judge-span-requires-2 c κs = refl
 
 enum-told-3 : tie.Need-enum-told-3
 enum-told-3 c = search needs
@@ -30,13 +31,13 @@ enum-told-6 : tie.Need-enum-told-6
 enum-told-6 c = search needs
 
 judge-span-requires-3 : tie.Need-judge-span-requires-3
-judge-span-requires-3 c κs = search needs
+judge-span-requires-3 c κs = refl
 
 enum-told-7 : tie.Need-enum-told-7
 enum-told-7 c = search needs
 
 judge-span-requires-4 : tie.Need-judge-span-requires-4
-judge-span-requires-4 c κs = search needs
+judge-span-requires-4 c κs = refl
 
 returns : tie.Need-returns
 returns c = let a = c .before .before .before .args in sort-unsigned (a .size) (a .from) (a .bits) (a .len) (c .before .enum-told .given .1) (c .judge-span .ensures)

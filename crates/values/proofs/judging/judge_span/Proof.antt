@@ -1,7 +1,7 @@
 -- `values::judging::judge_span` meets its contract: each rule in its turn.
 -- Assumes nothing.
+use native.Mathlib.Omega.{arith}
 use Rattle.values.proofs.FoundRules.{late-short, late-refused, late-no-bits, late-many-bits, late-behind, late-inside}
-use borrow.Author.Needs.{needs}
 use Rattle.values.proofs.judging.judge_span.Statement.{statement}
 use Rattle.values.proofs.judging.judge_span.Tie as tie
 
@@ -18,13 +18,13 @@ returns-4 : tie.Need-returns-4
 returns-4 c = let b = c .before .before .before .before in late-many-bits (b .args .number) (b .pre) (b .args .size) (b .args .from) (b .args .bits) (b .args .len) (c .before .before .before .if1 .left) (c .before .before .if2 .left) (c .before .if3 .left) (c .if4 .taken)
 
 add-end : tie.Need-add-end
-add-end c = search needs
+add-end c = omega arith
 
 add-end-2 : tie.Need-add-end-2
-add-end-2 c = search needs
+add-end-2 c = omega arith
 
 add-end-3 : tie.Need-add-end-3
-add-end-3 c = search needs
+add-end-3 c = omega arith
 
 returns-5 : tie.Need-returns-5
 returns-5 c = let b = c .before .before .before .before .before in late-behind (b .args .number) (b .pre) (b .args .size) (b .args .from) (b .args .bits) (b .args .len) (c .before .before .before .before .if1 .left) (c .before .before .before .if2 .left) (c .before .before .if3 .left) (c .before .if4 .left) (c .if5 .taken)

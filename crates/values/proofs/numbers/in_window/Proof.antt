@@ -12,10 +12,10 @@ eight-requires : tie.Need-eight-requires
 eight-requires c κs = search needs
 
 shr-low : tie.Need-shr-low
-shr-low c = search needs
+shr-low c = omega arith
 
 sub-left : tie.Need-sub-left
-sub-left c = search needs
+sub-left c = omega arith
 
 ones-requires : tie.Need-ones-requires
 ones-requires c κs = search needs
@@ -28,19 +28,19 @@ returns c =
     read-inside (now (a .s)) (a .from) (a .bits) (e .eight .ensures) (g .pre .1) (masked _ (a .bits) (c .ones .ensures)) (c .before .if1 .taken)
 
 shared-slice-read-result : tie.Need-shared-slice-read-result
-shared-slice-read-result c = search needs
+shared-slice-read-result c = omega arith
 
 cast-result : tie.Need-cast-result
 cast-result c = omega (arith, c .shared-slice-known2 .given 8)
 
 sub-ones : tie.Need-sub-ones
-sub-ones c = search needs
+sub-ones c = omega arith
 
 ones-requires-2 : tie.Need-ones-requires-2
 ones-requires-2 c κs = search needs
 
 shl-result : tie.Need-shl-result
-shl-result c = search needs
+shl-result c = omega arith
 
 add-result : tie.Need-add-result
 add-result c =

@@ -11,7 +11,7 @@ few-requires : tie.Need-few-requires
 few-requires c κs = search needs
 
 shr-result : tie.Need-shr-result
-shr-result c = search needs
+shr-result c = omega arith
 
 ones-requires : tie.Need-ones-requires
 ones-requires c κs = search needs
@@ -23,25 +23,25 @@ returns c =
     read-few (now (a .s)) (a .from) (a .bits) (f .few .ensures) (masked _ (a .bits) (c .ones .ensures))
 
 sub-earlier : tie.Need-sub-earlier
-sub-earlier c = search needs
+sub-earlier c = omega arith
 
 earlier-requires : tie.Need-earlier-requires
-earlier-requires c κs = search needs
+earlier-requires c κs = tt
 
 sub-in-window : tie.Need-sub-in-window
-sub-in-window c = search needs
+sub-in-window c = omega arith
 
 part-in-window-start : tie.Need-part-in-window-start
-part-in-window-start c = search needs
+part-in-window-start c = omega arith
 
 part-in-window-end : tie.Need-part-in-window-end
-part-in-window-end c = search needs
+part-in-window-end c = omega arith
 
 mul-in-window : tie.Need-mul-in-window
-mul-in-window c = search needs
+mul-in-window c = omega arith
 
 sub-in-window-2 : tie.Need-sub-in-window-2
-sub-in-window-2 c = search needs
+sub-in-window-2 c = omega arith
 
 in-window-requires : tie.Need-in-window-requires
 in-window-requires c κs = search needs

@@ -1,5 +1,6 @@
 -- `values::signs::filled` meets its contract.
 -- Assumes nothing.
+use native.Mathlib.Omega.{arith}
 use Rattle.values.proofs.SignNumbers.{filled-zeros, filled-plus, filled-minus}
 use borrow.Author.Needs.{needs}
 use Rattle.values.proofs.signs.filled.Statement.{statement}
@@ -9,10 +10,10 @@ returns : tie.Need-returns
 returns c = let a = c .before .args in filled-zeros (a .bits) (a .signed) (c .if1 .taken)
 
 sub-if2 : tie.Need-sub-if2
-sub-if2 c = search needs
+sub-if2 c = omega arith
 
 shr-if2 : tie.Need-shr-if2
-shr-if2 c = search needs
+shr-if2 c = omega arith
 
 returns-2 : tie.Need-returns-2
 returns-2 c = let a = c .before .before .args in filled-plus (a .bits) (a .signed) (c .before .if1 .left) (c .if2 .taken)
@@ -21,10 +22,10 @@ ones-requires : tie.Need-ones-requires
 ones-requires c κs = search needs
 
 sub-k : tie.Need-sub-k
-sub-k c = search needs
+sub-k c = omega arith
 
 sub-result : tie.Need-sub-result
-sub-result c = search needs
+sub-result c = omega arith
 
 returns-3 : tie.Need-returns-3
 returns-3 c =

@@ -1,5 +1,6 @@
 -- `values::signs::long_bytes` meets its contract.
 -- Assumes nothing.
+use native.Mathlib.Omega.{arith}
 use Prim.Native.Nat.{ℕ, _-_, _^_, _<_}
 use mathlib.Core.Path.{sym, subst}
 use denote.Ref.{now}
@@ -13,22 +14,22 @@ number-at-requires : tie.Need-number-at-requires
 number-at-requires c κs = search needs
 
 sub-number-at : tie.Need-sub-number-at
-sub-number-at c = search needs
+sub-number-at c = omega arith
 
 part-number-at-start : tie.Need-part-number-at-start
-part-number-at-start c = search needs
+part-number-at-start c = omega arith
 
 part-number-at-end : tie.Need-part-number-at-end
-part-number-at-end c = search needs
+part-number-at-end c = omega arith
 
 sub-number-at-2 : tie.Need-sub-number-at-2
-sub-number-at-2 c = search needs
+sub-number-at-2 c = omega arith
 
 number-at-requires-2 : tie.Need-number-at-requires-2
 number-at-requires-2 c κs = search needs
 
 sub-filled : tie.Need-sub-filled
-sub-filled c = search needs
+sub-filled c = omega arith
 
 filled-requires : tie.Need-filled-requires
 filled-requires c κs =
@@ -36,7 +37,7 @@ filled-requires c κs =
     (search needs, search needs, subst (λ (n : ℕ). n < 2 ^ (a .bits - 64)) (sym (c .number-at2 .ensures)) (number-below (a .from) (a .bits - 64) _))
 
 sixteen-requires : tie.Need-sixteen-requires
-sixteen-requires c κs = search needs
+sixteen-requires c κs = tt
 
 returns : tie.Need-returns
 returns c =

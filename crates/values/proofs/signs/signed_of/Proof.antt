@@ -18,7 +18,7 @@ filled-requires : tie.Need-filled-requires
 filled-requires c κs = search needs
 
 cast-result : tie.Need-cast-result
-cast-result c = search needs
+cast-result c = omega arith
 
 returns : tie.Need-returns
 returns c =
@@ -27,10 +27,10 @@ returns c =
     value-plus (p .0) (p .1) (p .2) (f .filled .ensures) (c .if1 .taken) (toZ-pos w64 (c .if1 .taken))
 
 sub-k : tie.Need-sub-k
-sub-k c = search needs
+sub-k c = omega arith
 
 cast-result-2 : tie.Need-cast-result-2
-cast-result-2 c = search needs
+cast-result-2 c = omega arith
 
 sub-result : tie.Need-sub-result
 sub-result c = negated-fits (k-fits c)

@@ -1,45 +1,47 @@
 -- `values::signs::sixteen` meets its contract.
 -- Assumes nothing.
+use mathlib.Core.Path.{refl}
+use native.Mathlib.Omega.{arith}
 use Rattle.values.proofs.LongBytes.{read-16}
 use borrow.Author.Needs.{needs}
 use Rattle.values.proofs.signs.sixteen.Statement.{statement}
 use Rattle.values.proofs.signs.sixteen.Tie as tie
 
 slice-aggregate-write : tie.Need-slice-aggregate-write
-slice-aggregate-write c = search needs
+slice-aggregate-write c = refl
 
 cast-write : tie.Need-cast-write
-cast-write c = search needs
+cast-write c = omega arith
 
 write-requires : tie.Need-write-requires
-write-requires c κs = search needs
+write-requires c κs = tt
 
 slice-aggregate-write-2 : tie.Need-slice-aggregate-write-2
 slice-aggregate-write-2 c = search needs
 
 cast-write-2 : tie.Need-cast-write-2
-cast-write-2 c = search needs
+cast-write-2 c = omega arith
 
 write-requires-2 : tie.Need-write-requires-2
-write-requires-2 c κs = search needs
+write-requires-2 c κs = tt
 
 slice-aggregate-write-3 : tie.Need-slice-aggregate-write-3
 slice-aggregate-write-3 c = search needs
 
 cast-write-3 : tie.Need-cast-write-3
-cast-write-3 c = search needs
+cast-write-3 c = omega arith
 
 write-requires-3 : tie.Need-write-requires-3
-write-requires-3 c κs = search needs
+write-requires-3 c κs = tt
 
 slice-aggregate-write-4 : tie.Need-slice-aggregate-write-4
 slice-aggregate-write-4 c = search needs
 
 cast-write-4 : tie.Need-cast-write-4
-cast-write-4 c = search needs
+cast-write-4 c = omega arith
 
 write-requires-4 : tie.Need-write-requires-4
-write-requires-4 c κs = search needs
+write-requires-4 c κs = tt
 
 returns : tie.Need-returns
 returns c =
