@@ -14,3 +14,4 @@ pub mod Spans
 pub mod Soughts
 pub mod JoinValues
 pub mod ReadBench
+pub mod GivenOnes
