@@ -5,7 +5,7 @@ use mathlib.Core.Path.{_≡_, sym, _∙_}
 use mathlib.Core.List.{List}
 use Rattle.abi.specs.Told.{CheckTold, JoinTold, MemberTold, ValueTold, partAnswer, spanIn, toldIn}
 use Rattle.paper.specs.rules.Size.{sizeOf}
-use Rattle.values.specs.Given.{Found, Given}
+use Rattle.values.specs.Given.{Finding, Given}
 
 pub check-told-one : {b told : List ℕ} {places workPlaces : ℕ} {index index′ work work′ answer answer′ : List ℕ}
     → CheckTold b places workPlaces told index work answer → CheckTold b places workPlaces told index′ work′ answer′
@@ -26,7 +26,7 @@ pub join-told-one : {a b : List ℕ} {places workPlaces : ℕ} {out told index i
 join-told-one h k =
     (h .indexes ∙ sym (k .indexes), h .works ∙ sym (k .works), h .outputs ∙ sym (k .outputs), h .answers ∙ sym (k .answers))
 
-pub span-told-one : (f : Found) (told : List ℕ) {span span′ : List ℕ} → span ≡ spanIn f told → span′ ≡ spanIn f told → span ≡ span′
+pub span-told-one : (f : Finding) (told : List ℕ) {span span′ : List ℕ} → span ≡ spanIn f told → span′ ≡ spanIn f told → span ≡ span′
 span-told-one f told h k = h ∙ sym k
 
 pub value-told-one : {g : Given} {told room answer answer′ value value′ : List ℕ} → ValueTold g told room answer value → ValueTold g told room answer′ value′

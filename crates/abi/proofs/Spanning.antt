@@ -16,7 +16,7 @@ use Rattle.paper.specs.declared.Checked.{Checked}
 use Rattle.paper.specs.declared.Checked.the-variants.{Accepted, Refused}
 use Rattle.paper.specs.declared.Report.{Report}
 use Rattle.paper.specs.terms.Fit.{Bytes}
-use Rattle.values.specs.Given.{Found, Given, sortNumber, foundAsPaper, readFound, refusedAs, given}
+use Rattle.values.specs.Given.{Finding, Given, sortNumber, foundAsPaper, readFound, refusedAs, given}
 use Rattle.values.specs.declared.MemberSpan.{MemberSpan}
 use Rattle.values.specs.declared.Sort.{Sort}
 use Rattle.values.specs.declared.Sort.the-variants.{Unsigned, Signed, HighFirst, NoType, NoStruct, NoMember, NoNumber}
@@ -71,7 +71,7 @@ module _ {c : Checked} {b : List ℕ} {places work : ℕ} {index left : List ℕ
         works = h .cleared;
         gives =
             told-same
-            (ap (λ (x : Found). given (readFound x s))
+            (ap (λ (x : Finding). given (readFound x s))
             (ap foundIn at ∙ span-held (replicate 5 0) (omega arith) f ∙ found ∙ ap (λ (i : List ℕ). soughtAt b i t m) (h .told .indexes))
             ∙ gives-found b places work t m s bytes (checked-accepted b places work (ap checkedAsPaper (sym p) ∙ h .told .answers) .0))
             gives;

@@ -12,7 +12,7 @@ use Rattle.paper.specs.rules.Join.{join}
 use Rattle.paper.specs.rules.Name.{nameless, nameAt, nameStart}
 use Rattle.paper.specs.terms.Put.{laid}
 use Rattle.record.specs.Gives.{memberGives}
-use Rattle.values.specs.Given.{Found, readFound, Given, given}
+use Rattle.values.specs.Given.{Finding, readFound, Given, given}
 
 -- the four numbers of an answer, as many as fit, over the first places of a slice
 unfoldable pub toldIn : Answer → List ℕ → List ℕ
@@ -23,7 +23,7 @@ unfoldable pub toldWide : Answer → ℕ → List ℕ → List ℕ
 toldWide r high places = take (length places) (r .number ∷ r .inner ∷ r .t ∷ r .p ∷ high ∷ []) ++ drop 5 places
 
 -- a span in five places
-abbrev pub spanIn : Found → List ℕ → List ℕ
+abbrev pub spanIn : Finding → List ℕ → List ℕ
 spanIn f places = toldWide (foundNumbers f) (f .from / 4294967296) places
 
 -- what the span in some places says of a record's bytes

@@ -33,7 +33,7 @@ use Rattle.paper.specs.terms.Good.{Good}
 use Rattle.paper.specs.terms.Reading.{recordIn}
 use Rattle.values.proofs.Soughts.{read-sought, sought-rename}
 use Rattle.values.proofs.Values.{read-21}
-use Rattle.values.specs.Given.{Found, readFound}
+use Rattle.values.specs.Given.{Finding, readFound}
 use Rattle.values.specs.Sought.{noSpan, soughtIn}
 use Rattle.values.specs.Value.{refused, readMember}
 use Rattle.views.proofs.Shows.{getD-else, tableBy-count, tableBy-record}
@@ -124,7 +124,7 @@ module _ (b : List ℕ) (bytes : Bytes b) (places work : ℕ) (e : refusal b pla
       sym (placeless-there index {t = suc t} (λ z. omega arith)) ∙ ap (λ (p : ℕ). ltb p 24) (place-behind A places t (omega arith))
 
   -- by the two tests
-  abbrev asked : ℕ → ℕ → Bool → Bool → Found
+  abbrev asked : ℕ → ℕ → Bool → Bool → Finding
   asked t m high lost = cond high (noSpan 35 0) (cond lost (noSpan 21 0) (soughtIn B (recordAt B t) m))
 
   -- a big-endian table has 35
@@ -145,7 +145,7 @@ module _ (b : List ℕ) (bytes : Bytes b) (places work : ℕ) (e : refusal b pla
         go : (z : Bool) → ltb (count A) t ≡ z → readFound (soughtAt b index t m) s ≡ readMember A t m s
         go true z =
             let above = ltb-true (count A) t z in
-            ap (λ (f : Found). readFound f s) (low-found true (unplaced t above)) ∙ sym (read-21 A t (recordAt A t) m s above)
+            ap (λ (f : Finding). readFound f s) (low-found true (unplaced t above)) ∙ sym (read-21 A t (recordAt A t) m s above)
         go false z =
             let high = ltb-false (count A) t z in
-            ap (λ (f : Found). readFound f s) (low-found false (placed t high) ∙ sought-rename shown good t m high) ∙ read-sought A good t m s high
+            ap (λ (f : Finding). readFound f s) (low-found false (placed t high) ∙ sought-rename shown good t m high) ∙ read-sought A good t m s high

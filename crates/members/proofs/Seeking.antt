@@ -18,7 +18,7 @@ use Rattle.spans.proofs.SpanTests.{span-typed}
 use Rattle.spans.specs.Spanned.{typed, spanAsPaper}
 use Rattle.spans.specs.declared.Lies.{Lies}
 use Rattle.spans.specs.declared.Lies.the-variants.{Nowhere, From}
-use Rattle.values.specs.Given.{Found}
+use Rattle.values.specs.Given.{Finding}
 use Rattle.values.specs.Sought.{noSpan, spanFound, soughtIn}
 use Rattle.values.specs.Value.{isNumeric, isSigned, memberOf}
 
@@ -51,19 +51,19 @@ module _ (r : Record) {k : ℕ} (kind : k ≡ kindOf r) where
 -- ── the bits of a number ──
 
 module _ (size : ℕ) (signed : Bool) where
-  pub found-nowhere : {f : Found} → f ≡ noSpan 33 size → {l : Lies} → l ≡ Nowhere → f ≡ spanFound size signed (spanAsPaper l)
+  pub found-nowhere : {f : Finding} → f ≡ noSpan 33 size → {l : Lies} → l ≡ Nowhere → f ≡ spanFound size signed (spanAsPaper l)
   found-nowhere d is = d ∙ sym (ap (λ (l : Lies). spanFound size signed (spanAsPaper l)) is)
 
   module _ {l : Lies} {from bits : ℕ} (is : l ≡ From from bits) where
     -- by the test of its bits
-    abbrev tested : Bool → Found
+    abbrev tested : Bool → Finding
     tested few = cond few (record { number = cond signed 1 0; size = size; from = from; bits = bits }) (noSpan 33 size)
 
     by-test : (low high : Bool) → leb 1 bits ≡ low → leb bits 128 ≡ high → spanFound size signed (spanAsPaper l) ≡ tested (low && high)
     by-test low high e d =
         ap (λ (l : Lies). spanFound size signed (spanAsPaper l)) is ∙ ap₂ (λ (a b : Bool). tested (a && b)) e d
 
-    pub found-none : {f : Found} → f ≡ noSpan 33 size → bits ≡ 0 → f ≡ spanFound size signed (spanAsPaper l)
+    pub found-none : {f : Finding} → f ≡ noSpan 33 size → bits ≡ 0 → f ≡ spanFound size signed (spanAsPaper l)
     found-none d e = d ∙ sym (by-test false (leb bits 128) (lt-leb 1 bits (omega arith)) refl)
 
     module _ (some : bits ≡ 0 → ⊥) where
@@ -74,7 +74,7 @@ module _ (size : ℕ) (signed : Bool) where
           positive zero z = absurd (z refl)
           positive (suc n) z = omega arith
 
-      pub found-many : {f : Found} → f ≡ noSpan 33 size → 128 < bits → f ≡ spanFound size signed (spanAsPaper l)
+      pub found-many : {f : Finding} → f ≡ noSpan 33 size → 128 < bits → f ≡ spanFound size signed (spanAsPaper l)
       found-many d h = d ∙ sym (by-test true false low (lt-leb bits 128 h))
 
       pub found-bits : bits ≤ 128 → (b : Bool) → signed ≡ b → record { number = cond b 1 0; size = size; from = from; bits = bits } ≡ spanFound size signed (spanAsPaper l)
@@ -85,17 +85,17 @@ module _ (size : ℕ) (signed : Bool) where
 
 module _ (T : Table) (flag size t o : ℕ) (base : Record) (is : base ≡ baseOf T t) {k : ℕ} (kind : k ≡ kindOf base)
     {n : Bool} (test : n ≡ member k (INT ∷ ENUM ∷ ENUM64 ∷ [])) where
-  abbrev chosen : Bool → Record → Found
+  abbrev chosen : Bool → Record → Finding
   chosen numeric under = cond numeric (spanFound size (isSigned under) (spanOf T flag (typed t o))) (noSpan 33 size)
 
   numeric : n ≡ isNumeric (baseOf T t)
   unfolding isNumeric
   numeric = test ∙ ap (λ (i : ℕ). member i (INT ∷ ENUM ∷ ENUM64 ∷ [])) kind ∙ ap (λ (r : Record). member (kindOf r) (INT ∷ ENUM ∷ ENUM64 ∷ [])) is
 
-  pub numbered-none : {f : Found} → not n ≡ true → f ≡ noSpan 33 size → f ≡ chosen (isNumeric (baseOf T t)) (baseOf T t)
+  pub numbered-none : {f : Finding} → not n ≡ true → f ≡ noSpan 33 size → f ≡ chosen (isNumeric (baseOf T t)) (baseOf T t)
   numbered-none e d = d ∙ sym (ap (λ (b : Bool). chosen b (baseOf T t)) (sym numeric ∙ not-true n e))
 
-  pub numbered-some : {f : Found} → not n ≡ false → {signed : Bool} → signed ≡ isSigned base → (l : Lies) → spanAsPaper l ≡ spanOf T flag (typed t o)
+  pub numbered-some : {f : Finding} → not n ≡ false → {signed : Bool} → signed ≡ isSigned base → (l : Lies) → spanAsPaper l ≡ spanOf T flag (typed t o)
       → f ≡ spanFound size signed (spanAsPaper l) → f ≡ chosen (isNumeric (baseOf T t)) (baseOf T t)
   numbered-some e sign l lies d =
       d
@@ -112,7 +112,7 @@ module _ (T : Table) (r : Record) (m : ℕ) {k : ℕ} (kind : k ≡ kindOf r) {x
   base = baseOf T (memberOf r m .type)
 
   -- by the tests of its kind and its number
-  abbrev sought : Bool → Bool → Found
+  abbrev sought : Bool → Bool → Finding
   sought struct far =
       cond struct (cond far (noSpan 32 (r .third)) (cond (isNumeric base) (spanFound (r .third) (isSigned base) (spanOf T (flagOf r) (memberOf r m))) (noSpan 33 (r .third))))
       (noSpan 31 0)
@@ -120,19 +120,19 @@ module _ (T : Table) (r : Record) (m : ℕ) {k : ℕ} (kind : k ≡ kindOf r) {x
   struct-is : x ≡ member (kindOf r) (STRUCT ∷ UNION ∷ [])
   struct-is = test ∙ ap (λ (i : ℕ). member i (STRUCT ∷ UNION ∷ [])) kind
 
-  pub sought-no-struct : {f : Found} → not x ≡ true → f ≡ noSpan 31 0 → f ≡ soughtIn T r m
+  pub sought-no-struct : {f : Finding} → not x ≡ true → f ≡ noSpan 31 0 → f ≡ soughtIn T r m
   unfolding soughtIn
   sought-no-struct e d = d ∙ sym (ap (λ (b : Bool). sought b (leb (vlenOf r) m)) (sym struct-is ∙ not-true x e))
 
   module _ (struct : not x ≡ false) {z v : ℕ} (size : z ≡ r .third) (vlen : v ≡ vlenOf r) where
-    pub sought-no-member : {f : Found} → v ≤ m → f ≡ noSpan 32 z → f ≡ soughtIn T r m
+    pub sought-no-member : {f : Finding} → v ≤ m → f ≡ noSpan 32 z → f ≡ soughtIn T r m
     unfolding soughtIn
     sought-no-member h d =
         d
         ∙ ap (noSpan 32) size
         ∙ sym (ap₂ sought (sym struct-is ∙ not-false x struct) (le-leb (vlenOf r) m (omega (arith, vlen))))
 
-    pub sought-member : {f : Found} → m < v → {g u o : ℕ} → g ≡ flagOf r → u ≡ memberOf r m .type → o ≡ memberOf r m .offset
+    pub sought-member : {f : Finding} → m < v → {g u o : ℕ} → g ≡ flagOf r → u ≡ memberOf r m .type → o ≡ memberOf r m .offset
         → f ≡ cond (isNumeric (baseOf T u)) (spanFound z (isSigned (baseOf T u)) (spanOf T g (typed u o))) (noSpan 33 z) → f ≡ soughtIn T r m
     unfolding soughtIn
     sought-member h flag type offset d =

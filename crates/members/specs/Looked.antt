@@ -9,7 +9,7 @@ use Rattle.paper.specs.rules.Header.{headerLength, orderOf}
 use Rattle.paper.specs.rules.Table.{Record, Table, recordAt}
 use Rattle.paper.specs.rules.Word.{sameOrder}
 use Rattle.paper.specs.declared.Order.the-variants.{HighFirst}
-use Rattle.values.specs.Given.{Found}
+use Rattle.values.specs.Given.{Finding}
 use Rattle.values.specs.Sought.{noSpan, soughtIn}
 use Rattle.views.specs.Shown.{tableBy}
 use Rattle.views.specs.declared.View.{View}
@@ -29,7 +29,7 @@ abbrev pub placeless : List ℕ → ℕ → Bool
 placeless index t = not (eqb t 0) && ltb (getD index t 0) headerLength
 
 -- 35, "right after 34", and 21 before all that is asked of the type
-unfoldable pub soughtAt : List ℕ → List ℕ → ℕ → ℕ → Found
+unfoldable pub soughtAt : List ℕ → List ℕ → ℕ → ℕ → Finding
 soughtAt b index t m =
     cond (sameOrder (orderOf b) HighFirst) (noSpan 35 0)
     (cond (placeless index t) (noSpan 21 0) (soughtIn (shownIn b index) (recordAt (shownIn b index) t) m))

@@ -20,7 +20,7 @@ use Rattle.paper.specs.declared.Order.the-variants.{LowFirst, HighFirst}
 use Rattle.paper.specs.declared.Report.{Report}
 use Rattle.paper.specs.terms.Fit.{Bytes}
 use Rattle.record.specs.Gives.{unlessRefused, memberGives, MemberOf}
-use Rattle.values.specs.Given.{Found, foundAsPaper, readFound, noBytes, refusedAs, given, valuedAnswer, valuedNumber, givenAsPaper}
+use Rattle.values.specs.Given.{Finding, foundAsPaper, readFound, noBytes, refusedAs, given, valuedAnswer, valuedNumber, givenAsPaper}
 use Rattle.values.specs.Value.{readMember}
 use Rattle.values.specs.declared.MemberSpan.{MemberSpan}
 use Rattle.values.specs.declared.MemberValue.{MemberValue}
@@ -44,7 +44,7 @@ module _ (b : List ℕ) (places work t m : ℕ) (s : List ℕ) where
     unfolding given readFound
     by-order HighFirst o =
         ap (λ (x : Outcome). given (readFound (soughtAt b (x .index) t m) s)) (gate-accepted b places work e)
-        ∙ ap (λ (f : Found). given (readFound f s)) (high-found b bytes places work e o t m)
+        ∙ ap (λ (f : Finding). given (readFound f s)) (high-found b bytes places work e o t m)
     by-order LowFirst o =
         ap (λ (x : Outcome). given (readFound (soughtAt b (x .index) t m) s)) (gate-accepted b places work e)
         ∙ ap given (found-member b bytes places work e o t m s)
@@ -71,7 +71,7 @@ module _ {c : Checked} {b : List ℕ} {places work : ℕ} {index left : List ℕ
       record {
         answers =
             gives
-            ∙ ap (λ (x : Found). given (readFound x s)) (found ∙ ap (λ (i : List ℕ). soughtAt b i t m) (h .told .indexes))
+            ∙ ap (λ (x : Finding). given (readFound x s)) (found ∙ ap (λ (i : List ℕ). soughtAt b i t m) (h .told .indexes))
             ∙ gives-found b places work t m s bytes (checked-accepted b places work (ap checkedAsPaper (sym p) ∙ h .told .answers) .0);
         indexes = h .told .indexes;
         works = h .cleared;

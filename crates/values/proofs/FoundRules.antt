@@ -11,14 +11,14 @@ use borrow.Author.Tests.{le-leb, lt-leb, le-ltb, lt-ltb, leb-true, ltb-false, no
 use lib.Dec.{leb, ltb, eqb}
 use Rattle.paper.proofs.basics.Choices.{Each, and-left, and-right, firstDue-none, member-each}
 use Rattle.paper.specs.rules.Choice.{Rule, _when_, firstDue, member}
-use Rattle.values.specs.Given.{Found, foundRules, sortNumber, foundAsPaper}
+use Rattle.values.specs.Given.{Finding, foundRules, sortNumber, foundAsPaper}
 use Rattle.values.specs.Promised.{dueOr, judged, refusals}
 use Rattle.values.specs.declared.MemberSpan.{MemberSpan}
 use Rattle.values.specs.declared.Sort.{Sort}
 
 -- ── behind 31 ──
 
-abbrev found : ℕ → ℕ → ℕ → ℕ → Found
+abbrev found : ℕ → ℕ → ℕ → ℕ → Finding
 found number size from bits = record { number = number; size = size; from = from; bits = bits }
 
 -- by what each rule finds
@@ -139,7 +139,7 @@ due-each P (n when false ∷ rules) k h e = due-each P rules k (h .1) e
 abbrev Known : ℕ → Type 0
 Known k = member k refusals ≡ true
 
-known : (f : Found) (n k : ℕ) → firstDue (foundRules f n) ≡ some k → Known k
+known : (f : Finding) (n k : ℕ) → firstDue (foundRules f n) ≡ some k → Known k
 known f n k =
     let early : member (f .number) (35 ∷ 21 ∷ 31 ∷ []) ≡ true → Known (f .number) =
     λ e. member-each Known (f .number) (35 ∷ 21 ∷ 31 ∷ []) e (refl, (refl, (refl, tt))) in
@@ -187,7 +187,7 @@ module _ (m : MemberSpan) (n : ℕ) {r : ℕ} (is : r ≡ judged (foundAsPaper m
       go (some k) e = let same = sym (number-by (some k) e) in (e ∙ ap some same, subst Known same (known (foundAsPaper m) n k e))
 
 -- where none is due the span is one of 1 to 128 bits inside the record
-pub due-none : (f : Found) (n : ℕ) → firstDue (foundRules f n) ≡ none → (1 ≤ f .bits) × (f .bits ≤ 128) × (f .from + f .bits ≤ 8 * n)
+pub due-none : (f : Finding) (n : ℕ) → firstDue (foundRules f n) ≡ none → (1 ≤ f .bits) × (f .bits ≤ 128) × (f .from + f .bits ≤ 8 * n)
 due-none f n e =
     let off = firstDue-none (foundRules f n) e in
     let few = not-false _ (off .1 .1 .1 .0) in

@@ -11,7 +11,7 @@ use Rattle.paper.specs.rules.Answer.{Answer, inside, reportAsPaper}
 use Rattle.paper.specs.declared.Report.{Report}
 use Rattle.paper.specs.declared.Report.the-variants.{Length, Opening, HeaderLength, Sections, Strings, RecordCut, UnknownKind, ManyTypes, SlicesShort}
 use Rattle.paper.specs.declared.Report.the-variants.{Head, Named, Tail, Reference, Endless, Layout}
-use Rattle.values.specs.Given.{Found, Given, sortNumber, foundAsPaper, valuedAnswer, valuedNumber, givenAsPaper}
+use Rattle.values.specs.Given.{Finding, Given, sortNumber, foundAsPaper, valuedAnswer, valuedNumber, givenAsPaper}
 use Rattle.values.specs.declared.MemberSpan.{MemberSpan}
 use Rattle.values.specs.declared.MemberValue.{MemberValue}
 use Rattle.values.specs.declared.Sort.{Sort}
@@ -126,5 +126,5 @@ sort-back sort.NoNumber = refl
 
 pub found-one : (m n : MemberSpan) → foundAsPaper m ≡ foundAsPaper n → m ≡ n
 found-one m n e =
-    let same = sym (sort-back (m .sort)) ∙ ap (λ (f : Found). sortOf (f .number)) e ∙ sort-back (n .sort) in
+    let same = sym (sort-back (m .sort)) ∙ ap (λ (f : Finding). sortOf (f .number)) e ∙ sort-back (n .sort) in
     λ i. record { sort = same i; size = e i .size; from = e i .from; bits = e i .bits }

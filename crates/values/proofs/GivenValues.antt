@@ -16,7 +16,7 @@ use Rattle.paper.specs.rules.Span.{Span}
 use Rattle.values.proofs.Bits.{bits-spanBits}
 use Rattle.values.proofs.SignNumbers.{value-number}
 use Rattle.values.proofs.Spans.{length-spanBits}
-use Rattle.values.specs.Given.{Found, Given, foundSpan, foundRules, readFound, noBytes, bytesIn, refusedAs, givenBits, given, valuedAnswer, valuedNumber, givenAsPaper}
+use Rattle.values.specs.Given.{Finding, Given, foundSpan, foundRules, readFound, noBytes, bytesIn, refusedAs, givenBits, given, valuedAnswer, valuedNumber, givenAsPaper}
 use Rattle.values.specs.Promised.{numberAt, signedNumber, refusal, refusals, ValueOf}
 use Rattle.values.specs.Value.{valueOf, filledUp, spanBits, reads, readUnless}
 use Rattle.values.specs.declared.Valued.{Valued}
@@ -93,7 +93,7 @@ module _ (s : List ℕ) (from bits : ℕ) where
 
 -- ── by the number of the rule that is due ──
 
-module _ (f : Found) (s : List ℕ) where
+module _ (f : Finding) (s : List ℕ) where
   abbrev unless : Option ℕ → Given
   unless o = given (readUnless o (reads (foundSpan f) (eqb (f .number) 1) (spanBits (foundSpan f) s)))
 

@@ -21,7 +21,7 @@ use Rattle.paper.specs.rules.Table.{Record, Table, count, recordAt, kindOf, vle
 use Rattle.paper.specs.terms.Good.{Good}
 use Rattle.values.proofs.Spans.{member-span, read-value, value-few}
 use Rattle.values.proofs.Values.{read-31, read-30, read-32, read-33, isSigned-rename, base-rename, span-rename}
-use Rattle.values.specs.Given.{Found, foundSpan, foundRules, readFound}
+use Rattle.values.specs.Given.{Finding, foundSpan, foundRules, readFound}
 use Rattle.values.specs.Sought.{noSpan, spanFound, soughtIn}
 use Rattle.values.specs.Value.{spanBits, isNumeric, isSigned, memberOf, Read, refused, reads, readUnless, readMember}
 
@@ -29,7 +29,7 @@ use Rattle.values.specs.Value.{spanBits, isNumeric, isSigned, memberOf, 
 
 -- a refusal behind the record's length, and a span, ask for the record first
 module _ (s : List ℕ) where
-  found-short : (f : Found) → member (f .number) (35 ∷ 21 ∷ 31 ∷ []) ≡ false → length s < f .size → readFound f s ≡ refused 30
+  found-short : (f : Finding) → member (f .number) (35 ∷ 21 ∷ 31 ∷ []) ≡ false → length s < f .size → readFound f s ≡ refused 30
   unfolding readFound
   found-short f later h = rw (later, lt-ltb (length s) (f .size) h) refl
 
@@ -43,7 +43,7 @@ module _ (s : List ℕ) where
 
   -- a span of 1 to 128 bits inside the record is read
   module _ (size : ℕ) (p : Span) (long : size ≤ length s) (low : 1 ≤ p .size) (high : p .size ≤ 128) (ends : p .from + p .size ≤ 8 * length s) where
-    abbrev spanAt : Bool → Found
+    abbrev spanAt : Bool → Finding
     spanAt signed = record { number = cond signed 1 0; size = size; from = p .from; bits = p .size }
 
     by-sign : (signed : Bool) → readFound (spanAt signed) s ≡ reads p signed (spanBits p s)
@@ -84,7 +84,7 @@ module _ (T : Table) (g : Good T) (t m : ℕ) (s : List ℕ) (high : t ≤ count
   base = baseOf T (memberOf r m .type)
 
   -- by what each test finds
-  abbrev sought : Bool → Bool → Bool → Found
+  abbrev sought : Bool → Bool → Bool → Finding
   sought struct far numeric =
       cond struct (cond far (noSpan 32 (r .third)) (cond numeric (spanFound (r .third) (isSigned base) (spanOf T (flagOf r) (memberOf r m))) (noSpan 33 (r .third))))
       (noSpan 31 0)
@@ -151,7 +151,7 @@ module _ {A B : Table} {type name : ℕ → ℕ} (R : Renaming A B type name) (g
         let kind = members-kind R (sound-refs sound) (sound-ends sound) in-A (good-whole A g) r struct in
         let base = baseOf A (memberOf r m .type) in
         let spanB = spanOf B (flagOf r) (memberOf (rename type name r) m) in
-        let tell : ℕ → Record → Bool → Option Span → Found =
+        let tell : ℕ → Record → Bool → Option Span → Finding =
         λ size b signed span.
         cond (member (kindOf r) structs) (cond (leb (vlenOf r) m) (noSpan 32 size) (cond (isNumeric b) (spanFound size signed span) (noSpan 33 size))) (noSpan 31 0) in
         ap (λ (size : ℕ). tell size (baseOf B (memberOf (rename type name r) m .type)) (isSigned (baseOf B (memberOf (rename type name r) m .type))) spanB) (kind .0)

@@ -18,7 +18,7 @@ use Rattle.values.specs.declared.MemberValue.{MemberValue}
 -- ── before there is a record ──
 
 -- 0 unsigned, 1 signed, else the refusal's number; the bytes of the type; the span
-pub record Found : Type 0 where
+pub record Finding : Type 0 where
   pub number : ℕ
   pub size : ℕ
   pub from : ℕ
@@ -33,17 +33,17 @@ sortNumber NoStruct = 31
 sortNumber NoMember = 32
 sortNumber NoNumber = 33
 
-abbrev pub foundAsPaper : MemberSpan → Found
+abbrev pub foundAsPaper : MemberSpan → Finding
 foundAsPaper m = record { number = sortNumber (m .sort); size = m .size; from = m .from; bits = m .bits }
 
 -- ── with one ──
 
 -- the span that a member was found to have
-abbrev pub foundSpan : Found → Span
+abbrev pub foundSpan : Finding → Span
 foundSpan f = record { from = f .from; size = f .bits }
 
 -- 30 comes behind 31 and before 32 and 33; a span that is of no bits or of more than 128 is no number's, and one that ends behind the record asks for a longer record
-abbrev pub foundRules : Found → ℕ → List Rule
+abbrev pub foundRules : Finding → ℕ → List Rule
 foundRules f length =
     f .number when member (f .number) (35 ∷ 21 ∷ 31 ∷ [])
     ∷ 30 when ltb length (f .size)
@@ -52,7 +52,7 @@ foundRules f length =
     ∷ 30 when ltb (8 * length) (f .from + f .bits)
     ∷ []
 
-unfoldable pub readFound : Found → List ℕ → Read
+unfoldable pub readFound : Finding → List ℕ → Read
 readFound f s = readUnless (firstDue (foundRules f (length s))) (reads (foundSpan f) (eqb (f .number) 1) (spanBits (foundSpan f) s))
 
 -- ── the answer ──

@@ -8,7 +8,7 @@ use lib.Dec.{eqb}
 use lib.IntN.{ℤ, pos, negsuc}
 use lib.ListN.{take, drop}
 use Rattle.paper.specs.rules.Choice.{firstDue}
-use Rattle.values.specs.Given.{Found, Given, foundRules, noBytes, valuedAnswer, valuedNumber}
+use Rattle.values.specs.Given.{Finding, Given, foundRules, noBytes, valuedAnswer, valuedNumber}
 use Rattle.values.specs.Value.{recordBits, bitsNumber}
 use Rattle.values.specs.declared.MemberValue.{MemberValue}
 use Rattle.values.specs.declared.Valued.{Valued}
@@ -53,7 +53,7 @@ dueOr own none = own
 dueOr own (some number) = number
 
 -- the number of the rule that is due for a record of so many bytes, or the member's own
-unfoldable pub judged : Found → ℕ → ℕ
+unfoldable pub judged : Finding → ℕ → ℕ
 judged f length = dueOr (f .number) (firstDue (foundRules f length))
 
 -- the numbers of the rules

@@ -8,14 +8,14 @@ use Rattle.paper.specs.rules.Choice.{member}
 use Rattle.paper.specs.rules.KindNo.{STRUCT, UNION}
 use Rattle.paper.specs.rules.Span.{Span, baseOf, spanOf}
 use Rattle.paper.specs.rules.Table.{Record, Table, kindOf, vlenOf, flagOf}
-use Rattle.values.specs.Given.{Found}
+use Rattle.values.specs.Given.{Finding}
 use Rattle.values.specs.Value.{isNumeric, isSigned, memberOf}
 
-abbrev pub noSpan : ℕ → ℕ → Found
+abbrev pub noSpan : ℕ → ℕ → Finding
 noSpan number size = record { number = number; size = size; from = 0; bits = 0 }
 
 -- no number has a span of no bits, or of more than 128: an accepted table has none
-abbrev pub spanFound : ℕ → Bool → Option Span → Found
+abbrev pub spanFound : ℕ → Bool → Option Span → Finding
 spanFound size signed none = noSpan 33 size
 spanFound size signed (some p) =
     cond (leb 1 (p .size) && leb (p .size) 128)
@@ -23,7 +23,7 @@ spanFound size signed (some p) =
     (noSpan 33 size)
 
 -- a member of a record of a table: 31; then, behind the record's length, 32 and 33
-unfoldable pub soughtIn : Table → Record → ℕ → Found
+unfoldable pub soughtIn : Table → Record → ℕ → Finding
 soughtIn T r m =
     let base = baseOf T (memberOf r m .type) in
     cond (member (kindOf r) (STRUCT ∷ UNION ∷ []))

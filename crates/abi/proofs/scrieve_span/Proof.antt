@@ -3,7 +3,7 @@
 use mathlib.Core.Path.{ap, _∙_}
 use denote.Ref.{now}
 use Rattle.abi.specs.Told.{spanIn}
-use Rattle.values.specs.Given.{Found}
+use Rattle.values.specs.Given.{Finding}
 use borrow.Author.Needs.{needs}
 use Rattle.abi.proofs.scrieve_span.Statement.{statement}
 use Rattle.abi.proofs.scrieve_span.Tie as tie
@@ -21,7 +21,7 @@ returns : tie.Need-returns
 returns c =
     let t = c .before .before in
     let f = t .before .before in
-    t .put-span .ensures ∙ ap (λ (x : Found). spanIn x (now (f .before .before .before .before .args .span))) (f .span-of .ensures)
+    t .put-span .ensures ∙ ap (λ (x : Finding). spanIn x (now (f .before .before .before .before .args .span))) (f .span-of .ensures)
 
 pub scrieve-span-spec : {M : Type 1} → statement M
 scrieve-span-spec = tie.close (tie.spec span-of-requires put-span-requires same-length returns)

@@ -3,7 +3,7 @@
 use mathlib.Core.Path.{ap, _∙_}
 use denote.Ref.{now}
 use Rattle.abi.proofs.Spanning.{told-same}
-use Rattle.values.specs.Given.{Found, readFound, given}
+use Rattle.values.specs.Given.{Finding, readFound, given}
 use borrow.Author.Needs.{needs}
 use Rattle.abi.proofs.scrieve_value.Statement.{statement}
 use Rattle.abi.proofs.scrieve_value.Tie as tie
@@ -30,7 +30,7 @@ returns c =
     let x = v .before in
     let a = x .before .before .before .before .before .args in
     told-same
-    (v .value-of .ensures ∙ ap (λ (f : Found). given (readFound f (now (a .bytes)))) (x .span-in .ensures)) (g .give .ensures)
+    (v .value-of .ensures ∙ ap (λ (f : Finding). given (readFound f (now (a .bytes)))) (x .span-in .ensures)) (g .give .ensures)
 
 pub scrieve-value-spec : {M : Type 1} → statement M
 scrieve-value-spec =
