@@ -1,7 +1,7 @@
 -- Laws of a span in five places: they hold it again, so that check, span and value together are the member.
 -- Assumes nothing.
 use Prim.Native.Nat.{ℕ, _+_, _*_, _/_, _%_, _≤_}
-use mathlib.Core.Path.{_≡_, refl, sym, ap, ap₂, _∙_, subst}
+use mathlib.Core.Path.{_≡_, refl, sym, ap, _∙_, subst}
 use mathlib.Core.List.{List, [], _∷_}
 use native.Mathlib.Omega.{arith}
 use lib.ListN.{length, replicate}
@@ -10,8 +10,8 @@ use Rattle.members.specs.Looked.{soughtAt}
 use Rattle.paper.proofs.gates.Answered.{checked-accepted, checked-refused}
 use Rattle.record.proofs.Giving.{gives-34, gives-found}
 use Rattle.abi.specs.Told.{toldWide, spanIn, givenIn, ValueTold, MemberTold}
-use Rattle.handed.specs.Places.{foundNumbers, knownNumber, foundIn}
-use Rattle.paper.specs.rules.Answer.{Answer, inside, reportAsPaper, checkedAsPaper}
+use Rattle.handed.specs.Places.{knownNumber, foundIn}
+use Rattle.paper.specs.rules.Answer.{inside, reportAsPaper, checkedAsPaper}
 use Rattle.paper.specs.declared.Checked.{Checked}
 use Rattle.paper.specs.declared.Checked.the-variants.{Accepted, Refused}
 use Rattle.paper.specs.declared.Report.{Report}

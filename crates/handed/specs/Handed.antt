@@ -1,5 +1,5 @@
 -- What is handed out of a member's answer, to test vectors and to C: its numbers, and the sixteen bytes of its value, however many bits it has.
-use Prim.Native.Nat.{ℕ, suc, _-_, _/_, _%_, _^_}
+use Prim.Native.Nat.{ℕ, suc, _-_, _%_, _^_}
 use mathlib.Core.Bool.{cond}
 use mathlib.Core.List.{List, _++_}
 use lib.Dec.{leb, ltb}

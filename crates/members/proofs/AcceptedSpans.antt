@@ -2,28 +2,27 @@
 -- Assumes nothing.
 use Prim.Native.Nat.{ℕ, zero, suc, _+_, _-_, _≤_, _<_}
 use mathlib.Core.Path.{_≡_, refl, sym, ap, ap₂, _∙_, subst}
-use mathlib.Core.Bool.{Bool, true, false, not, cond, _&&_}
+use mathlib.Core.Bool.{Bool, true, false, cond}
 use mathlib.Core.List.{List, [], _++_}
 use mathlib.Core.Option.{none}
 use native.Mathlib.Omega.{arith}
-use borrow.Author.Tests.{le-ltb, lt-ltb, ltb-true, ltb-false}
-use lib.Dec.{eqb, ltb}
+use borrow.Author.Tests.{le-ltb, ltb-true, ltb-false}
+use lib.Dec.{ltb}
 use lib.ListN.{length, getD, drop}
 use lib.Seq.{getD-append-add}
 use Rattle.members.proofs.Places.{placeless-there}
 use Rattle.members.specs.Looked.{placesIn, viewIn, shownIn, placeless, soughtAt}
-use Rattle.paper.proofs.Outcomes.{gate-accepted, length-indexOf, getD-indexOf}
+use Rattle.paper.proofs.Outcomes.{length-indexOf, getD-indexOf}
 use Rattle.paper.proofs.bytes.Blobs.{strings-tableOf}
 use Rattle.paper.proofs.bytes.Places.{length-placesOf, place-low}
 use Rattle.paper.proofs.bytes.Reading.{recordIn-place}
 use Rattle.paper.proofs.gates.Acceptance.{accepted-meets, accepted-good, accepted-header, accepted-walk}
 use Rattle.paper.proofs.renaming.Rename.{rename-id}
 use Rattle.paper.proofs.renaming.Renaming.{Renaming}
-use Rattle.paper.specs.rules.Gate.{refusal, zeros, indexOf, Outcome, gate}
+use Rattle.paper.specs.rules.Gate.{refusal, zeros, indexOf}
 use Rattle.paper.specs.rules.Header.{orderOf}
 use Rattle.paper.specs.rules.Name.{nameIn}
-use Rattle.paper.specs.rules.Rename.{rename}
-use Rattle.paper.specs.rules.Table.{Record, Table, count, nothing, recordAt}
+use Rattle.paper.specs.rules.Table.{Table, count, recordAt}
 use Rattle.paper.specs.rules.Walk.{tableOf, placesOf}
 use Rattle.paper.specs.rules.Word.{sameOrder}
 use Rattle.paper.specs.declared.Order.{Order}
@@ -35,7 +34,7 @@ use Rattle.values.proofs.Soughts.{read-sought, sought-rename}
 use Rattle.values.proofs.Values.{read-21}
 use Rattle.values.specs.Given.{Finding, readFound}
 use Rattle.values.specs.Sought.{noSpan, soughtIn}
-use Rattle.values.specs.Value.{refused, readMember}
+use Rattle.values.specs.Value.{readMember}
 use Rattle.views.proofs.Shows.{getD-else, tableBy-count, tableBy-record}
 use Rattle.views.specs.Shown.{recordBy, tableBy}
 

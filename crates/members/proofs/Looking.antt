@@ -1,19 +1,18 @@
 -- Laws of `soughtAt` as code asks it: 35, then 21, then what the table that the index shows says.
 -- Assumes nothing.
 use Prim.Native.Nat.{ℕ}
-use mathlib.Core.Path.{_≡_, refl, sym, ap, ap₂, _∙_}
+use mathlib.Core.Path.{_≡_, sym, ap, ap₂, _∙_}
 use mathlib.Core.Bool.{Bool, true, false, cond}
 use mathlib.Core.List.{List, []}
 use Rattle.members.specs.Looked.{placesIn, shownIn, placeless, soughtAt}
 use Rattle.paper.specs.rules.Header.{orderOf}
-use Rattle.paper.specs.rules.Table.{Table, recordAt}
+use Rattle.paper.specs.rules.Table.{recordAt}
 use Rattle.paper.specs.rules.Word.{sameOrder}
 use Rattle.paper.specs.declared.Order.{Order}
 use Rattle.paper.specs.declared.Order.the-variants.{LowFirst, HighFirst}
 use Rattle.values.specs.Given.{Finding}
 use Rattle.values.specs.Sought.{noSpan, soughtIn}
 use Rattle.views.specs.Shown.{tableBy}
-use Rattle.views.specs.declared.View.{View}
 
 module _ (b index : List ℕ) (t m : ℕ) where
   -- by the two tests

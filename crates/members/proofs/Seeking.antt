@@ -1,17 +1,16 @@
 -- Laws of members as code looks for them: each test that fails decides, and what is left is where the bits lie.
 -- Assumes nothing.
-use Prim.Native.Nat.{ℕ, zero, suc, _+_, _-_, _*_, _/_, _%_, _≤_, _<_}
+use Prim.Native.Nat.{ℕ, zero, suc, _-_, _/_, _%_, _≤_, _<_}
 use mathlib.Core.Path.{_≡_, refl, sym, ap, ap₂, _∙_}
 use mathlib.Core.Bool.{Bool, true, false, not, cond, _&&_, _||_}
-use mathlib.Core.List.{List, [], _∷_}
-use mathlib.Core.Option.{Option, none, some}
+use mathlib.Core.List.{[], _∷_}
+use mathlib.Core.Option.{Option, some}
 use native.Mathlib.Omega.{arith}
 use borrow.Author.Tests.{eq-eqb, ne-eqb, le-leb, lt-leb, not-true, not-false}
 use lib.Dec.{eqb, leb}
-use lib.ListN.{length, getD}
 use Rattle.paper.specs.rules.Choice.{member}
 use Rattle.paper.specs.rules.KindNo.{INT, STRUCT, UNION, ENUM, ENUM64}
-use Rattle.paper.specs.rules.Span.{Span, Member, baseOf, spanOf}
+use Rattle.paper.specs.rules.Span.{Span, baseOf, spanOf}
 use Rattle.paper.specs.rules.Table.{Record, Table, kindOf, vlenOf, flagOf}
 use Rattle.paper.specs.rules.Tails.{intWord}
 use Rattle.spans.proofs.SpanTests.{span-typed}

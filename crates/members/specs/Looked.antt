@@ -2,11 +2,10 @@
 use Prim.Native.Nat.{ℕ}
 use mathlib.Core.Bool.{Bool, not, cond, _&&_}
 use mathlib.Core.List.{List, []}
-use mathlib.Core.Option.{Option}
 use lib.Dec.{eqb, ltb}
 use lib.ListN.{length, getD}
 use Rattle.paper.specs.rules.Header.{headerLength, orderOf}
-use Rattle.paper.specs.rules.Table.{Record, Table, recordAt}
+use Rattle.paper.specs.rules.Table.{Table, recordAt}
 use Rattle.paper.specs.rules.Word.{sameOrder}
 use Rattle.paper.specs.declared.Order.the-variants.{HighFirst}
 use Rattle.values.specs.Given.{Finding}

@@ -1,17 +1,17 @@
 -- Laws of bits as numbers: a part of the bits is a quotient's remainder, and a record's bits are its bytes' number.
 -- Assumes nothing.
-use Prim.Native.Nat.{ℕ, zero, suc, _+_, _*_, _-_, _/_, _%_, _^_, _≤_, _<_}
-use mathlib.Core.Path.{_≡_, refl, sym, ap, ap₂, _∙_, subst}
+use Prim.Native.Nat.{ℕ, zero, suc, _+_, _*_, _-_, _/_, _%_, _^_, _<_}
+use mathlib.Core.Path.{_≡_, refl, sym, ap, _∙_, subst}
 use mathlib.Core.List.{List, [], _∷_, _++_}
-use native.Mathlib.Nat.{pow-suc, div-one, mod-one, zero-div, zero-mod, mod-lt, div-div-eq-div-mul, mul-comm, add-mul-mod-self-left, mod-mod}
+use native.Mathlib.Nat.{pow-suc, div-one, mod-one, zero-div, zero-mod, mod-lt, div-div-eq-div-mul, mul-comm}
 use native.Mathlib.Omega.{arith}
 use lib.Arith.{mod-mul}
-use lib.Pow.{pow-pos, shr-shr, field, mod-mod-pow, mod-pow-add}
-use lib.ListN.{length, getD, take, drop, drop-of-length-le, List·getD-eq-default}
-use lib.Seq.{take-nil, drop-nil, drop-cons, take-append-add, drop-append-add}
+use lib.Pow.{pow-pos}
+use lib.ListN.{take, drop}
+use lib.Seq.{take-nil, drop-nil, take-append-add, drop-append-add}
 use Rattle.paper.proofs.bytes.Bytes.{below-drop}
 use Rattle.paper.specs.terms.Fit.{Below}
-use Rattle.values.proofs.Bits.{length-bitsOf, bits-recordBits, number-append}
+use Rattle.values.proofs.Bits.{bits-recordBits, number-append}
 use Rattle.values.specs.Promised.{recordNumber, numberAt}
 use Rattle.values.specs.Value.{bitsOf, recordBits, bitsNumber}
 

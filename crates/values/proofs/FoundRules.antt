@@ -8,8 +8,8 @@ use mathlib.Core.Option.{Option, none, some}
 use native.Mathlib.Nat.{pos-of-ne-zero}
 use native.Mathlib.Omega.{arith}
 use borrow.Author.Tests.{le-leb, lt-leb, le-ltb, lt-ltb, leb-true, ltb-false, not-false}
-use lib.Dec.{leb, ltb, eqb}
-use Rattle.paper.proofs.basics.Choices.{Each, and-left, and-right, firstDue-none, member-each}
+use lib.Dec.{leb, ltb}
+use Rattle.paper.proofs.basics.Choices.{and-left, and-right, firstDue-none, member-each}
 use Rattle.paper.specs.rules.Choice.{Rule, _when_, firstDue, member}
 use Rattle.values.specs.Given.{Finding, foundRules, sortNumber, foundAsPaper}
 use Rattle.values.specs.Promised.{dueOr, judged, refusals}

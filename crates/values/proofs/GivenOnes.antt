@@ -2,8 +2,8 @@
 -- Assumes nothing.
 use Prim.Native.Nat.{ℕ, _-_}
 use mathlib.Core.Path.{_≡_, refl, sym, ap, ap₂, _∙_}
-use mathlib.Core.List.{List, [], _∷_}
-use lib.IntN.{ℤ, pos}
+use mathlib.Core.List.{[], _∷_}
+use lib.IntN.{ℤ}
 use lib.ListN.{getD}
 use lib.Signed.{mag}
 use Rattle.paper.proofs.basics.Answers.{report-one}

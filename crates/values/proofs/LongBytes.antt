@@ -1,9 +1,9 @@
 -- Laws of a span of more than 64 bits: its sixteen bytes are those of two numbers, its low 64 bits and the others filled up.
 -- Assumes nothing.
 use Prim.Native.Nat.{ℕ, zero, suc, _+_, _*_, _-_, _/_, _%_, _^_, _≤_, _<_}
-use mathlib.Core.Path.{_≡_, refl, sym, ap, ap₂, _∙_, subst}
-use mathlib.Core.Bool.{Bool, true, false, cond, _&&_}
-use mathlib.Core.List.{List, [], _∷_, _++_}
+use mathlib.Core.Path.{_≡_, refl, sym, ap, ap₂, _∙_}
+use mathlib.Core.Bool.{Bool, true, false, cond}
+use mathlib.Core.List.{List, _∷_, _++_}
 use native.Mathlib.Nat.{add-comm}
 use native.Mathlib.Omega.{arith}
 use lib.Dec.{eqb}
@@ -21,7 +21,7 @@ use Rattle.values.proofs.SignNumbers.{top-minus}
 use Rattle.values.proofs.Spans.{length-spanBits}
 use Rattle.values.proofs.Windows.{mod-low, mod-field}
 use Rattle.values.specs.Given.{bytesIn}
-use Rattle.values.specs.Promised.{recordNumber, numberAt, isMinus, filledNumber, bytesFrom}
+use Rattle.values.specs.Promised.{recordNumber, numberAt, filledNumber, bytesFrom}
 use Rattle.values.specs.Value.{bitsNumber, topBit, filledUp, spanBits}
 
 -- ── bytes of a number ──

@@ -2,18 +2,18 @@
 -- Assumes nothing.
 use Prim.Native.Nat.{ℕ, zero, suc, _+_, _*_, _≤_, _<_}
 use mathlib.Core.Path.{_≡_, refl, sym, ap, ap₂, _∙_}
-use mathlib.Core.Bool.{Bool, true, false, not, cond, _&&_, false≢true}
+use mathlib.Core.Bool.{Bool, true, false, cond, _&&_, false≢true}
 use mathlib.Core.List.{List, [], _∷_}
 use mathlib.Core.Option.{Option, none, some}
 use native.Mathlib.Omega.{arith}
 use borrow.Author.Tests.{leb-true, leb-false, ltb-true, ltb-false, le-leb, lt-ltb, le-ltb}
-use lib.Dec.{eqb, leb, ltb}
+use lib.Dec.{leb, ltb}
 use lib.ListN.{length}
 use Rattle.paper.proofs.joins.Joining.{good-whole}
 use Rattle.paper.proofs.renaming.Renaming.{Renaming}
 use Rattle.paper.proofs.renaming.RenamingLayout.{members-kind}
 use Rattle.paper.proofs.walks.Insides.{sound-refs, sound-ends, sound-inside}
-use Rattle.paper.specs.rules.Choice.{_when_, firstDue, member}
+use Rattle.paper.specs.rules.Choice.{member}
 use Rattle.paper.specs.rules.KindNo.{STRUCT, UNION}
 use Rattle.paper.specs.rules.Rename.{rename}
 use Rattle.paper.specs.rules.Span.{Span, baseOf, spanOf}
@@ -21,9 +21,9 @@ use Rattle.paper.specs.rules.Table.{Record, Table, count, recordAt, kindOf, vle
 use Rattle.paper.specs.terms.Good.{Good}
 use Rattle.values.proofs.Spans.{member-span, read-value, value-few}
 use Rattle.values.proofs.Values.{read-31, read-30, read-32, read-33, isSigned-rename, base-rename, span-rename}
-use Rattle.values.specs.Given.{Finding, foundSpan, foundRules, readFound}
+use Rattle.values.specs.Given.{Finding, readFound}
 use Rattle.values.specs.Sought.{noSpan, spanFound, soughtIn}
-use Rattle.values.specs.Value.{spanBits, isNumeric, isSigned, memberOf, Read, refused, reads, readUnless, readMember}
+use Rattle.values.specs.Value.{spanBits, isNumeric, isSigned, memberOf, refused, reads, readMember}
 
 -- ── with a record ──
 

@@ -1,7 +1,7 @@
 -- Laws of reading by eight bytes at a time: a span that lies in eight bytes, and one that takes a ninth.
 -- Assumes nothing.
-use Prim.Native.Nat.{ℕ, zero, suc, _+_, _*_, _-_, _/_, _%_, _^_, _≤_, _<_}
-use mathlib.Core.Path.{_≡_, refl, sym, ap, ap₂, _∙_, subst}
+use Prim.Native.Nat.{ℕ, suc, _+_, _*_, _-_, _/_, _%_, _^_, _≤_, _<_}
+use mathlib.Core.Path.{_≡_, sym, ap, ap₂, _∙_, subst}
 use mathlib.Core.List.{List, _∷_}
 use native.Mathlib.Nat.{add-comm, mod-lt, lt-of-lt-of-le}
 use native.Mathlib.Omega.{arith}

@@ -1,7 +1,7 @@
 -- What is found of a member of a type, before there is a record: the grounds of a refusal in their order, or where its bits lie.
 use Prim.Native.Nat.{ℕ}
-use mathlib.Core.Bool.{Bool, not, cond, _&&_}
-use mathlib.Core.List.{List, [], _∷_}
+use mathlib.Core.Bool.{Bool, cond, _&&_}
+use mathlib.Core.List.{[], _∷_}
 use mathlib.Core.Option.{Option, none, some}
 use lib.Dec.{leb}
 use Rattle.paper.specs.rules.Choice.{member}
