@@ -96,18 +96,7 @@ fn antt(arguments: &[String]) -> Result<Vec<u8>, String> {
 }
 
 fn wanted(arguments: &[String]) -> Result<Wanted, String> {
-    let mut wanted = Wanted {
-        seed: 1,
-        cases: 0,
-        ops: vec![1, 2, 3, 4],
-        scale: Scale::Full,
-        only: None,
-        edges: false,
-        part: None,
-        thin: false,
-        large: false,
-        names: false,
-    };
+    let mut wanted = Wanted::default();
     let mut count = None;
     let mut rest = arguments.iter();
     while let Some(argument) = rest.next() {

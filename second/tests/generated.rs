@@ -17,14 +17,7 @@ fn wanted(seed: u64, cases: usize) -> Wanted {
     Wanted {
         seed,
         cases,
-        ops: vec![1, 2, 3, 4],
-        scale: Scale::Full,
-        only: None,
-        edges: false,
-        part: None,
-        thin: false,
-        large: false,
-        names: false,
+        ..Wanted::default()
     }
 }
 

@@ -166,12 +166,7 @@ fn generated(op: u32, seed: u64, count: usize) -> Vec<Case> {
         cases: count,
         ops: vec![op],
         scale: Scale::Small,
-        only: None,
-        edges: false,
-        part: None,
-        thin: false,
-        large: false,
-        names: false,
+        ..Wanted::default()
     })
 }
 

@@ -200,12 +200,7 @@ fn generated_places_are_those_of_the_named_types() {
         cases: 4_000,
         ops: vec![CHECK, JOIN],
         scale: Scale::Small,
-        only: None,
-        edges: false,
-        part: None,
-        thin: false,
-        large: false,
-        names: false,
+        ..Wanted::default()
     });
     let mut behind_others = [0; 16];
     for case in &all {

@@ -16,12 +16,7 @@ fn wanted(seed: u64, cases: usize) -> Wanted {
         cases,
         ops: vec![MEMBER],
         scale: Scale::Small,
-        only: None,
-        edges: false,
-        part: None,
-        thin: false,
-        large: false,
-        names: false,
+        ..Wanted::default()
     }
 }
 

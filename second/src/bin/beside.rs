@@ -86,12 +86,10 @@ impl Run {
             cases,
             ops,
             scale,
-            only: None,
             edges: fixed,
-            part: None,
             thin,
             large: fixed,
-            names: false,
+            ..Wanted::default()
         }
     }
 

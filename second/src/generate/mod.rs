@@ -79,6 +79,24 @@ pub struct Wanted {
     pub names: bool,
 }
 
+/// No case of any sort: whoever wants some says which.
+impl Default for Wanted {
+    fn default() -> Wanted {
+        Wanted {
+            seed: 1,
+            cases: 0,
+            ops: vec![1, 2, 3, 4],
+            scale: Scale::Full,
+            only: None,
+            edges: false,
+            part: None,
+            thin: false,
+            large: false,
+            names: false,
+        }
+    }
+}
+
 /// Tries for each case before a choice nothing can fulfil is given up.
 const MOST_TRIES: usize = 20_000;
 
