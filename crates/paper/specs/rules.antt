@@ -21,3 +21,4 @@ pub mod Layout
 pub mod Gate
 pub mod Rename
 pub mod Join
+pub mod Lean

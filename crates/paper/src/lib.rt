@@ -73,3 +73,11 @@ pub enum Joined {
     TooLong,
     OutputShort,
 }
+
+// What the check of a table that leans on a base answers: the count of both tables' types, 25 with the base's report, 26, or a report of the leaning table.
+pub enum Leaned {
+    Accepted(u32),
+    BaseRefused(Report),
+    OrdersDiffer,
+    Refused(Report),
+}

@@ -5,7 +5,7 @@ use mathlib.Core.Path.{_≡_, refl, sym, ap, _∙_}
 use mathlib.Core.List.{[], _∷_}
 use native.Mathlib.Omega.{arith}
 use lib.ListN.{getD}
-use Rattle.paper.specs.rules.Answer.{Answer, reportAsPaper, checkedAsPaper, sizedAsPaper, joinedAsPaper}
+use Rattle.paper.specs.rules.Answer.{Answer, reportAsPaper, checkedAsPaper, sizedAsPaper, joinedAsPaper, leanedAsPaper}
 use Rattle.paper.specs.declared.Report.{Report}
 use Rattle.paper.specs.declared.Report.the-variants.{Length, Opening, HeaderLength, Sections, Strings, RecordCut, UnknownKind, ManyTypes, SlicesShort}
 use Rattle.paper.specs.declared.Report.the-variants.{Head, Named, Tail, Reference, Endless, Layout}
@@ -15,6 +15,8 @@ use Rattle.paper.specs.declared.Sized.{Sized}
 use Rattle.paper.specs.declared.Sized.the-variants.{Exact, NoSize, Overflow, Lost, TooFar}
 use Rattle.paper.specs.declared.Joined.{Joined}
 use Rattle.paper.specs.declared.Joined.the-variants.{Whole, FirstRefused, SecondRefused, OrdersDiffer, TooMany, TooLong, OutputShort}
+use Rattle.paper.specs.declared.Leaned.{Leaned}
+use Rattle.paper.specs.declared.Leaned.the-variants as leaned
 
 -- a map that another undoes sends no two things to one
 module _ {A : Type 0} (f : A → Answer) (back : Answer → A) (undoes : (a : A) → back (f a) ≡ a) where
@@ -130,6 +132,44 @@ joined-back TooMany = refl
 joined-back TooLong = refl
 joined-back OutputShort = refl
 
+-- ── a leaning check's answer ──
+
+abbrev leanedIn : Checked → Leaned
+leanedIn (Accepted n) = leaned.Accepted n
+leanedIn (Refused r) = leaned.Refused r
+
+-- 25 and 26 are past every report's number
+leanedBack : Answer → Leaned
+leanedBack a = getD (leanedIn (checkedBack a) ∷ leaned.BaseRefused (reportInside a) ∷ []) (a .number - 24) leaned.OrdersDiffer
+
+report-small : (r : Report) → reportAsPaper r .number - 24 ≡ 0
+unfolding reportAsPaper
+report-small Length = refl
+report-small Opening = refl
+report-small HeaderLength = refl
+report-small Sections = refl
+report-small Strings = refl
+report-small (RecordCut t p) = refl
+report-small (UnknownKind t p) = refl
+report-small (ManyTypes p) = refl
+report-small SlicesShort = refl
+report-small (Head t p) = refl
+report-small (Named t p) = refl
+report-small (Tail t p) = refl
+report-small (Reference t p) = refl
+report-small (Endless t p) = refl
+report-small (Layout t p) = refl
+
+leaned-back : (l : Leaned) → leanedBack (leanedAsPaper l) ≡ l
+unfolding leanedAsPaper leanedBack reportInside reportBack checkedBack checkedOf
+leaned-back (leaned.Accepted n) = refl
+leaned-back (leaned.BaseRefused r) = ap leaned.BaseRefused (report-back r)
+leaned-back leaned.OrdersDiffer = refl
+leaned-back (leaned.Refused r) =
+    let a = reportAsPaper r in
+    ap (λ (k : ℕ). getD (leanedIn (checkedBack a) ∷ leaned.BaseRefused (reportInside a) ∷ []) k leaned.OrdersDiffer) (report-small r)
+    ∙ ap leanedIn (refused-back r)
+
 -- ── two answers with the same numbers are one ──
 
 pub report-one : (a b : Report) → reportAsPaper a ≡ reportAsPaper b → a ≡ b
@@ -143,3 +183,6 @@ sized-one = one-to-one sizedAsPaper sizedBack sized-back
 
 pub joined-one : (a b : Joined) → joinedAsPaper a ≡ joinedAsPaper b → a ≡ b
 joined-one = one-to-one joinedAsPaper joinedBack joined-back
+
+pub leaned-one : (a b : Leaned) → leanedAsPaper a ≡ leanedAsPaper b → a ≡ b
+leaned-one = one-to-one leanedAsPaper leanedBack leaned-back

@@ -10,6 +10,8 @@ use Rattle.paper.specs.declared.Sized.{Sized}
 use Rattle.paper.specs.declared.Sized.the-variants.{Exact, NoSize, Overflow, Lost, TooFar}
 use Rattle.paper.specs.declared.Joined.{Joined}
 use Rattle.paper.specs.declared.Joined.the-variants.{Whole, FirstRefused, SecondRefused, OrdersDiffer, TooMany, TooLong, OutputShort}
+use Rattle.paper.specs.declared.Leaned.{Leaned}
+use Rattle.paper.specs.declared.Leaned.the-variants as leaned
 
 -- the paper's number (0 where nothing is refused), the number of the report inside a join's refusal,
 -- the type count or the type that is named, and the exact size, the joined length or the place of the record that is named
@@ -74,3 +76,10 @@ joinedAsPaper OrdersDiffer = report 24 0
 joinedAsPaper TooMany = report 18 0
 joinedAsPaper TooLong = report 19 0
 joinedAsPaper OutputShort = report 20 0
+
+-- "If the base is refused, answer 25 with its report inside"; 26, the two orders (order 7)
+unfoldable pub leanedAsPaper : Leaned → Answer
+leanedAsPaper (leaned.Accepted n) = accepted n
+leanedAsPaper (leaned.BaseRefused r) = inside 25 (reportAsPaper r)
+leanedAsPaper leaned.OrdersDiffer = report 26 0
+leanedAsPaper (leaned.Refused r) = reportAsPaper r
