@@ -2,3 +2,4 @@ pub mod Scales
 pub mod SizeSteps
 pub mod TableSizes
 pub mod Measured
+pub mod Overs

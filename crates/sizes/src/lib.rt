@@ -15,6 +15,7 @@ ghost use Prim.Native.Nat.{_*_, _≤_};
 ghost use mathlib.Core.Bool.{not};
 ghost use Rattle.sizes.specs.SizeStep.{cut, readable, stepAsPaper, stepOf, stepWords};
 ghost use Rattle.paper.specs.rules.Answer.{sizedAsPaper};
+ghost use Rattle.paper.specs.rules.Lean.{sizeOver, stepOver};
 ghost use Rattle.paper.specs.rules.Size.{exactly, sizeAnswer, sizeOf, stepAt, stepBy};
 ghost use Rattle.paper.specs.rules.Word.{wordAt};
 ghost use Rattle.kindrows.specs.Codes.{sizeRuleOf};
@@ -117,9 +118,19 @@ pub(crate) fn many(p: u64, s: u32) -> Sized
     Sized::Overflow
 }
 
-// The exact size of a type. It trusts nobody: no more records are read than the index has places.
-pub fn size(b: &[u8], index: &[u32], t: TypeNo) -> Sized
-    ensures { λ r. ⌜ sizedAsPaper r ≡ sizeOf (now (b .entry)) (now (index .entry)) (t .0) ⌝ }
+// The step of a type by the blob that holds it: the base up to so many types, the other behind them.
+fn step_over(base: &[u8], before: u32, b: &[u8], index: &[u32], t: TypeNo) -> Step
+    ensures { λ r. ⌜ stepAsPaper r ≡ stepOver (now (base .entry)) before (now (b .entry)) (now (index .entry)) (t .0) ⌝ }
+{
+    if t.0 <= before {
+        return step_at(base, index, t);
+    }
+    step_at(b, index, t)
+}
+
+// The exact size of a type of a table that leans on a base. It trusts nobody: no more records are read than the index has places.
+pub fn size_over(base: &[u8], before: u32, b: &[u8], index: &[u32], t: TypeNo) -> Sized
+    ensures { λ r. ⌜ sizedAsPaper r ≡ sizeOver (now (base .entry)) before (now (b .entry)) (now (index .entry)) (t .0) ⌝ }
 {
     let mut at = t.0;
     let mut count: u64 = 1;
@@ -129,7 +140,7 @@ pub fn size(b: &[u8], index: &[u32], t: TypeNo) -> Sized
             return Sized::TooFar;
         }
         reads -= 1;
-        match step_at(b, index, TypeNo(at)) {
+        match step_over(base, before, b, index, TypeNo(at)) {
             Step::Is(s) => return many(count, s),
             Step::ManyOf(n, u) => {
                 count = times(count, n);
@@ -140,4 +151,11 @@ pub fn size(b: &[u8], index: &[u32], t: TypeNo) -> Sized
         }
     }
     Sized::NoSize
+}
+
+// The exact size of a type of a table that stands by itself: it leans on no bytes and no types.
+pub fn size(b: &[u8], index: &[u32], t: TypeNo) -> Sized
+    ensures { λ r. ⌜ sizedAsPaper r ≡ sizeOf (now (b .entry)) (now (index .entry)) (t .0) ⌝ }
+{
+    size_over(&b[..0], 0, b, index, t)
 }
