@@ -7,19 +7,21 @@ use mathlib.Core.List.{List, [], _∷_}
 use mathlib.Core.Option.{none, some}
 use native.Mathlib.Nat.{add-zero}
 use native.Mathlib.Omega.{arith}
-use borrow.Author.Tests.{eq-eqb, ne-eqb}
-use lib.Dec.{eqb}
+use borrow.Author.Tests.{eq-eqb, ne-eqb, lt-ltb, le-ltb, ltb-true, ltb-false}
+use lib.Dec.{eqb, ltb}
 use lib.ListN.{length, getD, take, length-take}
 use lib.Seq.{getD-drop}
-use Rattle.paper.proofs.basics.Choices.{or-left, or-right, same-true}
+use Rattle.paper.proofs.basics.Choices.{and-nothing, or-left, or-right, same-true}
 use Rattle.paper.specs.rules.Answer.{report}
 use Rattle.paper.specs.rules.Choice.{differ, same}
-use Rattle.paper.specs.rules.Gate.{phase1}
+use Rattle.paper.specs.rules.Gate.{naming}
 use Rattle.paper.specs.rules.Header.{orderOf, magicFirst, magicSecond, opening, typeOff, typeLen, strOff, strLen, stringsIn}
-use Rattle.paper.specs.rules.Header.{lengthBad, openingBad, headerLengthBad, sectionsBad, stringsBad, headerReport}
+use Rattle.paper.specs.rules.Header.{openingBad, headerLengthBad, sectionsBad, stringsBad}
+use Rattle.paper.specs.rules.Lean.{lengthBadBehind, endBad, otherOpening}
+use Rattle.paper.specs.rules.Limits.{byteLimit}
 use Rattle.paper.specs.rules.Word.{wordAt}
 use Rattle.paper.specs.declared.Order.{Order}
-use Rattle.header.specs.Header.{opensOtherwise}
+use Rattle.header.specs.Header.{opensOtherwise, beginsWith, reportBy}
 
 -- numbers that are not equal differ
 differ-other : (m n : ℕ) → (m ≡ n → ⊥) → differ m n ≡ true
@@ -28,6 +30,25 @@ differ-other m n h = ap not (ne-eqb m n h)
 -- a test is what its result is
 pub tells : {r t v : Bool} → r ≡ t → r ≡ v → t ≡ v
 tells p q = sym p ∙ q
+
+-- ── report 1, by a difference ──
+
+module _ (before : ℕ) (b : List ℕ) where
+  pub lengthBad-short : length b < 24 → true ≡ lengthBadBehind before b
+  unfolding lengthBadBehind
+  lengthBad-short h = sym (or-left _ (lt-ltb _ _ h))
+
+  pub lengthBad-before : byteLimit < before → true ≡ lengthBadBehind before b
+  unfolding lengthBadBehind
+  lengthBad-before h = sym (or-right (ltb (length b) 24) (lt-ltb byteLimit (before + length b) (omega arith)))
+
+  pub lengthBad-both : 24 ≤ length b → before ≤ byteLimit → ltb (byteLimit - before) (length b) ≡ lengthBadBehind before b
+  unfolding lengthBadBehind
+  lengthBad-both h k = go (ltb (byteLimit - before) (length b)) refl ∙ ap (λ (t : Bool). t || ltb byteLimit (before + length b)) (sym (le-ltb _ _ h))
+    where
+      go : (t : Bool) → ltb (byteLimit - before) (length b) ≡ t → t ≡ ltb byteLimit (before + length b)
+      go true e = let l = ltb-true (byteLimit - before) (length b) e in sym (lt-ltb byteLimit (before + length b) (omega arith))
+      go false e = let l = ltb-false (byteLimit - before) (length b) e in sym (le-ltb byteLimit (before + length b) (omega arith))
 
 -- ── report 2 ──
 
@@ -78,6 +99,37 @@ pub opening-by : (b : List ℕ) {o : Order} → o ≡ orderOf b → opensOtherwi
 unfolding openingBad opensOtherwise
 opening-by b e = ap (λ (o : Order). not (same (take 4 b) (opening o))) e
 
+-- ── report 26 ──
+
+module _ (first second : ℕ) where
+  pub begins-short : (b : List ℕ) → length b < 2 → false ≡ beginsWith b first second
+  unfolding beginsWith
+  begins-short [] h = refl
+  begins-short (x ∷ []) h = go (eqb x first)
+    where
+      go : (t : Bool) → false ≡ (t && false)
+      go true = refl
+      go false = refl
+  begins-short (x ∷ y ∷ s) h = absurd (omega arith)
+
+  begins-bytes : (b : List ℕ) → 2 ≤ length b → beginsWith b first second ≡ (eqb (getD b 0 0) first && (eqb (getD b 1 0) second && true))
+  unfolding beginsWith
+  begins-bytes [] h = absurd (omega arith)
+  begins-bytes (x ∷ []) h = absurd (omega arith)
+  begins-bytes (x ∷ y ∷ s) h = refl
+
+  module _ (b : List ℕ) (long : 2 ≤ length b) where
+    pub begins-first : (getD b 0 0 ≡ first → ⊥) → false ≡ beginsWith b first second
+    begins-first h = sym (begins-bytes b long ∙ simp (ne-eqb _ _ h))
+
+    pub begins-second : getD b 0 0 ≡ first → eqb (getD b 1 0) second ≡ beginsWith b first second
+    begins-second e = sym (begins-bytes b long ∙ simp (eq-eqb _ _ e, and-nothing))
+
+-- the two bytes of the base's order, turned round
+pub otherOpening-by : (base b : List ℕ) {o : Order} → o ≡ orderOf base → beginsWith b (magicSecond o) (magicFirst o) ≡ otherOpening base b
+unfolding otherOpening beginsWith
+otherOpening-by base b e = ap (λ (o : Order). same (take 2 b) (magicSecond o ∷ magicFirst o ∷ [])) e
+
 -- ── report 4, from the words that are read ──
 
 module _ (b : List ℕ) where
@@ -116,39 +168,50 @@ module _ (b : List ℕ) where
       let at : x ≡ getD (stringsIn b) 0 0 = d ∙ ap (λ (i : ℕ). getD b (24 + i) 0) e ∙ sym stringsIn-first in
       sym (or-left _ (or-right (eqb (strLen b) 0) (differ-other _ _ (λ z. h (at ∙ z)))))
 
-  pub stringsBad-last : {m n x y : ℕ} → m ≡ wordAt (orderOf b) b 12 → n ≡ wordAt (orderOf b) b 20 → x ≡ getD b (24 + m) 0 → y ≡ getD b (24 + m + (n - 1)) 0
-      → (n ≡ 0 → ⊥) → x ≡ 0 → differ y 0 ≡ stringsBad b
-  unfolding stringsBad stringsIn typeLen strLen
-  stringsBad-last {m} {n} {x} {y} e f d g h z =
+  -- with a first byte that is zero, the last decides
+  pub stringsBad-last : {m n x : ℕ} → n ≡ wordAt (orderOf b) b 20 → m ≡ wordAt (orderOf b) b 12 → x ≡ getD b (24 + m) 0
+      → (n ≡ 0 → ⊥) → x ≡ 0 → endBad b ≡ stringsBad b
+  unfolding stringsBad endBad strLen
+  stringsBad-last {m} {n} {x} f e d h z =
       let first : getD (stringsIn b) 0 0 ≡ 0 = stringsIn-first ∙ ap (λ (i : ℕ). getD b (24 + i) 0) (sym e) ∙ sym d ∙ z in
-      rw (eq-eqb _ _ first, ← f, ← e, ne-eqb n 0 h, getD-drop, ← g) refl
+      rw (eq-eqb _ _ first, ← f, ne-eqb n 0 h) refl
 
-  -- ── the smallest report ──
+  pub endBad-empty : {n : ℕ} → n ≡ wordAt (orderOf b) b 20 → n ≡ 0 → false ≡ endBad b
+  unfolding endBad strLen
+  endBad-empty {n} f z = rw (← f, eq-eqb n 0 z) refl
 
-  module _ (e₁ : lengthBad b ≡ false) where
-    pub phase1-opening : openingBad b ≡ true → phase1 b ≡ some (report 2 0)
-    unfolding phase1 headerReport
-    phase1-opening e = simp (e₁, e)
+  pub endBad-last : {m n y : ℕ} → m ≡ wordAt (orderOf b) b 12 → n ≡ wordAt (orderOf b) b 20 → y ≡ getD b (24 + m + (n - 1)) 0
+      → (n ≡ 0 → ⊥) → differ y 0 ≡ endBad b
+  unfolding endBad stringsIn typeLen strLen
+  endBad-last {m} {n} {y} e f g h = rw (← f, ← e, ne-eqb n 0 h, getD-drop, ← g) refl
+
+-- ── the smallest report ──
+
+module _ (one five : Bool) (b : List ℕ) where
+  pub due-length : one ≡ true → naming 0 (reportBy one five b) ≡ some (report 1 0)
+  unfolding reportBy
+  due-length e = simp e
+
+  module _ (e₁ : one ≡ false) where
+    pub due-opening : openingBad b ≡ true → naming 0 (reportBy one five b) ≡ some (report 2 0)
+    unfolding reportBy
+    due-opening e = simp (e₁, e)
 
     module _ (e₂ : openingBad b ≡ false) where
-      pub phase1-header : headerLengthBad b ≡ true → phase1 b ≡ some (report 3 0)
-      unfolding phase1 headerReport
-      phase1-header e = simp (e₁, e₂, e)
+      pub due-header : headerLengthBad b ≡ true → naming 0 (reportBy one five b) ≡ some (report 3 0)
+      unfolding reportBy
+      due-header e = simp (e₁, e₂, e)
 
       module _ (e₃ : headerLengthBad b ≡ false) where
-        pub phase1-sections : sectionsBad b ≡ true → phase1 b ≡ some (report 4 0)
-        unfolding phase1 headerReport
-        phase1-sections e = simp (e₁, e₂, e₃, e)
+        pub due-sections : sectionsBad b ≡ true → naming 0 (reportBy one five b) ≡ some (report 4 0)
+        unfolding reportBy
+        due-sections e = simp (e₁, e₂, e₃, e)
 
         module _ (e₄ : sectionsBad b ≡ false) where
-          pub phase1-strings : stringsBad b ≡ true → phase1 b ≡ some (report 5 0)
-          unfolding phase1 headerReport
-          phase1-strings e = simp (e₁, e₂, e₃, e₄, e)
+          pub due-strings : five ≡ true → naming 0 (reportBy one five b) ≡ some (report 5 0)
+          unfolding reportBy
+          due-strings e = simp (e₁, e₂, e₃, e₄, e)
 
-          pub phase1-silent : stringsBad b ≡ false → phase1 b ≡ none
-          unfolding phase1 headerReport
-          phase1-silent e = simp (e₁, e₂, e₃, e₄, e)
-
-  pub phase1-length : lengthBad b ≡ true → phase1 b ≡ some (report 1 0)
-  unfolding phase1 headerReport
-  phase1-length e = simp e
+          pub due-none : five ≡ false → reportBy one five b ≡ none
+          unfolding reportBy
+          due-none e = simp (e₁, e₂, e₃, e₄, e)

@@ -1,3 +1,4 @@
 pub mod Headers
+pub mod Behinds
 pub mod Scans
 pub mod Ones

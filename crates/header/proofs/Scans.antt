@@ -1,31 +1,34 @@
 -- Laws of `Name`: a scan for the first zero byte, and names by what phase 1 says.
 -- Assumes nothing.
-use Prim.Native.Nat.{ℕ, zero, suc, _+_, _-_, _<_, _≤_}
-use mathlib.Core.Path.{_≡_, refl, sym, ap, subst, _∙_}
-use mathlib.Core.Bool.{Bool, true, false, not, cond, false≢true}
+use Prim.Native.Nat.{ℕ, zero, suc, _+_, _<_, _≤_}
+use mathlib.Core.Path.{_≡_, refl, sym, ap, ap₂, subst, _∙_}
+use mathlib.Core.Bool.{Bool, true, false, not, cond, _||_, false≢true}
 use mathlib.Core.List.{List, [], _∷_, _++_, append-nil}
 use mathlib.Core.Option.{Option, none, some}
 use native.Mathlib.Numerals.{add-one}
 use native.Mathlib.Omega.{arith}
 use borrow.Author.Tests.{eq-eqb, ne-eqb, ltb-true, not-false}
+use denote.Ref.{RefT, now, ptr}
 use lib.Dec.{eqb, ltb}
 use lib.ListN.{length, getD, take, drop, length-drop, List·getD-eq-default}
 use lib.Seq.{drop-drop, length-take-le}
-use Rattle.paper.proofs.basics.Choices.{or-false}
 use Rattle.paper.proofs.bytes.Headers.{headerReport-facts}
 use Rattle.paper.proofs.gates.Gates.{naming-none}
-use Rattle.header.specs.Part.{Ending}
-use Rattle.header.specs.Header.{HeaderOf, SectionsOf}
+use Rattle.header.specs.Behind.{HeaderBehind, namelessBehind, nameAtBehind, nameStartBehind, PartBehind, NamePartBehind}
+use Rattle.header.specs.Part.{Ending, namelessBy, nameIf, startIf, Held, PartIf, PartOf, CutOut, NamePart}
+use Rattle.header.specs.Header.{HeaderOf, HeaderBy}
 use Rattle.header.specs.declared.first.Header.{Header}
 use Rattle.header.specs.declared.first.Header.the-variants.{Good, Bad}
 use Rattle.header.specs.declared.first.Sections.{Sections}
+use Rattle.header.proofs.Behinds.{behindReport-facts}
+use Rattle.paper.specs.declared.Part.{Part}
 use Rattle.paper.specs.declared.Report.{Report}
 use Rattle.paper.specs.rules.Answer.{Answer}
+use Rattle.paper.specs.rules.Choice.{isSome}
 use Rattle.paper.specs.rules.Gate.{naming, phase1}
 use Rattle.paper.specs.rules.Header.{orderOf, strLen, typeLen, stringsIn, headerReport}
-use Rattle.paper.specs.rules.Limits.{byteLimit}
+use Rattle.paper.specs.rules.Lean.{behindReport}
 use Rattle.paper.specs.rules.Name.{untilZero, nameIn, nameless, nameAt, nameStart}
-use Rattle.paper.specs.rules.Choice.{isSome}
 use Rattle.paper.specs.rules.Word.{wordAt}
 
 -- ── a scan ──
@@ -84,80 +87,155 @@ naming-some : {C : Type 0} (o : Option ℕ) {r : Answer} → naming 0 o ≡ some
 naming-some none e f = absurd (let z : _≡_ {A = ℕ} 0 1 = cc in omega arith)
 naming-some (some n) e f = f n refl
 
+-- what the header in code says decides, by the report that is due
+nameless-due : (h : Header) (due : Option ℕ) (b : List ℕ) (off : ℕ) → HeaderBy due h b → namelessBy h off ≡ (isSome due || not (ltb off (strLen b)))
+nameless-due (Good s) due b off e = rw (e .strings, e .silent) refl
+nameless-due (Bad r) due b off e = naming-some due e (λ n q. rw q refl)
+
+pub namelessBy-good : {h : Header} {s : Sections} (off : ℕ) → h ≡ Good s → not (ltb off (s .strings)) ≡ namelessBy h off
+namelessBy-good off e = sym (ap (λ (h : Header). namelessBy h off) e)
+
+pub namelessBy-bad : {h : Header} {r : Report} (off : ℕ) → h ≡ Bad r → true ≡ namelessBy h off
+namelessBy-bad off e = sym (ap (λ (h : Header). namelessBy h off) e)
+
+-- of phase 1 by itself
+headerOf-due : (h : Header) (b : List ℕ) → HeaderOf h b → HeaderBy (headerReport b) h b
+unfolding phase1
+headerOf-due (Good s) b e = record { silent = naming-none 0 (headerReport b) (e .silent); types = e .types; strings = e .strings }
+headerOf-due (Bad r) b e = e
+
+pub nameless-alone : (h : Header) (b : List ℕ) (off : ℕ) → HeaderOf h b → namelessBy h off ≡ nameless b off
+unfolding nameless
+nameless-alone h b off e = nameless-due h (headerReport b) b off (headerOf-due h b e)
+
+pub nameless-behind : (h : Header) (before : ℕ) (b : List ℕ) (off : ℕ) → HeaderBehind h before b → namelessBy h off ≡ namelessBehind before b off
+unfolding namelessBehind
+nameless-behind h before b off e = nameless-due h (behindReport before b) b off e
+
+-- ── where a name is not missing ──
+
+silent-due : (due : Option ℕ) (off n : ℕ) → (isSome due || not (ltb off n)) ≡ false → (due ≡ none) × (off < n)
+silent-due none off n e = (refl, ltb-true off n (not-false _ e))
+silent-due (some r) off n e = absurd (false≢true (sym e))
+
 module _ (b : List ℕ) (off : ℕ) where
-  -- what the header in code says decides
-  pub nameless-good : {h : Header} {s : Sections} → HeaderOf h b → h ≡ Good s → not (ltb off (s .strings)) ≡ nameless b off
-  unfolding phase1 nameless
-  nameless-good {h} {s} e p =
-      let good : SectionsOf s b = subst (λ (x : Header). HeaderOf x b) p e in
-      rw (good .strings, naming-none 0 (headerReport b) (good .silent)) refl
-
-  pub nameless-bad : {h : Header} {r : Report} → HeaderOf h b → h ≡ Bad r → true ≡ nameless b off
-  unfolding phase1 nameless
-  nameless-bad e p = naming-some (headerReport b) (subst (λ (x : Header). HeaderOf x b) p e) (λ n q. rw q refl)
-
-  named-header : nameless b off ≡ false → headerReport b ≡ none
+  pub alone-held : Held (nameless b off) b off
   unfolding nameless
-  named-header e = go (headerReport b) (or-false _ _ e .0)
-    where
-      go : (o : Option ℕ) → isSome o ≡ false → o ≡ none
-      go none e = refl
-      go (some n) e = absurd (false≢true (sym e))
+  alone-held =
+      record {
+        inside = λ e. let d = silent-due (headerReport b) off (strLen b) e in omega (arith, headerReport-facts b (d .0) .sum, d .1);
+        short = λ e. headerReport-facts b (silent-due (headerReport b) off (strLen b) e .0) .short;
+      }
 
-  named-offset : nameless b off ≡ false → off < strLen b
-  unfolding nameless
-  named-offset e = ltb-true _ _ (not-false _ (or-false (isSome (headerReport b)) _ e .1))
+  pub behind-held : (before : ℕ) → Held (namelessBehind before b off) b off
+  unfolding namelessBehind
+  behind-held before =
+      record {
+        inside = λ e. let d = silent-due (behindReport before b) off (strLen b) e in omega (arith, behindReport-facts before b (d .0) .sum, d .1);
+        short = λ e. omega (arith, behindReport-facts before b (silent-due (behindReport before b) off (strLen b) e .0) .short);
+      }
 
+module _ (missing : Bool) (b : List ℕ) (off : ℕ) where
   -- where there is no name, the part begins at 0 and is empty
-  pub nameStart-none : nameless b off ≡ true → 0 ≡ nameStart b off
-  unfolding nameStart
-  nameStart-none e = rw e refl
+  pub startIf-none : missing ≡ true → 0 ≡ startIf missing b off
+  unfolding startIf
+  startIf-none e = rw e refl
 
-  pub nameAt-none : nameless b off ≡ true → nameAt b off ≡ []
-  unfolding nameAt
-  nameAt-none e = rw e refl
+  pub nameIf-none : missing ≡ true → nameIf missing b off ≡ []
+  unfolding nameIf
+  nameIf-none e = rw e refl
 
-  module _ (e : nameless b off ≡ false) where
-    -- else it begins so far into the strings, inside the blob
-    pub nameStart-some : {w : ℕ} → w ≡ wordAt (orderOf b) b 12 → 24 + w + off ≡ nameStart b off
-    unfolding nameStart typeLen
-    nameStart-some d = rw (e, d) refl
+  module _ (e : missing ≡ false) where
+    -- else it begins so far into the strings
+    pub startIf-some : {w : ℕ} → w ≡ wordAt (orderOf b) b 12 → 24 + w + off ≡ startIf missing b off
+    unfolding startIf typeLen
+    startIf-some d = rw (e, d) refl
 
-    pub named-inside : nameStart b off < length b
-    unfolding nameStart
-    named-inside = let sum = headerReport-facts b (named-header e) .sum in rw e (omega (arith, named-offset e))
+    pub startIf-inside : Held missing b off → startIf missing b off < length b
+    unfolding startIf
+    startIf-inside held = rw e (held .inside e)
 
-    pub named-short : length b ≤ byteLimit
-    named-short = headerReport-facts b (named-header e) .short
-
-    named-bytes : untilZero (drop (nameStart b off) b) ≡ nameAt b off
-    unfolding nameStart nameAt nameIn stringsIn
-    named-bytes = rw (e, drop-drop) refl
+    nameIf-bytes : untilZero (drop (startIf missing b off) b) ≡ nameIf missing b off
+    unfolding startIf nameIf nameIn stringsIn
+    nameIf-bytes = rw (e, drop-drop) refl
 
     -- what stands from there up to the first zero byte is the name
-    pub named-ending : {n : ℕ} → Ending (drop (nameStart b off) b) n → take n (drop (nameStart b off) b) ≡ nameAt b off
-    named-ending ends = ends .until ∙ named-bytes
-
-    pub named-long : {n : ℕ} → Ending (drop (nameStart b off) b) n → n ≡ length (nameAt b off)
-    named-long ends = sym (length-take-le _ _ (ends .inside)) ∙ ap length (named-ending ends)
+    pub nameIf-long : {n : ℕ} → Ending (drop (startIf missing b off) b) n → n ≡ length (nameIf missing b off)
+    nameIf-long ends = sym (length-take-le _ _ (ends .inside)) ∙ ap length (ends .until ∙ nameIf-bytes)
 
   -- ── a name is a part of the blob ──
 
-  pub nameAt-inside : nameStart b off + length (nameAt b off) ≤ length b
-  nameAt-inside = go (nameless b off) refl
+  pub nameIf-inside : Held missing b off → startIf missing b off + length (nameIf missing b off) ≤ length b
+  nameIf-inside held = go missing refl
     where
-      go : (t : Bool) → nameless b off ≡ t → nameStart b off + length (nameAt b off) ≤ length b
-      go true e = let s = nameStart-none e in let n = ap length (nameAt-none e) in omega arith
+      go : (t : Bool) → missing ≡ t → startIf missing b off + length (nameIf missing b off) ≤ length b
+      go true e = let s = startIf-none e in let n = ap length (nameIf-none e) in omega arith
       go false e =
-          let inside = named-inside e in
-          let n = untilZero-short (drop (nameStart b off) b) in
-          let l = length-drop (nameStart b off) b in
-          omega (arith, ap length (named-bytes e))
+          let inside = startIf-inside e held in
+          let n = untilZero-short (drop (startIf missing b off) b) in
+          let l = length-drop (startIf missing b off) b in
+          omega (arith, ap length (nameIf-bytes e))
 
-  pub nameAt-part : take (length (nameAt b off)) (drop (nameStart b off) b) ≡ nameAt b off
-  nameAt-part = go (nameless b off) refl
+  pub nameIf-part : take (length (nameIf missing b off)) (drop (startIf missing b off) b) ≡ nameIf missing b off
+  nameIf-part = go missing refl
     where
-      go : (t : Bool) → nameless b off ≡ t → take (length (nameAt b off)) (drop (nameStart b off) b) ≡ nameAt b off
-      go true e = ap (λ (n : List ℕ). take (length n) (drop (nameStart b off) b)) (nameAt-none e) ∙ sym (nameAt-none e)
+      go : (t : Bool) → missing ≡ t → take (length (nameIf missing b off)) (drop (startIf missing b off) b) ≡ nameIf missing b off
+      go true e = ap (λ (n : List ℕ). take (length n) (drop (startIf missing b off) b)) (nameIf-none e) ∙ sym (nameIf-none e)
       go false e =
-          ap (λ (n : List ℕ). take (length n) (drop (nameStart b off) b)) (sym (named-bytes e)) ∙ untilZero-take (drop (nameStart b off) b) ∙ named-bytes e
+          ap (λ (n : List ℕ). take (length n) (drop (startIf missing b off) b)) (sym (nameIf-bytes e))
+          ∙ untilZero-take (drop (startIf missing b off) b) ∙ nameIf-bytes e
+
+-- a part that is cut out is what stands there
+cut-name : {r b : RefT (List ℕ)} {p : Part} (start : ℕ) (s : List ℕ) → CutOut r b p → p .start .0 ≡ start → p .length ≡ length s
+    → take (length s) (drop start (now b)) ≡ s → (now r ≡ s) × (ptr r ≡ (ptr b .0, start + ptr b .1))
+cut-name {r} {b} {p} start s cut starts long part = (
+  cut .bytes ∙ ap₂ (λ (n q : ℕ). take n (drop q (now b))) long starts ∙ part,
+  cut .place ∙ ap {B = ℕ × ℕ} (λ (q : ℕ). (ptr b .0, q + ptr b .1)) starts,
+)
+
+-- ── by itself, and behind a base ──
+
+-- told by a test, the name is that of what the test says
+pub partIf-told : {p : Part} {missing m : Bool} (b : List ℕ) (off : ℕ) → missing ≡ m → PartIf p missing b off → PartIf p m b off
+partIf-told {p} b off e h = subst (λ (t : Bool). PartIf p t b off) e h
+
+pub held-told : {missing m : Bool} (b : List ℕ) (off : ℕ) → missing ≡ m → Held m b off → Held missing b off
+held-told b off e h = subst (λ (t : Bool). Held t b off) (sym e) h
+
+module _ (b : List ℕ) (off : ℕ) where
+  pub part-alone : {p : Part} → PartIf p (nameless b off) b off → PartOf p b off
+  unfolding nameStart nameAt startIf nameIf
+  part-alone h = record { starts = h .starts; long = h .long }
+
+  pub nameAt-inside : nameStart b off + length (nameAt b off) ≤ length b
+  unfolding nameStart nameAt startIf nameIf
+  nameAt-inside = nameIf-inside (nameless b off) b off (alone-held b off)
+
+  nameAt-part : take (length (nameAt b off)) (drop (nameStart b off) b) ≡ nameAt b off
+  unfolding nameStart nameAt startIf nameIf
+  nameAt-part = nameIf-part (nameless b off) b off
+
+  module _ (before : ℕ) where
+    pub part-behind : {p : Part} → PartIf p (namelessBehind before b off) b off → PartBehind p before b off
+    unfolding nameStartBehind nameAtBehind
+    part-behind h = record { starts = h .starts; long = h .long }
+
+    pub nameAtBehind-inside : nameStartBehind before b off + length (nameAtBehind before b off) ≤ length b
+    unfolding nameStartBehind nameAtBehind
+    nameAtBehind-inside = nameIf-inside (namelessBehind before b off) b off (behind-held b off before)
+
+    nameAtBehind-part : take (length (nameAtBehind before b off)) (drop (nameStartBehind before b off) b) ≡ nameAtBehind before b off
+    unfolding nameStartBehind nameAtBehind
+    nameAtBehind-part = nameIf-part (namelessBehind before b off) b off
+
+module _ {r b : RefT (List ℕ)} {p : Part} (cut : CutOut r b p) (off : ℕ) where
+  pub nameAt-cut : PartOf p (now b) off → NamePart r b off
+  nameAt-cut e =
+      let n = cut-name (nameStart (now b) off) (nameAt (now b) off) cut (e .starts) (e .long) (nameAt-part (now b) off) in
+      record { bytes = n .0; place = n .1 }
+
+  pub nameAtBehind-cut : (before : ℕ) → PartBehind p before (now b) off → NamePartBehind r before b off
+  nameAtBehind-cut before e =
+      let n = cut-name (nameStartBehind before (now b) off) (nameAtBehind before (now b) off) cut (e .starts) (e .long)
+      (nameAtBehind-part (now b) off before) in
+      record { bytes = n .0; place = n .1 }

@@ -5,8 +5,10 @@ use paper::Place;
 use paper::Report;
 ghost use mathlib.Core.Path.{_≡_};
 ghost use lib.ListN.{getD};
-ghost use Rattle.header.specs.Header.{HeaderOf, opensOtherwise};
-ghost use Rattle.paper.specs.rules.Header.{lengthBad, openingBad, headerLengthBad, sectionsBad, stringsBad};
+ghost use Rattle.header.specs.Behind.{HeaderBehind};
+ghost use Rattle.header.specs.Header.{HeaderBy, HeaderOf, opensOtherwise, reportBy};
+ghost use Rattle.paper.specs.rules.Header.{openingBad, headerLengthBad, sectionsBad, stringsBad};
+ghost use Rattle.paper.specs.rules.Lean.{endBad, lengthBadBehind};
 
 // How long the two sections behind a good header are.
 pub struct Sections {
@@ -20,14 +22,17 @@ pub enum Header {
     Bad(Report),
 }
 
-// Report 1: too short or too long.
-fn length_bad(b: &[u8]) -> bool
-    ensures { λ r. ⌜ r ≡ lengthBad (now (b .entry)) ⌝ }
+// Report 1: too short, or too long together with so many bytes before it. A difference is taken, since the sum could pass 64 bits.
+fn length_bad(before: usize, b: &[u8]) -> bool
+    ensures { λ r. ⌜ r ≡ lengthBadBehind before (now (b .entry)) ⌝ }
 {
     if b.len() < 24 {
         return true;
     }
-    BYTE_LIMIT < b.len()
+    if BYTE_LIMIT < before {
+        return true;
+    }
+    BYTE_LIMIT - before < b.len()
 }
 
 // The first four bytes are not the two of a magic, version 1 and flags 0.
@@ -94,26 +99,37 @@ fn byte(b: &[u8], at: usize) -> u8
     0
 }
 
-// Report 5: there are strings, and their first and last byte is zero.
-fn strings_bad(b: &[u8]) -> bool
-    ensures { λ r. ⌜ r ≡ stringsBad (now (b .entry)) ⌝ }
+// Report 5 of a table behind a base: where there are strings, their last byte is zero.
+fn end_bad(b: &[u8]) -> bool
+    ensures { λ r. ⌜ r ≡ endBad (now (b .entry)) ⌝ }
 {
     let from = 24 + words::blob_word(b, Place(12)) as usize;
     let len = words::blob_word(b, Place(20)) as usize;
     if len == 0 {
-        return true;
-    }
-    if byte(b, from) != 0 {
-        return true;
+        return false;
     }
     byte(b, from + (len - 1)) != 0
 }
 
-// Phase 1: the smallest report that is due, else the lengths of the sections.
-pub fn read(b: &[u8]) -> Header
-    ensures { λ r. ⌜ HeaderOf r (now (b .entry)) ⌝ }
+// Report 5 of a table that stands by itself: there are strings, and their first byte is zero too.
+fn strings_bad(b: &[u8]) -> bool
+    ensures { λ r. ⌜ r ≡ stringsBad (now (b .entry)) ⌝ }
 {
-    if length_bad(b) {
+    if words::blob_word(b, Place(20)) == 0 {
+        return true;
+    }
+    let from = 24 + words::blob_word(b, Place(12)) as usize;
+    if byte(b, from) != 0 {
+        return true;
+    }
+    end_bad(b)
+}
+
+// Phase 1, told whether 1 and whether 5 is due, on which a base bears: the smallest report that is due, else the lengths of the sections.
+fn read_by(b: &[u8], one: bool, five: bool) -> Header
+    ensures { λ r. ⌜ HeaderBy (reportBy one five (now (b .entry))) r (now (b .entry)) ⌝ }
+{
+    if one {
         return Header::Bad(Report::Length);
     }
     if opening_bad(b) {
@@ -125,11 +141,25 @@ pub fn read(b: &[u8]) -> Header
     if sections_bad(b) {
         return Header::Bad(Report::Sections);
     }
-    if strings_bad(b) {
+    if five {
         return Header::Bad(Report::Strings);
     }
     Header::Good(Sections {
         types: words::blob_word(b, Place(12)),
         strings: words::blob_word(b, Place(20)),
     })
+}
+
+// Phase 1 of a table that stands by itself.
+pub fn read(b: &[u8]) -> Header
+    ensures { λ r. ⌜ HeaderOf r (now (b .entry)) ⌝ }
+{
+    read_by(b, length_bad(0, b), strings_bad(b))
+}
+
+// Phase 1 of a table behind a base of so many bytes.
+pub fn read_behind(before: usize, b: &[u8]) -> Header
+    ensures { λ r. ⌜ HeaderBehind r before (now (b .entry)) ⌝ }
+{
+    read_by(b, length_bad(before, b), end_bad(b))
 }
