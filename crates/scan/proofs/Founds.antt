@@ -1,42 +1,36 @@
--- Laws of `scanReport`: what it is by what the header and the walk in code have said, and what a count gives the places.
+-- Laws of `scanReport`: what it is by what the header and the walk in code have said, and what a count gives the places and the index.
 -- Assumes nothing.
-use Prim.Native.Nat.{ℕ, _+_, _≤_, _<_}
-use mathlib.Core.Path.{_≡_, refl, sym, ap, ap₂, _∙_, subst}
-use mathlib.Core.Bool.{Bool, true, _||_}
-use mathlib.Core.List.{List, [], _∷_}
+use Prim.Native.Nat.{ℕ, _+_}
+use mathlib.Core.Path.{_≡_, refl, sym, ap, _∙_, subst}
+use mathlib.Core.List.{List}
 use mathlib.Core.Option.{Option, none, some}
 use native.Mathlib.Omega.{arith}
-use borrow.Author.Tests.{lt-ltb, le-ltb}
-use lib.Dec.{ltb}
+use lib.ListN.{length, length-replicate}
 use Rattle.paper.proofs.gates.Acceptance.{silent-readable, readable-walk}
 use Rattle.paper.proofs.basics.Answers.{report-one}
-use Rattle.paper.proofs.basics.Choices.{or-left, or-right, false-or}
 use Rattle.paper.proofs.gates.Gates.{orElse-none, naming-none, some≢none, some-one}
-use Rattle.paper.specs.rules.Answer.{Answer, report, reportAsPaper}
-use Rattle.paper.specs.rules.Choice.{_when_, firstDue, orElse}
-use Rattle.paper.specs.rules.Gate.{naming, phase1, phase2, shortSlices}
+use Rattle.paper.specs.rules.Answer.{Answer, reportAsPaper}
+use Rattle.paper.specs.rules.Choice.{orElse}
+use Rattle.paper.specs.rules.Gate.{phase1, phase2, shortSlices, zeros, indexOf}
 use Rattle.paper.specs.terms.Good.{Readable}
-use Rattle.paper.specs.rules.Header.{headerReport}
+use Rattle.paper.specs.rules.Header.{headerLength, headerReport}
+use Rattle.paper.specs.rules.Lean.{walkBehind}
 use Rattle.paper.specs.rules.Table.{count}
-use Rattle.paper.specs.rules.Walk.{walk, tableOf}
+use Rattle.paper.specs.rules.Walk.{Walked, recordsIn, tableOf, placesFrom}
+use Rattle.paper.specs.terms.Put.{put}
 use Rattle.paper.specs.declared.Report.{Report}
-use Rattle.scan.proofs.Findings.{headerReport-section, counted-phase2, refused-phase2, counted-count}
+use Rattle.scan.proofs.Findings.{headerReport-section}
+use Rattle.scan.proofs.Rests.{walkBehind-alone, countBehind-alone, restReport-alone}
+use Rattle.scan.proofs.Written.{index-alone}
 use Rattle.header.specs.Header.{HeaderOf, SectionsOf}
-use Rattle.scan.specs.Phase2.{TypeSection, counted, refused, findingOf, walkedAsPaper, WalkDone}
+use Rattle.scan.specs.Behind.{FoundBy, countBehind, restReport}
+use Rattle.scan.specs.Phase2.{TypeSection, counted, findingOf, behind, WalkDone}
 use Rattle.scan.specs.Scan.{scanReport, CountOf, FoundOf, indexAfter, ScanOf}
 use Rattle.scan.specs.declared.found.Scanned.{Scanned}
 use Rattle.scan.specs.declared.found.Scanned.the-variants.{Counted, Refused}
 use Rattle.header.specs.declared.first.Header.{Header}
 use Rattle.header.specs.declared.first.Header.the-variants.{Good, Bad}
 use Rattle.header.specs.declared.first.Sections.{Sections}
-use Rattle.scan.specs.declared.walk.Walked.{Walked}
-use Rattle.scan.specs.declared.walk.Walked.the-variants.{Whole, Stopped}
-
--- enough places for n types
-slices-enough : (n places work : ℕ) → n < places → n < work → shortSlices n places work ≡ none
-unfolding shortSlices
-slices-enough n places work h k =
-    ap (λ (t : Bool). naming 0 (firstDue (9 when t ∷ []))) (false-or (le-ltb places (n + 1) (omega arith)) (le-ltb work (n + 1) (omega arith)))
 
 module _ (b : List ℕ) (places work : ℕ) where
   -- ── by the header ──
@@ -54,38 +48,16 @@ module _ (b : List ℕ) (places work : ℕ) where
     unfolding phase1
     found-section = headerReport-section b (naming-none 0 (headerReport b) (sections .silent)) (sections .types)
 
-    -- ── by the walk ──
-
-    pub found-stopped : {w : Walked} {r : Report} → walkedAsPaper w ≡ findingOf (walk b) → w ≡ Stopped r → scanReport b places work ≡ some (reportAsPaper r)
+    -- where phase 1 is silent, the rest decides, behind no types
+    silent : scanReport b places work ≡ restReport 0 b places work
     unfolding scanReport
-    found-stopped f q =
-        ap₂ (λ (o u : Option Answer). orElse o (orElse u (shortSlices (count (tableOf b)) places work))) (sections .silent)
-        (refused-phase2 b (sym f ∙ ap walkedAsPaper q))
+    silent =
+        ap (λ (o : Option Answer). orElse o (orElse (phase2 b) (shortSlices (count (tableOf b)) places work))) (sections .silent)
+        ∙ sym (restReport-alone b places work)
 
-    module _ {w : Walked} {n : ℕ} (f : walkedAsPaper w ≡ findingOf (walk b)) (q : w ≡ Whole n) where
-      found : findingOf (walk b) ≡ counted n
-      found = sym f ∙ ap walkedAsPaper q
-
-      left : scanReport b places work ≡ shortSlices n places work
-      unfolding scanReport
-      left =
-          ap₂ (λ (o u : Option Answer). orElse o (orElse u (shortSlices (count (tableOf b)) places work))) (sections .silent) (counted-phase2 b found)
-          ∙ ap (λ (m : ℕ). shortSlices m places work) (counted-count b found)
-
-      nine : (ltb places (n + 1) || ltb work (n + 1)) ≡ true → scanReport b places work ≡ some (report 9 0)
-      unfolding shortSlices
-      nine due = left ∙ ap (λ (t : Bool). naming 0 (firstDue (9 when t ∷ []))) due
-
-      pub found-places : places ≤ n → scanReport b places work ≡ some (report 9 0)
-      found-places h = nine (or-left (ltb work (n + 1)) (lt-ltb places (n + 1) (omega arith)))
-
-      pub found-work : work ≤ n → scanReport b places work ≡ some (report 9 0)
-      found-work h = nine (or-right (ltb places (n + 1)) (lt-ltb work (n + 1) (omega arith)))
-
-      pub found-count : n < places → n < work → CountOf n b places work
-      unfolding scanReport
-      found-count h k =
-          record { silent = left ∙ slices-enough n places work h k; counts = sym (counted-count b found) }
+    pub found-rest : (r : Scanned) → FoundBy r (restReport 0 b places work) (countBehind 0 b) → FoundOf r b places work
+    found-rest (Counted n) f = record { silent = silent ∙ f .silent; counts = f .counts ∙ countBehind-alone b }
+    found-rest (Refused r) f = silent ∙ f
 
   -- ── what a count gives the places ──
 
@@ -96,16 +68,29 @@ module _ (b : List ℕ) (places work : ℕ) where
       let two = orElse-none (phase2 b) _ (one .1) in
       silent-readable b places work (one .0) (two .0) (two .1)
 
-  pub count-done : {n : ℕ} → CountOf n b places work → WalkDone b n places
+  pub count-done : {n : ℕ} → CountOf n b places work → WalkDone b 0 n places
   unfolding phase1 scanReport
   count-done {n} c =
       let r = count-readable c in
       let one = orElse-none (phase1 b) _ (c .silent) in
       record {
         section = headerReport-section b (naming-none 0 (headerReport b) (one .0)) refl;
-        finds = ap findingOf (readable-walk b places work r) ∙ ap counted (sym (c .counts));
+        finds =
+            ap (λ (w : Walked). behind 0 (findingOf w)) (walkBehind-alone b ∙ readable-walk b places work r)
+            ∙ let same : 0 + count (tableOf b) ≡ count (tableOf b) = omega arith in ap counted (same ∙ sym (c .counts));
         enough = omega (arith, r .enough-places, c .counts);
       }
+
+  -- a cleared index takes the places, and is then the table's
+  module _ {n : ℕ} {index : List ℕ} (c : CountOf n b places work) (clear : index ≡ zeros places) where
+    pub scan-begins : WalkDone b 0 n (length index)
+    scan-begins = let long : length index ≡ places = ap length clear ∙ length-replicate places 0 in rw long (count-done c)
+
+    pub scan-filled : {after : List ℕ} → after ≡ put index 1 (placesFrom headerLength (recordsIn (walkBehind 0 b))) → after ≡ indexOf (tableOf b) places
+    scan-filled e =
+        e
+        ∙ ap (λ (i : List ℕ). put i 1 (placesFrom headerLength (recordsIn (walkBehind 0 b)))) clear
+        ∙ index-alone b places (omega (arith, count-readable c .enough-places))
 
 -- ── any two results that the contract of `scan` allows are the same ──
 

@@ -4,4 +4,6 @@ pub mod Progress
 pub mod Findings
 pub mod Written
 pub mod Placing
+pub mod Rests
 pub mod Founds
+pub mod Behinds

@@ -1,27 +1,27 @@
 -- What is left of writing the places: the words of the records to come, and their places.
 -- Assumes nothing.
-use Prim.Native.Nat.{ℕ, suc, _+_, _*_, _≤_, _<_}
-use mathlib.Core.Path.{_≡_, refl, sym, ap, _∙_}
-use mathlib.Core.List.{List, _∷_, _++_}
+use Prim.Native.Nat.{ℕ, suc, _+_, _-_, _*_, _≤_, _<_}
+use mathlib.Core.Path.{_≡_, refl, sym, ap, ap₂, subst, _∙_}
+use mathlib.Core.List.{List, [], _∷_, _++_}
 use native.Mathlib.Numerals.{add-one}
 use native.Mathlib.Omega.{arith}
-use lib.ListN.{length, getD, drop, set, length-append, length-replicate}
+use lib.ListN.{length, getD, drop, set, length-append}
 use lib.Seq.{drop-cons, drop-at}
 use Rattle.paper.specs.terms.Fit.{Whole}
-use Rattle.paper.specs.rules.Gate.{zeros, indexOf}
 use Rattle.paper.specs.rules.Header.{orderOf, headerLength, typeLen}
+use Rattle.paper.specs.rules.Lean.{walkBehind}
 use Rattle.paper.specs.rules.Limits.{typeLimit, byteLimit}
 use Rattle.paper.specs.rules.Table.{Record, nothing, tailLength, wordsOf}
-use Rattle.paper.specs.rules.Walk.{typeWords, walk, tableOf, flat, placesFrom, placesOf}
+use Rattle.paper.specs.rules.Walk.{typeWords, recordsIn, flat, placesFrom, placesOf}
 use Rattle.paper.specs.rules.Word.{wordAt}
-use Rattle.paper.proofs.bytes.Blobs.{tableOf-found}
-use Rattle.paper.proofs.bytes.Places.{length-placesOf}
-use Rattle.paper.proofs.bytes.Sections.{whole-at}
 use Rattle.paper.specs.terms.Good.{WholeWalk}
+use Rattle.paper.specs.terms.Put.{put}
+use Rattle.paper.proofs.bytes.Places.{length-placesOf}
+use Rattle.paper.proofs.bytes.Puts.{Copying, copying-start, copying-next, copying-done}
+use Rattle.paper.proofs.bytes.Sections.{whole-at, flat-walkFrom}
 use Rattle.scan.specs.Phase2.{WalkDone}
-use Rattle.scan.proofs.Findings.{finding-records, counted-count}
+use Rattle.scan.proofs.Findings.{behind-records}
 use Rattle.scan.proofs.Left.{left, typeWords-left, left-length, left-head, left-drop}
-use Rattle.scan.proofs.Written.{written, written-none, written-length, written-more, written-all}
 
 -- ── a record whose words are the next that are left ──
 
@@ -42,72 +42,82 @@ module _ (b : List ℕ) (end : ℕ) (inside : end ≤ length b) (at : ℕ) (r : 
 
 -- ── where the writing stands ──
 
--- k of n places are written, and the next record is at `at`
-pub record Placing (b : List ℕ) (n size k at : ℕ) (index : List ℕ) : Type 0 where
-  pub done : WalkDone b n size
-  pub few : k ≤ n
-  pub words-left : left b at (headerLength + typeLen b) ≡ flat (drop k (tableOf b .records))
-  pub places-left : placesFrom at (drop k (tableOf b .records)) ≡ drop k (placesOf (tableOf b))
-  pub filled : index ≡ written (placesOf (tableOf b)) size k
+-- the records behind so many types, and their places
+abbrev newRecords : ℕ → List ℕ → List Record
+newRecords first b = recordsIn (walkBehind first b)
 
-found : {b : List ℕ} {n size : ℕ} → WalkDone b n size → WholeWalk typeLimit (typeWords b) (tableOf b .records)
-found {b} done = tableOf-found b _ (finding-records (walk b) (done .finds) .0)
+abbrev newPlaces : ℕ → List ℕ → List ℕ
+newPlaces first b = placesFrom headerLength (newRecords first b)
 
-started : {b : List ℕ} {n size : ℕ} → WalkDone b n size → Placing b n size 0 headerLength (zeros size)
+-- the places up to k are written, and the next record is at `at`
+pub record Placing (b : List ℕ) (first n : ℕ) (start : List ℕ) (k at : ℕ) (index : List ℕ) : Type 0 where
+  pub done : WalkDone b first n (length start)
+  pub passed : ℕ
+  pub numbered : k ≡ first + passed
+  pub words-left : left b at (headerLength + typeLen b) ≡ flat (drop passed (newRecords first b))
+  pub places-left : placesFrom at (drop passed (newRecords first b)) ≡ drop passed (newPlaces first b)
+  pub filled : Copying start (suc first) (newPlaces first b) index passed
+
+found : {b : List ℕ} {first n size : ℕ} → WalkDone b first n size → WholeWalk (typeLimit - first) (typeWords b) (newRecords first b)
+unfolding walkBehind
+found {b} {first} done = flat-walkFrom _ _ _ (typeWords b) _ (behind-records first (walkBehind first b) (done .finds) .0)
+
+-- as many as there are records
+counts : {b : List ℕ} {first n size : ℕ} → WalkDone b first n size
+    → (first + length (newRecords first b) ≡ n) × (length (newPlaces first b) ≡ length (newRecords first b))
 unfolding placesOf
-started {b} {n} {size} done =
+counts {b} {first} done =
+    (behind-records first (walkBehind first b) (done .finds) .1, length-placesOf (record { records = newRecords first b; strings = [] }))
+
+pub placing-start : {b : List ℕ} {first n : ℕ} {index : List ℕ} → WalkDone b first n (length index) → Placing b first n index first headerLength index
+placing-start {b} {first} {n} {index} done =
     record {
       done = done;
-      few = omega arith;
+      passed = 0;
+      numbered = omega arith;
       words-left = sym (found done .flat-found ∙ typeWords-left b);
       places-left = refl;
-      filled = written-none (placesOf (tableOf b)) size (omega (arith, done .enough));
+      filled = copying-start index (suc first) (newPlaces first b);
     }
 
--- it begins with a cleared index
-pub placing-start : {b : List ℕ} {n size : ℕ} {index : List ℕ} → WalkDone b n size → index ≡ zeros size
-    → Placing b n (length index) 0 headerLength index
-placing-start {size} done e = rw (e, length-replicate {A = ℕ} size 0) (started done)
-
-module _ {b : List ℕ} {n size k at : ℕ} {index : List ℕ} (p : Placing b n size k at index) where
+module _ {b : List ℕ} {first n : ℕ} {start : List ℕ} {k at : ℕ} {index : List ℕ} (p : Placing b first n start k at index) where
   abbrev rs : List Record
-  rs = tableOf b .records
+  rs = newRecords first b
 
   abbrev ps : List ℕ
-  ps = placesOf (tableOf b)
+  ps = newPlaces first b
 
-  counts : (length rs ≡ n) × (length ps ≡ n)
-  counts = let e = counted-count b (p .done .finds) in (e, length-placesOf (tableOf b) ∙ e)
+  abbrev j : ℕ
+  j = p .passed
 
-  pub placing-length : length index ≡ size
-  placing-length =
-      ap length (p .filled)
-      ∙ written-length ps size k (omega (arith, counts, p .few)) (omega (arith, p .done .enough, p .few))
+  pub placing-length : length index ≡ length start
+  placing-length = p .filled .kept
 
-  -- it ends with the whole index
-  pub placing-done : n ≤ k → index ≡ indexOf (tableOf b) size
-  placing-done h =
-      let all : k ≡ length rs = omega (arith, counts, p .few) in
-      p .filled ∙ written-all (tableOf b) size all
+  -- it ends with all places written
+  pub placing-done : n ≤ k → index ≡ put start (suc first) ps
+  placing-done h = copying-done (p .filled) (omega (arith, counts (p .done), p .numbered))
 
   module _ (more : k < n) where
     -- the record to come
     abbrev r : Record
-    r = getD rs k nothing
+    r = getD rs j nothing
 
-    front : drop k rs ≡ r ∷ drop (suc k) rs
-    front = drop-cons rs k nothing (omega (arith, counts))
+    inside : j < length rs
+    inside = omega (arith, counts (p .done), p .numbered)
 
-    next : left b at (headerLength + typeLen b) ≡ wordsOf r ++ flat (drop (suc k) rs)
+    front : drop j rs ≡ r ∷ drop (suc j) rs
+    front = drop-cons rs j nothing inside
+
+    next : left b at (headerLength + typeLen b) ≡ wordsOf r ++ flat (drop (suc j) rs)
     next = p .words-left ∙ ap flat front
 
-    heads : at ∷ placesFrom (at + 4 * length (wordsOf r)) (drop (suc k) rs) ≡ getD ps k 0 ∷ drop (suc k) ps
-    heads = sym (ap (placesFrom at) front) ∙ p .places-left ∙ drop-cons ps k 0 (omega (arith, counts))
+    heads : at ∷ placesFrom (at + 4 * length (wordsOf r)) (drop (suc j) rs) ≡ getD ps j 0 ∷ drop (suc j) ps
+    heads = sym (ap (placesFrom at) front) ∙ p .places-left ∙ drop-cons ps j 0 (omega (arith, counts (p .done), inside))
 
     -- its length is what its info word says
     length-here : at + (12 + 4 * tailLength (wordAt (orderOf b) b (at + 4))) ≡ at + 4 * length (wordsOf r)
     length-here =
-        let whole : Whole r = whole-at rs (found (p .done) .whole-found) k (omega (arith, counts)) in
+        let whole : Whole r = whole-at rs (found (p .done) .whole-found) j inside in
         omega (arith, ap tailLength (record-info b _ (p .done .section .inside) at r _ next), whole .whole-tail)
 
     -- it ends within the byte limit
@@ -121,22 +131,25 @@ module _ {b : List ℕ} {n size k at : ℕ} {index : List ℕ} (p : Placing b n 
     placing-room = omega (arith, placing-length, p .done .enough)
 
     -- and the index takes its place there
-    pub placing-step : Placing b n size (k + 1) (at + (12 + 4 * tailLength (wordAt (orderOf b) b (at + 4)))) (set index (k + 1) at)
+    pub placing-step : Placing b first n start (k + 1) (at + (12 + 4 * tailLength (wordAt (orderOf b) b (at + 4)))) (set index (k + 1) at)
     placing-step =
+        let here : suc first + j ≡ k + 1 = omega (arith, p .numbered) in
+        let room : suc first + length ps ≤ length start = omega (arith, counts (p .done), p .done .enough) in
+        let value : getD ps j 0 ≡ at = sym (ap (λ (l : List ℕ). getD l 0 0) heads) in
         record {
           done = p .done;
-          few = omega arith;
+          passed = j + 1;
+          numbered = omega (arith, p .numbered);
           words-left =
               ap (λ (q : ℕ). left b q (headerLength + typeLen b)) length-here
               ∙ record-behind b _ (p .done .section .inside) at r _ next
-              ∙ ap (λ (m : ℕ). flat (drop m rs)) (sym (add-one k));
+              ∙ ap (λ (m : ℕ). flat (drop m rs)) (sym (add-one j));
           places-left =
-              ap (λ (q : ℕ). placesFrom q (drop (k + 1) rs)) length-here
-              ∙ ap (λ (m : ℕ). placesFrom (at + 4 * length (wordsOf r)) (drop m rs)) (add-one k)
+              ap (λ (q : ℕ). placesFrom q (drop (j + 1) rs)) length-here
+              ∙ ap (λ (m : ℕ). placesFrom (at + 4 * length (wordsOf r)) (drop m rs)) (add-one j)
               ∙ ap (drop 1) heads
-              ∙ ap (λ (m : ℕ). drop m ps) (sym (add-one k));
+              ∙ ap (λ (m : ℕ). drop m ps) (sym (add-one j));
           filled =
-              ap (λ (i : List ℕ). set i (k + 1) at) (p .filled)
-              ∙ ap (λ (v : ℕ). set (written ps size k) (k + 1) v) (ap (λ (l : List ℕ). getD l 0 0) heads)
-              ∙ written-more ps size k (omega (arith, counts)) (omega (arith, p .done .enough));
+              subst (λ (i : List ℕ). Copying start (suc first) ps i (j + 1)) (ap₂ (set index) here value)
+              (copying-next (p .filled) room (omega (arith, counts (p .done), inside)));
         }

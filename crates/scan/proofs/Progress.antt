@@ -10,25 +10,18 @@ use Rattle.paper.specs.rules.Answer.{reportAt}
 use Rattle.paper.specs.rules.Header.{orderOf, headerLength}
 use Rattle.paper.specs.rules.Limits.{typeLimit}
 use Rattle.paper.specs.rules.Table.{Record, tailLength}
-use Rattle.paper.specs.rules.Walk.{Walked, records, stopped, ahead, walkFrom, walk}
+use Rattle.paper.specs.rules.Lean.{walkBehind}
+use Rattle.paper.specs.rules.Walk.{Walked, records, stopped, ahead, walkFrom}
 use Rattle.paper.specs.rules.Word.{wordAt}
 use Rattle.paper.proofs.bytes.Sections.{recordFrom}
 use Rattle.scan.specs.declared.walk.Behind.{Behind}
 use Rattle.scan.specs.declared.walk.Behind.the-variants.{Next, Cut, Unknown}
-use Rattle.scan.specs.Phase2.{TypeSection, Finding, counted, refused, findingOf, behindOf}
+use Rattle.scan.specs.Phase2.{WalkBegins, Finding, counted, refused, findingOf, behind, walkFinds, behindOf}
 use Rattle.scan.proofs.Left.{left, typeWords-left, left-length, left-head, left-drop, left-end}
 use Rattle.scan.proofs.WalkSteps.{Way, head-cut, unknown, tail-cut, onward, behindOf-way}
 use Rattle.scan.proofs.WalkSteps.{walkFrom-done, walkFrom-full, walkFrom-short, walkRecord-unknown, walkRecord-cut, walkRecord-onward}
 
 -- ── a finding behind some records ──
-
-abbrev behind : ℕ → Finding → Finding
-behind k (counted n) = counted (k + n)
-behind k (refused a) = refused a
-
-behind-none : (f : Finding) → behind 0 f ≡ f
-behind-none (counted n) = let same : 0 + n ≡ n = omega arith in ap counted same
-behind-none (refused a) = refl
 
 behind-behind : (j k : ℕ) (f : Finding) → behind j (behind k f) ≡ behind (j + k) f
 behind-behind j k (counted n) = let same : j + (k + n) ≡ j + k + n = omega arith in ap counted same
@@ -74,32 +67,35 @@ module _ (b : List ℕ) (end : ℕ) (inside : end ≤ length b) (room k at : ℕ
 abbrev fromHere : List ℕ → ℕ → ℕ → ℕ → Finding
 fromHere b end count at = behind count (findingOf (walkFrom (typeLimit - count) (count + 1) at (left b at end)))
 
--- a walk that has counted so many records and stands at a place, with whole words left
-pub record Standing (b : List ℕ) (end count at : ℕ) : Type 0 where
+-- a walk that has counted so many types and stands at a place, with whole words left; what it finds at all is what it finds from here
+pub record Standing (found : Finding) (b : List ℕ) (end count at : ℕ) : Type 0 where
   pub inside : end ≤ length b
   pub within : at ≤ end
   pub whole : (end - at) % 4 ≡ 0
   pub few : count ≤ typeLimit
-  pub finds : findingOf (walk b) ≡ fromHere b end count at
+  pub finds : found ≡ fromHere b end count at
 
--- it begins behind the header
-pub standing-start : (b : List ℕ) (n : ℕ) → TypeSection b n → Standing b (headerLength + n) 0 headerLength
-unfolding walk
-standing-start b n s =
+-- it begins behind the header, with the types before it counted
+pub standing-start : (b : List ℕ) (first n : ℕ) → WalkBegins b first n
+    → Standing (walkFinds first b) b (headerLength + n) first headerLength
+unfolding walkBehind
+standing-start b first n w =
+    let s = w .section in
+    let from : ℕ → List ℕ → Finding = λ k ws. behind first (findingOf (walkFrom (typeLimit - first) k headerLength ws)) in
     record {
       inside = s .inside;
       within = omega arith;
       whole = omega (arith, s .whole-words);
-      few = omega arith;
+      few = w .few;
       finds =
-          ap (λ (ws : List ℕ). findingOf (walkFrom typeLimit 1 headerLength ws)) (typeWords-left b)
-          ∙ ap (λ (m : ℕ). findingOf (walkFrom typeLimit 1 headerLength (left b headerLength (headerLength + m)))) (sym (s .is-type-len))
-          ∙ sym (behind-none (findingOf (walkFrom typeLimit 1 headerLength (left b headerLength (headerLength + n)))));
+          ap (from (suc first)) (typeWords-left b)
+          ∙ ap (λ (m : ℕ). from (suc first) (left b headerLength (headerLength + m))) (sym (s .is-type-len))
+          ∙ ap (λ (k : ℕ). from k (left b headerLength (headerLength + n))) (sym (add-one first));
     }
 
-module _ (b : List ℕ) (end count at : ℕ) (st : Standing b end count at) where
+module _ {found : Finding} (b : List ℕ) (end count at : ℕ) (st : Standing found b end count at) where
   -- at the end all records are counted
-  pub standing-done : end ≤ at → findingOf (walk b) ≡ counted count
+  pub standing-done : end ≤ at → found ≡ counted count
   standing-done h =
       let there : at ≡ end = omega (arith, st .within) in
       let same : count + 0 ≡ count = omega arith in
@@ -110,7 +106,7 @@ module _ (b : List ℕ) (end count at : ℕ) (st : Standing b end count at) wher
       ∙ ap counted same
 
   -- 8: something is left behind the last record that may stand
-  pub standing-full : at < end → count ≡ typeLimit → findingOf (walk b) ≡ refused (reportAt 8 (typeLimit + 1) at)
+  pub standing-full : at < end → count ≡ typeLimit → found ≡ refused (reportAt 8 (typeLimit + 1) at)
   standing-full more e =
       let some : 0 < length (left b at end) = omega (arith, left-length b end (st .inside) at, st .whole) in
       st .finds
@@ -118,20 +114,20 @@ module _ (b : List ℕ) (end count at : ℕ) (st : Standing b end count at) wher
       ∙ ap (λ (w : Walked). behind typeLimit (findingOf w)) (walkFrom-full (typeLimit + 1) at (left b at end) some)
 
 -- what a step from there tells: a report, or that the walk stands further on
-abbrev pub Told : List ℕ → ℕ → ℕ → ℕ → Behind → Type 0
-Told b end count at Cut = findingOf (walk b) ≡ refused (reportAt 6 (count + 1) at)
-Told b end count at Unknown = findingOf (walk b) ≡ refused (reportAt 7 (count + 1) at)
-Told b end count at (Next p) = (at < p .0) × Standing b end (count + 1) (p .0)
+abbrev pub Told : Finding → List ℕ → ℕ → ℕ → ℕ → Behind → Type 0
+Told found b end count at Cut = found ≡ refused (reportAt 6 (count + 1) at)
+Told found b end count at Unknown = found ≡ refused (reportAt 7 (count + 1) at)
+Told found b end count at (Next p) = (at < p .0) × Standing found b end (count + 1) (p .0)
 
-module _ (b : List ℕ) (end count at : ℕ) (st : Standing b end count at) (more : at < end) (room : count ≡ typeLimit → ⊥) where
-  stepped : {s : Behind} → Way b at end s → findingOf (walk b) ≡ behind count (afterStep b end (typeLimit - (count + 1)) (count + 1) at s)
+module _ {found : Finding} (b : List ℕ) (end count at : ℕ) (st : Standing found b end count at) (more : at < end) (room : count ≡ typeLimit → ⊥) where
+  stepped : {s : Behind} → Way b at end s → found ≡ behind count (afterStep b end (typeLimit - (count + 1)) (count + 1) at s)
   stepped way =
       let one : typeLimit - count ≡ suc (typeLimit - (count + 1)) = omega (arith, st .few) in
       st .finds
       ∙ ap (λ (n : ℕ). behind count (findingOf (walkFrom n (count + 1) at (left b at end)))) one
       ∙ ap (behind count) (walkFrom-step b end (st .inside) (typeLimit - (count + 1)) (count + 1) at more (st .whole) way)
 
-  told : {s : Behind} → Way b at end s → Told b end count at s
+  told : {s : Behind} → Way b at end s → Told found b end count at s
   told (head-cut h) = stepped (head-cut h)
   told (unknown h e) = stepped (unknown h e)
   told (tail-cut h e n) = stepped (tail-cut h e n)
@@ -151,5 +147,5 @@ module _ (b : List ℕ) (end count at : ℕ) (st : Standing b end count at) (mor
         },
       )
 
-  pub standing-step : {s : Behind} → behindOf b at end ≡ s → Told b end count at s
+  pub standing-step : {s : Behind} → behindOf b at end ≡ s → Told found b end count at s
   standing-step e = told (rw e at (behindOf-way b at end))

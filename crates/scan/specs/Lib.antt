@@ -1,2 +1,3 @@
 pub mod Phase2
 pub mod Scan
+pub mod Behind

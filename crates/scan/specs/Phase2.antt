@@ -7,9 +7,10 @@ use lib.Dec.{leb}
 use lib.ListN.{length}
 use Rattle.paper.specs.rules.Answer.{Answer, reportAt, reportAsPaper}
 use Rattle.paper.specs.rules.Header.{orderOf, headerLength, typeLen}
-use Rattle.paper.specs.rules.Limits.{byteLimit}
+use Rattle.paper.specs.rules.Lean.{walkBehind}
+use Rattle.paper.specs.rules.Limits.{byteLimit, typeLimit}
 use Rattle.paper.specs.rules.Table.{kindIn, tailLength}
-use Rattle.paper.specs.rules.Walk.{records, stopped, known, walk}
+use Rattle.paper.specs.rules.Walk.{records, stopped, known}
 use Rattle.paper.specs.rules.Walk as paper
 use Rattle.paper.specs.rules.Word.{wordAt}
 use Rattle.scan.specs.declared.walk.Behind.{Behind}
@@ -24,6 +25,11 @@ pub record TypeSection (b : List ℕ) (n : ℕ) : Type 0 where
   pub inside : headerLength + n ≤ length b
   pub short : length b ≤ byteLimit
 
+-- and of the types that stand before it
+pub record WalkBegins (b : List ℕ) (first n : ℕ) : Type 0 where
+  pub section : TypeSection b n
+  pub few : first ≤ typeLimit
+
 -- what a walk has found, but for the records themselves: how many there are, or a report
 pub data Finding : Type 0 where
   counted : ℕ → Finding
@@ -33,14 +39,23 @@ abbrev pub findingOf : paper.Walked → Finding
 findingOf (records rs) = counted (length rs)
 findingOf (stopped n t p) = refused (reportAt n t p)
 
+-- a finding behind so many types
+abbrev pub behind : ℕ → Finding → Finding
+behind k (counted n) = counted (k + n)
+behind k (refused a) = refused a
+
+-- what the walk behind so many types finds
+abbrev pub walkFinds : ℕ → List ℕ → Finding
+walkFinds first b = behind first (findingOf (walkBehind first b))
+
 abbrev pub walkedAsPaper : Walked → Finding
 walkedAsPaper (Whole n) = counted n
 walkedAsPaper (Stopped r) = refused (reportAsPaper r)
 
--- what phases 1 and 2 have shown before the places are written: a walk that counted n records, and enough places for them
-pub record WalkDone (b : List ℕ) (n places : ℕ) : Type 0 where
+-- what phases 1 and 2 have shown before the places are written: a walk behind so many types that counted to n, and enough places for them
+pub record WalkDone (b : List ℕ) (first n places : ℕ) : Type 0 where
   pub section : TypeSection b (typeLen b)
-  pub finds : findingOf (walk b) ≡ counted n
+  pub finds : walkFinds first b ≡ counted n
   pub enough : n + 1 ≤ places
 
 -- one step from a place: the place behind the record there, or why there is none

@@ -1,21 +1,22 @@
 // The places of the records, which an accepted blob leaves in the index.
-use crate::slices::clear;
 use paper::Place;
 use rows::tail_words;
 ghost use mathlib.Core.Path.{_≡_};
+ghost use Prim.Native.Nat.{suc};
 ghost use lib.ListN.{length};
-ghost use Rattle.paper.specs.rules.Gate.{indexOf};
-ghost use Rattle.paper.specs.rules.Walk.{tableOf};
+ghost use Rattle.paper.specs.rules.Header.{headerLength};
+ghost use Rattle.paper.specs.rules.Lean.{walkBehind};
+ghost use Rattle.paper.specs.rules.Walk.{placesFrom, recordsIn};
+ghost use Rattle.paper.specs.terms.Put.{put};
 ghost use Rattle.scan.specs.Phase2.{WalkDone};
 
-// The places of the n records that a walk has counted, behind a 0; the rest is 0.
-pub(crate) fn places(b: &[u8], n: u32, index: &mut [u32])
-    requires { ⌜ WalkDone (now b) n (length (now index)) ⌝ }
-    ensures { λ r. ⌜ now (index .exit) ≡ indexOf (tableOf (now (b .entry))) (length (now (index .entry))) ⌝ }
+// The places of the records behind so many types, up to the n that a walk has counted. All other places are left as they are.
+pub(crate) fn places(b: &[u8], first: u32, n: u32, index: &mut [u32])
+    requires { ⌜ WalkDone (now b) first n (length (now index)) ⌝ }
+    ensures { λ r. ⌜ now (index .exit) ≡ put (now (index .entry)) (suc first) (placesFrom headerLength (recordsIn (walkBehind first (now (b .entry))))) ⌝ }
 {
-    clear(index);
     let mut at: u32 = 24;
-    let mut k: u32 = 0;
+    let mut k = first;
     while k < n {
         k += 1;
         index[k as usize] = at;

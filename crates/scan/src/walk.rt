@@ -8,8 +8,7 @@ use rows::kind_of;
 use rows::tail_words;
 ghost use mathlib.Core.Path.{_≡_};
 ghost use Prim.Native.Nat.{_≤_};
-ghost use Rattle.paper.specs.rules.Walk as paper;
-ghost use Rattle.scan.specs.Phase2.{TypeSection, findingOf, walkedAsPaper, behindOf};
+ghost use Rattle.scan.specs.Phase2.{WalkBegins, walkFinds, walkedAsPaper, behindOf};
 
 // What stands at a record's place: the place behind the record, or why there is none.
 pub(crate) enum Behind {
@@ -18,7 +17,7 @@ pub(crate) enum Behind {
     Unknown,
 }
 
-// What a walk of the type section finds: the count of its records, or a report.
+// What a walk of the type section finds: the count of types, those before it and its records, or a report.
 pub(crate) enum Walked {
     Whole(u32),
     Stopped(Report),
@@ -44,14 +43,14 @@ fn behind_of(b: &[u8], at: Place, end: Place) -> Behind
     Behind::Next(Place(at.0 + 12 + tail))
 }
 
-// The walk of a type section of `len` bytes. 8 is tested before anything is read of the record.
-pub(crate) fn walk(b: &[u8], len: u32) -> Walked
-    requires { ⌜ TypeSection (now b) len ⌝ }
-    ensures { λ r. ⌜ walkedAsPaper r ≡ findingOf (paper.walk (now (b .entry))) ⌝ }
+// The walk of a type section of `len` bytes behind so many types, whose numbers go on. 8 is tested before anything is read of the record.
+pub(crate) fn walk(b: &[u8], first: u32, len: u32) -> Walked
+    requires { ⌜ WalkBegins (now b) first len ⌝ }
+    ensures { λ r. ⌜ walkedAsPaper r ≡ walkFinds first (now (b .entry)) ⌝ }
 {
     let end = 24 + len;
     let mut at: u32 = 24;
-    let mut count: u32 = 0;
+    let mut count = first;
     while at < end {
         if count == TYPE_LIMIT {
             return Walked::Stopped(Report::ManyTypes(Place(at)));

@@ -6,20 +6,21 @@ use native.Mathlib.Omega.{arith}
 use borrow.Author.Needs.{needs}
 use denote.Ref.{now}
 use Rattle.paper.specs.rules.Answer.{reportAsPaper}
+use Rattle.scan.specs.Phase2.{walkFinds}
 use Rattle.scan.specs.declared.walk.Behind.{Behind}
 use Rattle.scan.proofs.Progress.{Standing, Told, standing-start, standing-done, standing-full, standing-step}
 use Rattle.scan.proofs.walk.walk.Statement.{statement}
 use Rattle.scan.proofs.walk.walk.Tie as tie
 
 abbrev Inv-loop : tie.InvT-loop
-Inv-loop b len end at₀ count₀ at count = Standing b end count at
+Inv-loop b first len end at₀ count₀ at count = Standing (walkFinds first b) b end count at
 
 abbrev μ-loop : tie.MeasureT-loop
-μ-loop b len end at₀ count₀ at count = end - at
+μ-loop b first len end at₀ count₀ at count = end - at
 
 -- what the step of a turn tells
 told : (c : tie.After-behind-of Inv-loop μ-loop) {s : Behind} → let l = c .before .before .before in let a = l .before .before .args in
-    c .behind-of .result ≡ s → Told (now (a .b)) (24 + a .len) (l .loop .count) (l .loop .at) s
+    c .behind-of .result ≡ s → Told (walkFinds (a .first) (now (a .b))) (now (a .b)) (24 + a .len) (l .loop .count) (l .loop .at) s
 told c e =
     let l = c .before .before .before .loop in
     standing-step _ _ (l .count) (l .at) (l .inv) (c .before .before .loop-test .taken) (c .before .if1 .left) (sym (c .behind-of .ensures) ∙ e)
@@ -28,7 +29,7 @@ add-end : tie.Need-add-end Inv-loop μ-loop
 add-end c = search needs
 
 loop-holds : tie.Need-loop-holds Inv-loop μ-loop
-loop-holds c = standing-start _ (c .before .args .len) (c .before .pre)
+loop-holds c = standing-start _ _ (c .before .args .len) (c .before .pre)
 
 returns : tie.Need-returns Inv-loop μ-loop
 unfolding reportAsPaper
