@@ -211,7 +211,7 @@ module _ (b : List ℕ) (off : ℕ) where
   unfolding nameStart nameAt startIf nameIf
   nameAt-inside = nameIf-inside (nameless b off) b off (alone-held b off)
 
-  nameAt-part : take (length (nameAt b off)) (drop (nameStart b off) b) ≡ nameAt b off
+  pub nameAt-part : take (length (nameAt b off)) (drop (nameStart b off) b) ≡ nameAt b off
   unfolding nameStart nameAt startIf nameIf
   nameAt-part = nameIf-part (nameless b off) b off
 
@@ -224,7 +224,7 @@ module _ (b : List ℕ) (off : ℕ) where
     unfolding nameStartBehind nameAtBehind
     nameAtBehind-inside = nameIf-inside (namelessBehind before b off) b off (behind-held b off before)
 
-    nameAtBehind-part : take (length (nameAtBehind before b off)) (drop (nameStartBehind before b off) b) ≡ nameAtBehind before b off
+    pub nameAtBehind-part : take (length (nameAtBehind before b off)) (drop (nameStartBehind before b off) b) ≡ nameAtBehind before b off
     unfolding nameStartBehind nameAtBehind
     nameAtBehind-part = nameIf-part (namelessBehind before b off) b off
 
