@@ -42,9 +42,9 @@ slices-none n places work e =
     (omega (arith, ltb-false places (n + 1) (enough .0)), omega (arith, ltb-false work (n + 1) (enough .1)))
 
 -- where there is room for a type, the walk decides
-by-walk : (b : List ℕ) (first : ℕ) → first ≤ typeLimit → walkReportBehind first b ≡ walkReport (walkBehind first b)
+pub walkReport-few : (b : List ℕ) (first : ℕ) → first ≤ typeLimit → walkReportBehind first b ≡ walkReport (walkBehind first b)
 unfolding walkReportBehind
-by-walk b first few = rw (le-ltb _ _ few) refl
+walkReport-few b first few = rw (le-ltb _ _ few) refl
 
 module _ (b : List ℕ) (first places work : ℕ) where
   -- ── by the walk ──
@@ -58,7 +58,7 @@ module _ (b : List ℕ) (first places work : ℕ) where
     pub rest-stopped : {r : Report} → w ≡ Stopped r → restReport first b places work ≡ some (reportAsPaper r)
     rest-stopped q =
         ap (λ (o : Option Answer). orElse o (shortSlices (countBehind first b) places work))
-        (by-walk b first few ∙ behind-report first (walkBehind first b) (sym f ∙ ap walkedAsPaper q))
+        (walkReport-few b first few ∙ behind-report first (walkBehind first b) (sym f ∙ ap walkedAsPaper q))
 
     module _ {n : ℕ} (q : w ≡ Whole n) where
       found : walkFinds first b ≡ counted n
@@ -66,7 +66,7 @@ module _ (b : List ℕ) (first places work : ℕ) where
 
       left : restReport first b places work ≡ shortSlices n places work
       left =
-          ap₂ (λ (o : Option Answer) (m : ℕ). orElse o (shortSlices m places work)) (by-walk b first few ∙ behind-silent first (walkBehind first b) found)
+          ap₂ (λ (o : Option Answer) (m : ℕ). orElse o (shortSlices m places work)) (walkReport-few b first few ∙ behind-silent first (walkBehind first b) found)
           (behind-records first (walkBehind first b) found .1)
 
       nine : (ltb places (n + 1) || ltb work (n + 1)) ≡ true → restReport first b places work ≡ some (report 9 0)
