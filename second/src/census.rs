@@ -1,6 +1,7 @@
 //! How many cases there are of each op and answer.
 
-use crate::vectors::{Seen, CHECK, JOIN, MEMBER, NAME, SIZE};
+use crate::vectors::{Seen, CHECK, JOIN, LEANING, LEANING_NAME, LEANING_SIZE};
+use crate::vectors::{MEMBER, NAME, SIZE};
 use std::collections::BTreeMap;
 
 #[derive(Default)]
@@ -34,20 +35,26 @@ impl Census {
     }
 }
 
+/// What the size question answers by the numbers 0 to 2.
+const SIZES: [&str; 3] = ["exact", "no size", "overflow"];
+
 /// An op and its answer: the number, and the one inside.
 pub fn in_words(op: u32, number: u32, inner: u32) -> String {
     let (call, answer) = match (op, number) {
         (CHECK, 0) => ("check", "accepted"),
-        (SIZE, 0) => ("size", "exact"),
-        (SIZE, 1) => ("size", "no size"),
-        (SIZE, 2) => ("size", "overflow"),
+        (LEANING, 0) => ("leaning check", "accepted"),
+        (SIZE, 0..=2) => ("size", SIZES[number as usize]),
+        (LEANING_SIZE, 0..=2) => ("leaning size", SIZES[number as usize]),
         (NAME, 0) => ("name", "part of the blob"),
         (NAME, _) => ("name", "no name there"),
         (JOIN, 0) => ("join", "joined"),
         (MEMBER, 0) => ("member", "unsigned"),
         (MEMBER, 1) => ("member", "signed"),
         (MEMBER, 2) => ("member", "longer span"),
+        (LEANING_NAME, _) => ("leaning name", "part of either, or none"),
         (CHECK, _) => ("check", "report"),
+        (LEANING, _) => ("leaning check", "report"),
+        (LEANING_SIZE, _) => ("leaning size", "report"),
         (SIZE, _) => ("size", "report"),
         (MEMBER, _) => ("member", "report"),
         _ => ("join", "report"),

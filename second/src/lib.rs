@@ -19,12 +19,14 @@ pub mod timing;
 pub mod vectors;
 
 pub use rules::{
-    chain, check, head, header, join, layout, limits, members, name_at, names, order, record,
-    reference, report, size, table, tail, walk,
+    chain, check, head, header, join, layout, lean, lean_questions, limits, members, name_at,
+    names, order, record, reference, report, size, table, tail, walk,
 };
 
 pub use check::check;
 pub use join::{join, JoinRefusal};
+pub use lean::{check_leaning, LeaningRefusal};
+pub use lean_questions::{name_leaning, size_leaning, LeaningName};
 pub use name_at::name;
 pub use record::{read_member, ReadRefusal, Reading};
 pub use report::Report;

@@ -24,7 +24,7 @@ use second::changed::changed;
 use second::generate::{cases, cases_then_members, Scale, Wanted};
 use second::limits::FULL_PLACES;
 use second::report::meaning;
-use second::vectors::{self, run, Case, CHECK, MEMBER};
+use second::vectors::{self, run, Case, CHECK, JOIN, OPS};
 use std::io::Write;
 use std::process::ExitCode;
 
@@ -87,7 +87,7 @@ fn antt(arguments: &[String]) -> Result<Vec<u8>, String> {
         scale: Scale::Tiny,
         ..wanted(&rest)?
     };
-    if wanted.ops.contains(&MEMBER) {
+    if !wanted.ops.iter().all(|op| (CHECK..=JOIN).contains(op)) {
         return Err("antt has ops 1 to 4".to_string());
     }
     let in_a_list = if each.is_empty() { 25 } else { 1 };
@@ -120,8 +120,8 @@ fn wanted(arguments: &[String]) -> Result<Wanted, String> {
     }
     let fixed = wanted.edges || wanted.large || wanted.names;
     wanted.cases = count.unwrap_or(if fixed { 0 } else { 100 });
-    if wanted.ops.is_empty() || !wanted.ops.iter().all(|op| (CHECK..=MEMBER).contains(op)) {
-        return Err("ops are 1 to 5".to_string());
+    if wanted.ops.is_empty() || !wanted.ops.iter().all(|op| OPS.contains(op)) {
+        return Err("ops are 1 to 5 and 9 to 11".to_string());
     }
     Ok(wanted)
 }

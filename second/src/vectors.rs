@@ -2,6 +2,8 @@
 
 use crate::check::check;
 use crate::join::join;
+use crate::lean::{check_leaning, LeaningRefusal};
+use crate::lean_questions::{name_leaning, size_leaning, LeaningName};
 use crate::name_at::name;
 use crate::record::read_member;
 use crate::report::Report;
@@ -12,6 +14,22 @@ pub const SIZE: u32 = 2;
 pub const NAME: u32 = 3;
 pub const JOIN: u32 = 4;
 pub const MEMBER: u32 = 5;
+/// A module's table, b, on its base, a: the check, the size and the name.
+pub const LEANING: u32 = 9;
+pub const LEANING_SIZE: u32 = 10;
+pub const LEANING_NAME: u32 = 11;
+
+/// The ops that there are.
+pub const OPS: [u32; 8] = [
+    CHECK,
+    SIZE,
+    NAME,
+    JOIN,
+    MEMBER,
+    LEANING,
+    LEANING_SIZE,
+    LEANING_NAME,
+];
 
 /// What a case may lend at most: places in each u32 slice, and bytes in a, b
 /// and the output. Beyond the limits, so that they can be overstepped.
@@ -50,6 +68,9 @@ pub fn run(case: &Case) -> Seen {
         SIZE => run_size(case),
         NAME => run_name(case),
         MEMBER => run_member(case),
+        LEANING => run_leaning(case),
+        LEANING_SIZE => run_leaning_size(case),
+        LEANING_NAME => run_leaning_name(case),
         _ => run_join(case),
     }
 }
@@ -68,11 +89,7 @@ fn run_check(case: &Case) -> Seen {
     let mut seen = lent(case);
     match check(&case.a, &mut seen.index, &mut seen.work) {
         Ok(count) => seen.t = count,
-        Err(report) => {
-            seen.number = report.number;
-            seen.t = report.type_number;
-            seen.p = report.place;
-        }
+        Err(report) => put_report(&mut seen, report),
     }
     seen
 }
@@ -80,14 +97,18 @@ fn run_check(case: &Case) -> Seen {
 /// The index is b, so no u32 slice is lent.
 fn run_size(case: &Case) -> Seen {
     let mut seen = lent(case);
-    match size(&case.a, &places(&case.b), case.x) {
+    put_size(&mut seen, size(&case.a, &places(&case.b), case.x));
+    seen
+}
+
+fn put_size(seen: &mut Seen, answer: SizeAnswer) {
+    match answer {
         SizeAnswer::Exact(bytes) => seen.p = bytes,
         SizeAnswer::NoSize => seen.number = 1,
         SizeAnswer::Overflow => seen.number = 2,
         SizeAnswer::Report21 => seen.number = 21,
         SizeAnswer::Report22 => seen.number = 22,
     }
-    seen
 }
 
 fn run_name(case: &Case) -> Seen {
@@ -138,6 +159,55 @@ fn run_member(case: &Case) -> Seen {
         }
     }
     seen
+}
+
+fn run_leaning(case: &Case) -> Seen {
+    let mut seen = lent(case);
+    match check_leaning(&case.a, &case.b, &mut seen.index, &mut seen.work) {
+        Ok(count) => seen.t = count,
+        Err(LeaningRefusal::Module(report)) => put_report(&mut seen, report),
+        Err(refusal) => {
+            seen.number = refusal.number();
+            put_inner(&mut seen, refusal.inner());
+        }
+    }
+    seen
+}
+
+/// Nothing is lent: the field for an output's bytes counts the index's places.
+fn run_leaning_size(case: &Case) -> Seen {
+    let mut seen = Seen::default();
+    let (module, index) = module_and_index(case);
+    let answer = size_leaning(&case.a, case.y, module, &places(index), case.x);
+    put_size(&mut seen, answer);
+    seen
+}
+
+/// What b holds in a size question of a pair: the module's table, then the
+/// index.
+pub fn module_and_index(case: &Case) -> (&[u8], &[u8]) {
+    let bytes = 4 * case.output_bytes as usize;
+    case.b.split_at(case.b.len().saturating_sub(bytes))
+}
+
+/// Whether there is a name is not told apart from an empty one.
+fn run_leaning_name(case: &Case) -> Seen {
+    let part = match name_leaning(&case.a, &case.b, case.x) {
+        LeaningName::InBase(part) | LeaningName::InModule(part) => part,
+        LeaningName::Nowhere => &[],
+    };
+    Seen {
+        p: part.len() as u32,
+        output: part.to_vec(),
+        ..Seen::default()
+    }
+}
+
+/// A report that is the answer itself.
+fn put_report(seen: &mut Seen, report: Report) {
+    seen.number = report.number;
+    seen.t = report.type_number;
+    seen.p = report.place;
 }
 
 /// The report inside a refusal, where there is one.

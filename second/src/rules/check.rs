@@ -23,10 +23,15 @@ pub fn checked(blob: &[u8], index: &mut [u32], work: &mut [u32]) -> Result<Table
     index.fill(0);
     work.fill(0);
     let table = judged?;
+    fill_places(index, &table);
+    Ok(table)
+}
+
+/// Place k of the index is where record k stands in the blob that has it.
+pub fn fill_places(index: &mut [u32], table: &Table) {
     for (before, record) in table.records.iter().enumerate() {
         index[before + 1] = record.place as u32;
     }
-    Ok(table)
 }
 
 /// The earliest phase speaks.
@@ -36,13 +41,18 @@ pub fn judge(blob: &[u8], index_places: usize, work_places: usize) -> Result<Tab
     if report_9(&table, index_places, work_places) {
         return Err(Report::bare(9));
     }
-    phase_3(&table)?;
-    smallest_type(&table, 13, report_13)?;
-    if let Some(type_number) = report_14(&table) {
-        return Err(naming(&table, 14, type_number));
-    }
-    smallest_type(&table, 15, report_15)?;
+    phases_3_to_6(&table)?;
     Ok(table)
+}
+
+/// What is asked of records that have their places, in whichever blob.
+pub fn phases_3_to_6(table: &Table) -> Result<(), Report> {
+    phase_3(table)?;
+    smallest_type(table, 13, report_13)?;
+    if let Some(type_number) = report_14(table) {
+        return Err(naming(table, 14, type_number));
+    }
+    smallest_type(table, 15, report_15)
 }
 
 /// The smallest type, then the smallest number.

@@ -1,4 +1,5 @@
-//! Phase 1: the header and the two sections, reports 1 to 5.
+//! Phase 1: the header and the two sections, reports 1 to 5, of a table that
+//! stands alone and of a module's.
 
 use crate::limits::BYTE_LIMIT;
 use crate::order::{Order, ORDERS};
@@ -20,13 +21,30 @@ impl Sections {
     }
 }
 
-/// The smallest number speaks, so the tests run in the order of the table.
 pub fn phase_1(blob: &[u8]) -> Result<Sections, Report> {
-    let tests = [report_1, report_2, report_3, report_4, report_5];
-    for (before, broken) in tests.iter().enumerate() {
-        if broken(blob) {
-            return Err(Report::bare(before as u32 + 1));
-        }
+    smallest_number(blob, blob.len(), report_5)
+}
+
+/// The same of a module's table: the byte limit counts its base's bytes too.
+pub fn phase_1_leaning(base_bytes: usize, module: &[u8]) -> Result<Sections, Report> {
+    smallest_number(module, base_bytes + module.len(), report_5_leaning)
+}
+
+/// Is the rule of a report broken?
+type Broken = fn(&[u8]) -> bool;
+
+/// The smallest number speaks, so the tests run in the order of the table.
+fn smallest_number(
+    blob: &[u8],
+    limited_bytes: usize,
+    report_5: Broken,
+) -> Result<Sections, Report> {
+    if report_1(blob, limited_bytes) {
+        return Err(Report::bare(1));
+    }
+    let tests: [(u32, Broken); 4] = [(2, report_2), (3, report_3), (4, report_4), (5, report_5)];
+    if let Some((number, _)) = tests.iter().find(|(_, broken)| broken(blob)) {
+        return Err(Report::bare(*number));
     }
     Ok(Sections {
         order: Order::of(blob),
@@ -40,8 +58,8 @@ fn word(blob: &[u8], place: usize) -> u32 {
     Order::of(blob).word(blob, place)
 }
 
-fn report_1(blob: &[u8]) -> bool {
-    blob.len() < HEADER_BYTES || blob.len() > BYTE_LIMIT as usize
+fn report_1(blob: &[u8], limited_bytes: usize) -> bool {
+    blob.len() < HEADER_BYTES || limited_bytes > BYTE_LIMIT as usize
 }
 
 /// Neither order's four bytes.
@@ -63,9 +81,22 @@ fn report_4(blob: &[u8]) -> bool {
     type_off != 0 || type_len % 4 != 0 || str_off != type_len || whole != blob.len() as u64
 }
 
-/// Asked after report 4, so the string section is the end of the blob.
 fn report_5(blob: &[u8]) -> bool {
+    let strings = strings(blob);
+    strings.is_empty() || strings[0] != 0 || ends_badly(strings)
+}
+
+/// A module's own strings may be none, and need no leading zero byte.
+fn report_5_leaning(module: &[u8]) -> bool {
+    ends_badly(strings(module))
+}
+
+/// Asked after report 4, so the string section is the end of the blob.
+fn strings(blob: &[u8]) -> &[u8] {
     let str_len = word(blob, 20) as usize;
-    let strings = &blob[blob.len() - str_len..];
-    strings.is_empty() || strings[0] != 0 || strings[str_len - 1] != 0
+    &blob[blob.len() - str_len..]
+}
+
+fn ends_badly(strings: &[u8]) -> bool {
+    strings.last().is_some_and(|byte| *byte != 0)
 }

@@ -7,6 +7,8 @@ pub mod head;
 pub mod header;
 pub mod join;
 pub mod layout;
+pub mod lean;
+pub mod lean_questions;
 pub mod limits;
 pub mod members;
 pub mod name_at;

@@ -1,6 +1,6 @@
 //! The name question.
 
-use crate::header::phase_1;
+use crate::header::{phase_1, Sections};
 
 /// The part of the blob from an offset into its strings up to the first zero
 /// byte, and whether no name can be had there: the blob would get one of the
@@ -14,10 +14,13 @@ pub fn name(blob: &[u8], offset: u32) -> (&[u8], bool) {
 
 fn part(blob: &[u8], offset: u32) -> Option<&[u8]> {
     let sections = phase_1(blob).ok()?;
-    if offset as usize >= sections.str_len {
-        return None;
-    }
-    let rest = &blob[sections.strings_at() + offset as usize..];
+    part_at(blob, sections, offset as usize)
+}
+
+/// The part at an offset into the strings of a blob that passed phase 1, be it
+/// a module's; none past them.
+pub fn part_at(blob: &[u8], sections: Sections, offset: usize) -> Option<&[u8]> {
+    let rest = blob[sections.strings_at()..].get(offset..)?;
     // Phase 1 saw to it that the last byte is zero.
     let end = rest.iter().position(|byte| *byte == 0)?;
     Some(&rest[..end])

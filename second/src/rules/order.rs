@@ -23,6 +23,13 @@ impl Order {
         }
     }
 
+    pub fn other(self) -> Order {
+        match self {
+            Order::Little => Order::Big,
+            Order::Big => Order::Little,
+        }
+    }
+
     /// The two bytes that a table of this order begins with.
     pub fn magic(self) -> [u8; 2] {
         match self {

@@ -50,6 +50,8 @@ pub fn meaning(number: u32) -> &'static str {
         21 => "the index leads outside what can be read",
         22 => "more records would be read than the index has places",
         24 => "the two tables have different byte orders",
+        25 => "the base is refused",
+        26 => "the module's table has the other byte order than its base",
         30 => "the record is shorter than the type",
         31 => "the type is neither a struct nor a union",
         32 => "there is no member of that number",

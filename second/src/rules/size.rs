@@ -87,6 +87,15 @@ pub fn exact_size(table: &Table, type_number: u32) -> Size {
 
 /// The size question: any blob, any index, any number.
 pub fn size(blob: &[u8], index: &[u32], type_number: u32) -> SizeAnswer {
+    size_by(|_| blob, index, type_number)
+}
+
+/// The same where a number says which blob its record is read of.
+pub fn size_by<'a>(
+    blob_of: impl Fn(u32) -> &'a [u8],
+    index: &[u32],
+    type_number: u32,
+) -> SizeAnswer {
     let mut factors = Vec::new();
     let mut number = type_number;
     let mut read = 0;
@@ -95,7 +104,7 @@ pub fn size(blob: &[u8], index: &[u32], type_number: u32) -> SizeAnswer {
         if read + 1 > index.len() {
             return SizeAnswer::Report22;
         }
-        let Some(found) = read_share(blob, index, number) else {
+        let Some(found) = read_share(blob_of(number), index, number) else {
             return SizeAnswer::Report21;
         };
         read += 1;

@@ -92,7 +92,7 @@ pub fn kind_number_of(info: u32) -> u32 {
 /// One record, copied out of the blob.
 #[derive(Clone, PartialEq, Eq, Debug)]
 pub struct Record {
-    /// Byte place of the head in the blob.
+    /// Byte place of the head in the blob that has it.
     pub place: usize,
     pub kind: Kind,
     pub name: u32,

@@ -6,18 +6,24 @@ use crate::report::Report;
 use crate::table::{kind_number_of, vlen_of, Kind, Record, Table};
 use crate::table::{HEADER_BYTES, HEAD_BYTES};
 
-/// Walks the records one after the other and stops at the first fault.
 pub fn phase_2(blob: &[u8], sections: Sections) -> Result<Table, Report> {
+    phase_2_behind(0, blob, sections)
+}
+
+/// Walks the records one after the other and stops at the first fault. Their
+/// numbers go on from so many types of a base, which the limit counts too.
+pub fn phase_2_behind(base_count: u32, blob: &[u8], sections: Sections) -> Result<Table, Report> {
     let end = sections.strings_at();
     let mut place = HEADER_BYTES;
     let mut records = Vec::new();
     while place < end {
         // Report 8 comes before anything is read of the bytes that remain. Its
         // place is where the record too many would begin.
-        if report_8(&records) {
-            return Err(Report::new(8, TYPE_LIMIT + 1, place as u32));
+        let number = base_count + records.len() as u32 + 1;
+        if report_8(number) {
+            return Err(Report::new(8, number, place as u32));
         }
-        let record = read_record(blob, sections, place, records.len() as u32 + 1)?;
+        let record = read_record(blob, sections, place, number)?;
         place += HEAD_BYTES + 4 * record.tail.len();
         records.push(record);
     }
@@ -29,9 +35,9 @@ pub fn phase_2(blob: &[u8], sections: Sections) -> Result<Table, Report> {
     })
 }
 
-/// Asked where bytes remain: is the limit of records reached already?
-fn report_8(records: &[Record]) -> bool {
-    records.len() == TYPE_LIMIT as usize
+/// Asked where bytes remain: is the record that begins there one too many?
+fn report_8(number: u32) -> bool {
+    number > TYPE_LIMIT
 }
 
 /// Reads the record at a place: 6 for a head or tail that doesn't fit, 7 for
