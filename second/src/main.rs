@@ -1,8 +1,8 @@
 //! The command line of the second implementation of paper 01.
 //!
-//!     second vectors --seed S --cases N [--ops 1,2,3,4,5] [--small|--long] [--only R]
+//!     second vectors --seed S --cases N [--ops 1,2,3] [--small|--long] [--only R]
 //!     second antt    --seed S --cases N [--ops 1,2,3,4] [--only R] [--each]
-//!     second census  --seed S --cases N [--ops 1,2,3,4,5] [--small|--long]
+//!     second census  --seed S --cases N [--ops 1,2,3] [--small|--long]
 //!     second check FILE
 //!     second changed FILE
 //!
@@ -12,16 +12,18 @@
 //! puts the fixed large tables before them, `--names` every byte at every place
 //! of a name. With `--thin` fewer of the edges and the large are crossed with
 //! each other. A seed's cases are of both orders and mostly small, with some at
-//! the limits; with `--small` no limit is reached, with `--long` checks, joins
-//! and members are of long tables only.
+//! the limits; with `--small` no limit is reached, with `--long` checks, joins,
+//! members and pairs are of long tables only.
 //!
 //! Without `--ops` there are cases of ops 1 to 4. Op 5, a member of a record, is
 //! had with `--ops 5`, or with `--members N` behind all others: its edges and
-//! large tables where those are asked for, and N of the seed's.
+//! large tables where those are asked for, and N of the seed's. Ops 9 to 11, a
+//! module's table on its base, are had with `--ops 9,10,11`, or likewise with
+//! `--leaning N` behind those, N of the seed's for each of the three.
 
 use second::census::Census;
 use second::changed::changed;
-use second::generate::{cases, cases_then_members, Scale, Wanted};
+use second::generate::{cases, cases_then, Behind, Scale, Wanted};
 use second::limits::FULL_PLACES;
 use second::report::meaning;
 use second::vectors::{self, run, Case, CHECK, JOIN, OPS};
@@ -29,17 +31,18 @@ use std::io::Write;
 use std::process::ExitCode;
 
 const USAGE: &str = "\
-second vectors --seed S --cases N [--ops 1,2,3,4,5] [--small|--long] [--only R]
+second vectors --seed S --cases N [--ops 1,2,3] [--small|--long] [--only R]
 second antt    --seed S --cases N [--ops 1,2,3,4] [--only R] [--each]
-second census  --seed S --cases N [--ops 1,2,3,4,5] [--small|--long]
+second census  --seed S --cases N [--ops 1,2,3] [--small|--long]
 second check FILE
 second changed FILE
-(without --ops: ops 1 to 4; --members N: behind all, those of op 5, with N of the seed's;
+(ops are 1 to 5 and 9 to 11, without --ops 1 to 4; --members N: behind all, those of op 5, with N of the seed's;
+--leaning N: behind those, ops 9 to 11, with N of the seed's of each;
 --edges: the fixed cases of every rule's edges in front, and nothing else without --cases;
 --part NAME: one part of them, NAME-turned: in the other byte order; --each: each case in a list of its own;
 --large: the fixed large tables before them; --thin: fewer of both crossed with each other;
 --names: every byte at every place of a name before the edges;
---small: no limit is reached; --long: checks, joins and members of long tables only)";
+--small: no limit is reached; --long: checks, joins, members and pairs of long tables only)";
 
 fn main() -> ExitCode {
     let arguments: Vec<String> = std::env::args().skip(1).collect();
@@ -67,16 +70,28 @@ fn act(arguments: &[String]) -> Result<Vec<u8>, String> {
     }
 }
 
-/// Those that the words ask for; `--members` and its count are taken out first.
+/// Those that the words ask for; `--members`, `--leaning` and their counts are
+/// taken out first.
 fn all_cases(arguments: &[String]) -> Result<Vec<Case>, String> {
-    let Some(at) = arguments.iter().position(|word| word == "--members") else {
-        return Ok(cases(&wanted(arguments)?));
-    };
-    let count = arguments.get(at + 1).and_then(|word| word.parse().ok());
-    let count = count.ok_or(USAGE)?;
-    let rest = [&arguments[..at], &arguments[at + 2..]].concat();
-    Ok(cases_then_members(wanted(&rest)?, count))
+    let mut rest = arguments.to_vec();
+    let mut behind = Vec::new();
+    for (word, ops) in BEHIND {
+        if let Some(at) = rest.iter().position(|other| other == word) {
+            let count = rest.get(at + 1).and_then(|word| word.parse().ok());
+            behind.push(ops(count.ok_or(USAGE)?));
+            rest.drain(at..at + 2);
+        }
+    }
+    Ok(cases_then(wanted(&rest)?, &behind))
 }
+
+type Ops = fn(usize) -> Behind;
+
+/// What stands behind all others, in this order.
+const BEHIND: [(&str, Ops); 2] = [
+    ("--members", Behind::members),
+    ("--leaning", Behind::leaning),
+];
 
 /// Cases as text, in lists of 25, or with `--each` each by itself. The part
 /// `limits` is those that the text builds itself.

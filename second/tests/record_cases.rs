@@ -3,7 +3,7 @@
 
 use second::changed::changed;
 use second::check::judge;
-use second::generate::{cases, cases_then_members, edges, Scale, Wanted};
+use second::generate::{cases, cases_then, edges, Behind, Scale, Wanted};
 use second::members::base;
 use second::order::Order;
 use second::table::Kind;
@@ -176,7 +176,7 @@ fn members_behind_the_others() {
         };
         match members {
             None => cases(&wanted),
-            Some(count) => cases_then_members(wanted, count),
+            Some(count) => cases_then(wanted, &[Behind::members(count)]),
         }
     };
     let (front, all) = (others(None), others(Some(7)));

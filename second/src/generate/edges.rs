@@ -2,7 +2,9 @@
 //! word, every byte of a name, every reference to every kind.
 
 use crate::generate::turn::turned_case;
-use crate::generate::{edges_faults, edges_joins, edges_layout, edges_names, edges_offsets};
+use crate::generate::{edges_faults, edges_joins, edges_layout, edges_leaning};
+use crate::generate::{edges_leaning_bases, edges_leaning_names, edges_leaning_sizes};
+use crate::generate::{edges_leaning_types, edges_names, edges_offsets};
 use crate::generate::{edges_order_joins, edges_order_sizes, edges_orders};
 use crate::generate::{edges_pointers, edges_questions, edges_records, edges_sections};
 use crate::generate::{edges_spans, edges_tails, edges_values, edges_walks};
@@ -75,6 +77,8 @@ fn one_order() -> impl Iterator<Item = &'static Part> {
         edges_sections::PARTS,
         edges_questions::PARTS,
         edges_joins::PARTS,
+        edges_leaning::PARTS,
+        edges_leaning_types::PARTS,
     ];
     parts.into_iter().flatten()
 }
@@ -89,6 +93,9 @@ fn two_orders() -> impl Iterator<Item = &'static Part> {
         edges_spans::PARTS,
         edges_values::PARTS,
         edges_records::PARTS,
+        edges_leaning_bases::PARTS,
+        edges_leaning_sizes::PARTS,
+        edges_leaning_names::PARTS,
     ];
     parts.into_iter().flatten()
 }
@@ -126,16 +133,23 @@ const NAME: u32 = 1;
 /// An accepted table with an INT, a prototype, a VAR and a STRUCT, then a
 /// record of the kind, which is type 5 and the last.
 pub fn one_of(kind: Kind) -> Make {
+    let mut m = four_types();
+    add_one(&mut m, kind);
+    m
+}
+
+/// The four that a record of any kind can refer to.
+pub fn four_types() -> Make {
     let mut m = with_strings();
     m.int(4);
     m.proto(0, &[]);
     m.var(NAME, 1);
     m.structure(4, false, &[[NAME, 1, 0]]);
-    add_one(&mut m, kind);
     m
 }
 
-fn add_one(m: &mut Make, kind: Kind) -> u32 {
+/// A record of the kind behind those four, wherever it stands.
+pub fn add_one(m: &mut Make, kind: Kind) -> u32 {
     let member = [NAME, 1, 0];
     match kind {
         Kind::Int => m.int(4),

@@ -16,7 +16,7 @@ pub const PARTS: &[Part] = &[
 ];
 
 /// Damages a blob so that it gets this report of phase 1.
-fn damage(blob: &mut Vec<u8>, report: u32) {
+pub fn damage(blob: &mut Vec<u8>, report: u32) {
     let last = blob.len() - 1;
     match report {
         1 => blob.truncate(23),
@@ -40,7 +40,7 @@ fn two_headers(found: &mut Vec<Case>) {
 }
 
 /// A record with this report, where type 1 is an INT of four bytes.
-fn add_fault(m: &mut Make, report: u32) {
+pub fn add_fault(m: &mut Make, report: u32) {
     let this = m.count() + 1;
     match report {
         10 => m.int(3),

@@ -37,7 +37,7 @@ pub fn table(r: &mut Random, bytes: usize) -> Make {
 }
 
 /// Adds the records and strings of another table, raised.
-fn put_behind(m: &mut Make, part: &Make) {
+pub fn put_behind(m: &mut Make, part: &Make) {
     let Some(table) = table_of(part) else {
         return;
     };
@@ -73,7 +73,7 @@ fn of_any_length(r: &mut Random) -> Make {
 }
 
 /// A pointer to void, or to a pointer in front of it.
-fn add_pointer(r: &mut Random, m: &mut Make) {
+pub fn add_pointer(r: &mut Random, m: &mut Make) {
     let last = m.count();
     let is_pointer = kind_of(m, last) == Some(Kind::Ptr);
     m.ptr(if is_pointer && r.one_in(2) { last } else { 0 });

@@ -10,6 +10,11 @@ pub mod edges;
 pub mod edges_faults;
 pub mod edges_joins;
 pub mod edges_layout;
+pub mod edges_leaning;
+pub mod edges_leaning_bases;
+pub mod edges_leaning_names;
+pub mod edges_leaning_sizes;
+pub mod edges_leaning_types;
 pub mod edges_names;
 pub mod edges_offsets;
 pub mod edges_order_joins;
@@ -31,9 +36,14 @@ pub mod join_cases;
 pub mod large;
 pub mod large_fixed;
 pub mod large_joins;
+pub mod large_leaning;
 pub mod large_records;
+pub mod leaning_cases;
+pub mod leaning_questions;
 pub mod long;
+pub mod long_pairs;
 pub mod name_cases;
+pub mod pair;
 pub mod pieces;
 pub mod random;
 pub mod record_cases;
@@ -42,7 +52,8 @@ pub mod size_cases;
 pub mod turn;
 pub mod valid;
 
-use crate::vectors::{run, Case, CHECK, JOIN, MEMBER, NAME, SIZE};
+use crate::vectors::{run, Case, CHECK, JOIN, LEANING, LEANING_NAME, LEANING_SIZE};
+use crate::vectors::{MEMBER, NAME, SIZE};
 use random::Random;
 use turn::in_some_order;
 
@@ -55,7 +66,8 @@ pub enum Scale {
     Small,
     /// Mostly small, some at the limits.
     Full,
-    /// Checks, joins and members of long tables only; the rest as at full scale.
+    /// Checks, joins, members and pairs of long tables only; the rest as at
+    /// full scale.
     Long,
 }
 
@@ -106,6 +118,7 @@ pub fn cases(wanted: &Wanted) -> Vec<Case> {
         found.extend(large_fixed::cases(wanted.thin));
         found.extend(large_joins::cases(wanted.thin));
         found.extend(large_records::cases(wanted.thin));
+        found.extend(large_leaning::cases(wanted.thin));
     }
     if wanted.names {
         found.extend(every_byte::cases());
@@ -133,17 +146,36 @@ pub fn cases(wanted: &Wanted) -> Vec<Case> {
     found
 }
 
-/// Those wanted, and behind them the fixed cases of members, as far as fixed
-/// ones are wanted, and so many of a seed's: what stands in front stays as it
+/// Those of some ops behind others: the fixed ones, as far as fixed ones are
+/// wanted, and so many of a seed's of each op.
+pub struct Behind {
+    pub ops: &'static [u32],
+    pub cases: usize,
+}
+
+impl Behind {
+    pub fn members(cases: usize) -> Behind {
+        let ops = &[MEMBER];
+        Behind { ops, cases }
+    }
+
+    pub fn leaning(cases: usize) -> Behind {
+        let ops = &[LEANING, LEANING_SIZE, LEANING_NAME];
+        Behind { ops, cases }
+    }
+}
+
+/// Those wanted, and the others behind them: what stands in front stays as it
 /// is without them.
-pub fn cases_then_members(wanted: Wanted, members: usize) -> Vec<Case> {
+pub fn cases_then(mut wanted: Wanted, behind: &[Behind]) -> Vec<Case> {
     let mut found = cases(&wanted);
-    let behind = Wanted {
-        ops: vec![MEMBER],
-        cases: members,
-        ..wanted
-    };
-    found.extend(cases(&behind));
+    for Behind { ops, cases: count } in behind {
+        for op in *ops {
+            wanted.ops = vec![*op];
+            wanted.cases = *count;
+            found.extend(cases(&wanted));
+        }
+    }
     found
 }
 
@@ -157,7 +189,25 @@ fn asked_for(case: &Case, wanted: &Wanted) -> bool {
 /// for members: all that is told of a turned table that is accepted is 35.
 fn one(r: &mut Random, wanted: &Wanted) -> Case {
     let weighted = [
-        CHECK, CHECK, CHECK, CHECK, SIZE, SIZE, NAME, JOIN, JOIN, JOIN, MEMBER, MEMBER, MEMBER,
+        CHECK,
+        CHECK,
+        CHECK,
+        CHECK,
+        SIZE,
+        SIZE,
+        NAME,
+        JOIN,
+        JOIN,
+        JOIN,
+        MEMBER,
+        MEMBER,
+        MEMBER,
+        LEANING,
+        LEANING,
+        LEANING,
+        LEANING_SIZE,
+        LEANING_SIZE,
+        LEANING_NAME,
     ];
     let open: Vec<u32> = weighted
         .into_iter()
@@ -168,6 +218,10 @@ fn one(r: &mut Random, wanted: &Wanted) -> Case {
         (JOIN, Scale::Long) => long::join(r),
         (MEMBER, Scale::Long) => return long::member(r),
         (MEMBER, scale) => return record_cases::case(r, scale),
+        (LEANING, Scale::Long) => long_pairs::check(r),
+        (LEANING, scale) => leaning_cases::case(r, scale),
+        (LEANING_SIZE, scale) => leaning_questions::size(r, scale),
+        (LEANING_NAME, scale) => leaning_questions::name(r, scale),
         (CHECK, scale) => check_cases::case(r, scale),
         (SIZE, scale) => size_cases::case(r, scale),
         (NAME, scale) => name_cases::case(r, scale),

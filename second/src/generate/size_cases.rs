@@ -65,7 +65,7 @@ fn attempt(r: &mut Random, scale: Scale, aim: u32) -> Case {
 }
 
 /// Bytes that mean nothing, half of them behind the magic of an order.
-fn begun_bytes(r: &mut Random) -> Vec<u8> {
+pub fn begun_bytes(r: &mut Random) -> Vec<u8> {
     let mut bytes = random_bytes(r);
     if r.one_in(2) && bytes.len() >= 2 {
         bytes[..2].copy_from_slice(&r.pick(&ORDERS).magic());
@@ -74,7 +74,7 @@ fn begun_bytes(r: &mut Random) -> Vec<u8> {
 }
 
 /// A walk of a few steps to a type without size, to zero elements, to more.
-fn add_deeper(r: &mut Random, m: &mut Make) {
+pub fn add_deeper(r: &mut Random, m: &mut Make) {
     let index = m.int(2);
     let mut element = match r.below(4) {
         0 => grow(r, m, Kind::Fwd),
@@ -88,7 +88,7 @@ fn add_deeper(r: &mut Random, m: &mut Make) {
 }
 
 /// The true index, or one that is shorter, longer or false.
-fn turned_index(r: &mut Random, mut index: Vec<u32>, blob: &[u8]) -> Vec<u32> {
+pub fn turned_index(r: &mut Random, mut index: Vec<u32>, blob: &[u8]) -> Vec<u32> {
     match r.below(6) {
         0 => index.truncate(r.below(index.len() as u32 + 1) as usize),
         1 => index.extend(vec![r.pick(&[0, 24, 36]); r.between(1, 3) as usize]),

@@ -4,7 +4,7 @@
 use crate::generate::random::Random;
 use crate::order::{Order, ORDERS};
 use crate::table::HEADER_BYTES;
-use crate::vectors::{Case, JOIN};
+use crate::vectors::{module_and_index, Case, JOIN, LEANING, LEANING_NAME, LEANING_SIZE};
 
 /// A blob in the other order: its first two bytes change places, and each word
 /// behind the first four bytes is reversed, up to the strings. Any bytes can be
@@ -44,13 +44,17 @@ pub fn both(blob: &[u8]) -> [Vec<u8>; 2] {
     ORDERS.map(|order| in_order(blob, order))
 }
 
-/// A case in the other order: both tables of a join. The index of a size
-/// question is plain numbers.
+/// A case in the other order: both tables of a join, and of a pair. The index
+/// of a size question is plain numbers.
 pub fn turned_case(case: &Case) -> Case {
     let mut other = case.clone();
     other.a = turned(&case.a);
-    if case.op == JOIN {
+    if [JOIN, LEANING, LEANING_NAME].contains(&case.op) {
         other.b = turned(&case.b);
+    }
+    if case.op == LEANING_SIZE {
+        let (module, index) = module_and_index(case);
+        other.b = [&turned(module), index].concat();
     }
     other
 }

@@ -45,8 +45,13 @@ fn grown(r: &mut Random, scale: Scale) -> Make {
 /// Pointers may lead anywhere plain, forward and back, but not along a chain
 /// to themselves.
 pub fn turn_pointers(r: &mut Random, m: &mut Make) {
+    turn_pointers_behind(r, m, 0);
+}
+
+/// The same of the pointers behind the first types, which stay.
+pub fn turn_pointers_behind(r: &mut Random, m: &mut Make, types: u32) {
     let ends = types_where(m, |number| kind_of(m, number).is_some_and(is_plain));
-    for number in 1..=m.count() {
+    for number in types + 1..=m.count() {
         if kind_of(m, number) == Some(Kind::Ptr) && r.one_in(2) {
             let end = r.pick(&ends);
             if !chain_from(m, end).contains(&number) {
@@ -59,9 +64,15 @@ pub fn turn_pointers(r: &mut Random, m: &mut Make) {
 /// Renumbers the types in a random order, so that references lead forward
 /// too.
 pub fn shuffle(r: &mut Random, m: &mut Make) {
+    shuffle_behind(r, m, 0);
+}
+
+/// The same of the types behind the first ones, which stay.
+pub fn shuffle_behind(r: &mut Random, m: &mut Make, types: u32) {
     let mut order: Vec<usize> = (0..m.records.len()).collect();
-    for last in (1..order.len()).rev() {
-        order.swap(last, r.below(last as u32 + 1) as usize);
+    let moved = &mut order[types as usize..];
+    for last in (1..moved.len()).rev() {
+        moved.swap(last, r.below(last as u32 + 1) as usize);
     }
     reorder(m, &order);
 }
