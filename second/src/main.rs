@@ -3,7 +3,7 @@
 //!     second vectors --seed S --cases N [--ops 1,2,3] [--small|--long] [--only R]
 //!     second antt    --seed S --cases N [--ops 1,2,3,4] [--only R] [--each]
 //!     second census  --seed S --cases N [--ops 1,2,3] [--small|--long]
-//!     second check FILE
+//!     second check FILE [MODULE]
 //!     second changed FILE
 //!
 //! With `--edges` the first three put the fixed cases of every rule's edges in
@@ -27,6 +27,7 @@ use second::generate::{cases, cases_then, Behind, Scale, Wanted};
 use second::limits::FULL_PLACES;
 use second::report::meaning;
 use second::vectors::{self, run, Case, CHECK, JOIN, OPS};
+use second::{LeaningRefusal, Report};
 use std::io::Write;
 use std::process::ExitCode;
 
@@ -34,7 +35,7 @@ const USAGE: &str = "\
 second vectors --seed S --cases N [--ops 1,2,3] [--small|--long] [--only R]
 second antt    --seed S --cases N [--ops 1,2,3,4] [--only R] [--each]
 second census  --seed S --cases N [--ops 1,2,3] [--small|--long]
-second check FILE
+second check FILE [MODULE]
 second changed FILE
 (ops are 1 to 5 and 9 to 11, without --ops 1 to 4; --members N: behind all, those of op 5, with N of the seed's;
 --leaning N: behind those, ops 9 to 11, with N of the seed's of each;
@@ -64,7 +65,7 @@ fn act(arguments: &[String]) -> Result<Vec<u8>, String> {
         "vectors" => Ok(vectors::file(&all_cases(rest)?)),
         "antt" => antt(rest),
         "census" => Ok(census(&all_cases(rest)?).into_bytes()),
-        "check" => judge_file(rest.first().ok_or(USAGE)?),
+        "check" => judge_files(rest),
         "changed" => changed_answers(rest.first().ok_or(USAGE)?),
         _ => Err(USAGE.to_string()),
     }
@@ -176,12 +177,30 @@ fn changed_answers(path: &str) -> Result<Vec<u8>, String> {
     }
 }
 
-/// One line on the blob in a file.
-fn judge_file(path: &str) -> Result<Vec<u8>, String> {
-    let blob = read(path)?;
+/// One line on the blob in a file, or on a module's table on that base.
+fn judge_files(paths: &[String]) -> Result<Vec<u8>, String> {
+    let blob = read(paths.first().ok_or(USAGE)?)?;
     let mut index = vec![0; FULL_PLACES as usize];
     let mut work = vec![0; FULL_PLACES as usize];
-    let line = match second::check(&blob, &mut index, &mut work) {
+    let line = match paths.get(1) {
+        None => in_words(second::check(&blob, &mut index, &mut work)),
+        Some(path) => {
+            let module = read(path)?;
+            match second::check_leaning(&blob, &module, &mut index, &mut work) {
+                Err(LeaningRefusal::Base(report)) => {
+                    format!("the base is {}", in_words(Err(report)))
+                }
+                Err(LeaningRefusal::OrdersDiffer) => in_words(Err(Report::bare(26))),
+                Err(LeaningRefusal::Module(report)) => in_words(Err(report)),
+                Ok(count) => in_words(Ok(count)),
+            }
+        }
+    };
+    Ok(line.into_bytes())
+}
+
+fn in_words(answer: Result<u32, Report>) -> String {
+    match answer {
         Ok(1) => "accepted, 1 type\n".to_string(),
         Ok(count) => format!("accepted, {count} types\n"),
         Err(report) => {
@@ -192,6 +211,5 @@ fn judge_file(path: &str) -> Result<Vec<u8>, String> {
             };
             format!("refused, report {}: {what}{at}\n", report.number)
         }
-    };
-    Ok(line.into_bytes())
+    }
 }

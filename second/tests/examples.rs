@@ -2,10 +2,11 @@
 
 mod common;
 
-use common::{gate, joined};
+use common::{gate, joined, lean};
 use second::limits::FULL_PLACES;
 use second::order::Order;
-use second::{name, size, SizeAnswer};
+use second::{check_leaning, name, name_leaning, size, size_leaning};
+use second::{LeaningName, Report, SizeAnswer};
 
 const TABLES: [&str; 4] = [
     "blade.btf",
@@ -126,4 +127,33 @@ fn the_tool_agrees() {
     text += &line(high, &example(high));
     let said = file("tests/tables.stdout");
     assert_eq!(String::from_utf8(said).expect("text"), text);
+}
+
+/// A module's table as it ships: its strings have no leading zero byte, and no
+/// check of it alone accepts it.
+#[test]
+fn a_module_on_its_base() {
+    use LeaningName::{InBase, InModule, Nowhere};
+    use SizeAnswer::{Exact, NoSize};
+    let (base, module) = (example("leaning/base.btf"), example("leaning/module.btf"));
+    assert_eq!(gate(&base), Ok(16));
+    assert_eq!(lean(&base, &module), Ok(22));
+    assert_eq!(gate(&module), Err(Report::bare(5)));
+    let (mut index, mut work) = ([9; 23], [9; 23]);
+    assert_eq!(check_leaning(&base, &module, &mut index, &mut work), Ok(22));
+    assert_eq!(index[15..19], [340, 368, 24, 60]);
+    // A drum, the brake's union, the brake, a pointer to it and its function.
+    let sizes = [7, 17, 18, 19, 22].map(|x| size_leaning(&base, 16, &module, &index, x));
+    assert_eq!(sizes, [Exact(40), Exact(4), Exact(40), Exact(8), NoSize]);
+    let names = [1, 157, 161, 162, 167, 199, 200].map(|x| name_leaning(&base, &module, x));
+    let expected = [
+        InBase(b"side"),
+        InBase(b"turn"),
+        InBase(b""),
+        InModule(b"lean"),
+        InModule(b"brake"),
+        InModule(b""),
+        Nowhere,
+    ];
+    assert_eq!(names, expected);
 }
