@@ -2,10 +2,11 @@
 //! every number and every place of every slice.
 
 use crate::archive;
+use crate::archive_leaning::{self, Blobs};
 use crate::generate::random::Random;
-use crate::vectors::{
-    places, run, Case, Seen, CHECK, JOIN, MEMBER, MOST_BYTES, MOST_PLACES, NAME, SIZE,
-};
+use crate::lean_questions::{name_leaning, LeaningName};
+use crate::vectors::{module_and_index, places, run, Case, Seen, MOST_BYTES, MOST_PLACES};
+use crate::vectors::{CHECK, JOIN, LEANING, LEANING_NAME, LEANING_SIZE, MEMBER, NAME, SIZE};
 
 /// What stands in an answer's place before a call; no answer has this number.
 const UNTOLD: u32 = 0xA5A5_A5A5;
@@ -34,7 +35,7 @@ pub struct Trial {
 impl Trial {
     /// Lent lengths are mostly the case's own; answers mostly fit.
     pub fn new(r: &mut Random, mut case: Case) -> Trial {
-        if case.op == CHECK || case.op == JOIN || case.op == MEMBER {
+        if [CHECK, JOIN, MEMBER, LEANING].contains(&case.op) {
             case.index_places = lent(r, case.index_places, MOST_PLACES);
             case.work_places = lent(r, case.work_places, MOST_PLACES);
         }
@@ -65,10 +66,15 @@ impl Trial {
     /// Filled before the call as the form of the vectors says.
     fn slices(&self) -> Slices {
         let case = &self.case;
+        // The size question of a pair has its index behind the module's table.
+        let (b, index) = match case.op {
+            LEANING_SIZE => module_and_index(case),
+            _ => (&case.b[..], &case.b[..]),
+        };
         Slices {
             a: behind(self.shift, &case.a),
-            b: behind(self.shift, &case.b),
-            given: places(&case.b),
+            b: behind(self.shift, b),
+            given: places(index),
             index: vec![u32::MAX; case.index_places as usize + 2],
             work: vec![u32::MAX; case.work_places as usize + 2],
             output: vec![165; self.output_bytes() + 2],
@@ -80,6 +86,7 @@ impl Trial {
     fn output_bytes(&self) -> usize {
         match self.case.op {
             MEMBER => 16,
+            LEANING_SIZE => 0,
             _ => self.case.output_bytes as usize,
         }
     }
@@ -88,22 +95,20 @@ impl Trial {
         let a = &s.a[self.shift..];
         let b = &s.b[self.shift..];
         let answer = inner(&mut s.answer);
+        let (index, work) = (inner(&mut s.index), inner(&mut s.work));
+        let pair = Blobs { base: a, module: b };
         match self.case.op {
-            CHECK => archive::check(a, inner(&mut s.index), inner(&mut s.work), answer),
+            CHECK => archive::check(a, index, work, answer),
             SIZE => archive::size(a, &s.given, self.case.x, answer),
             NAME => archive::name(a, self.case.x, answer),
-            MEMBER => {
-                let (index, work) = (inner(&mut s.index), inner(&mut s.work));
-                self.run_member(a, b, index, work, answer, inner(&mut s.output))
+            MEMBER => self.run_member(a, b, index, work, answer, inner(&mut s.output)),
+            LEANING => archive_leaning::check(pair, index, work, answer),
+            LEANING_SIZE => {
+                let (count, number) = (self.case.y, self.case.x);
+                archive_leaning::size(pair, count, &s.given, number, answer)
             }
-            _ => archive::join(
-                a,
-                b,
-                inner(&mut s.index),
-                inner(&mut s.work),
-                inner(&mut s.output),
-                answer,
-            ),
+            LEANING_NAME => archive_leaning::name(pair, self.case.x, answer),
+            _ => archive::join(a, b, index, work, inner(&mut s.output), answer),
         }
     }
 
@@ -134,30 +139,27 @@ impl Trial {
         }
     }
 
-    /// An answer's numbers. A member's has a fifth, which is 0 in every record
-    /// that is short enough to be lent here.
-    fn told(&self, seen: &Seen, t: u32) -> Vec<u32> {
-        let mut told = vec![seen.number, seen.inner, t, seen.p];
-        if self.case.op == MEMBER {
-            told.push(0);
+    /// An answer's numbers. A name is told by where it begins and its length. A
+    /// member's answer has a fifth number, which is 0 in every record that is
+    /// short enough to be lent here.
+    fn told(&self, seen: &Seen) -> Vec<u32> {
+        match self.case.op {
+            NAME => vec![seen.number, 0, name_start(&self.case), seen.p],
+            LEANING_NAME => leaning_name(&self.case).to_vec(),
+            MEMBER => vec![seen.number, seen.inner, seen.t, seen.p, 0],
+            _ => vec![seen.number, seen.inner, seen.t, seen.p],
         }
-        told
     }
 
-    /// What must be there after the call. A name is told by where it begins
-    /// and its length; no output is lent for it.
+    /// What must be there after the call. No output is lent for a name.
     fn put_seen(&self, seen: &Seen, s: &mut Slices) {
-        let t = match self.case.op {
-            NAME => name_start(&self.case),
-            _ => seen.t,
-        };
-        let told = self.told(seen, t);
+        let told = self.told(seen);
         for (place, number) in inner(&mut s.answer).iter_mut().zip(told) {
             *place = number;
         }
         inner(&mut s.index).copy_from_slice(&seen.index);
         inner(&mut s.work).copy_from_slice(&seen.work);
-        if self.case.op != NAME {
+        if ![NAME, LEANING_NAME].contains(&self.case.op) {
             inner(&mut s.output).copy_from_slice(&seen.output);
         }
     }
@@ -191,7 +193,21 @@ fn inner<T>(whole: &mut [T]) -> &mut [T] {
 /// Where this implementation's part begins in the blob.
 fn name_start(case: &Case) -> u32 {
     let (part, _) = crate::name(&case.a, case.x);
-    (part.as_ptr() as usize - case.a.as_ptr() as usize) as u32
+    start_in(&case.a, part)
+}
+
+/// Where a part of a blob begins in it.
+fn start_in(blob: &[u8], part: &[u8]) -> u32 {
+    (part.as_ptr() as usize - blob.as_ptr() as usize) as u32
+}
+
+/// Is there no name, does it lie in the module, where there, and how long.
+fn leaning_name(case: &Case) -> [u32; 4] {
+    match name_leaning(&case.a, &case.b, case.x) {
+        LeaningName::InBase(part) => [0, 0, start_in(&case.a, part), part.len() as u32],
+        LeaningName::InModule(part) => [0, 1, start_in(&case.b, part), part.len() as u32],
+        LeaningName::Nowhere => [1, 0, 0, 0],
+    }
 }
 
 /// The first slice that differs, and where.

@@ -11,7 +11,7 @@ use second::beside::Trial;
 use second::census::Census;
 use second::generate::random::Random;
 use second::generate::{cases, Scale, Wanted};
-use second::vectors::{Case, CHECK, JOIN};
+use second::vectors::{Case, CHECK, JOIN, LEANING, OPS};
 use std::process::ExitCode;
 
 const USAGE: &str = "beside [--seed N] [--cases N]";
@@ -66,21 +66,23 @@ struct Run {
 impl Run {
     fn all(&mut self) -> Result<(), Differed> {
         let mut fixed = cases(&self.wanted(vec![1, 2, 3, 4], Scale::Full, 0, true));
-        fixed.extend(cases(&self.wanted(vec![5], Scale::Full, 0, true)));
+        for op in &OPS[4..] {
+            fixed.extend(cases(&self.wanted(vec![*op], Scale::Full, 0, true)));
+        }
         println!("{} fixed cases before them", fixed.len().min(self.left));
         self.some(fixed)?;
         while self.left > 0 {
             for (scale, count) in SHARES {
-                let wanted = self.wanted(vec![1, 2, 3, 4, 5], scale, count.min(self.left), false);
+                let wanted = self.wanted(OPS.to_vec(), scale, count.min(self.left), false);
                 self.some(cases(&wanted))?;
             }
         }
         Ok(())
     }
 
-    /// Of a member's fixed cases the short choice: the whole would leave no room for generated ones.
+    /// Of the fixed cases of members and pairs the short choice: the whole would leave no room for generated ones.
     fn wanted(&mut self, ops: Vec<u32>, scale: Scale, cases: usize, fixed: bool) -> Wanted {
-        let thin = ops == [5];
+        let thin = ops.len() == 1;
         Wanted {
             seed: self.r.next(),
             cases,
@@ -109,10 +111,14 @@ impl Run {
         Ok(())
     }
 
-    /// The census, and how many checks and joins went through.
+    /// The census, and how many checks, joins and pairs went through.
     fn summary(&self) -> String {
         let mut text = self.census.text();
-        for (op, what) in [(CHECK, "checks accepted"), (JOIN, "joins done")] {
+        for (op, what) in [
+            (CHECK, "checks accepted"),
+            (JOIN, "joins done"),
+            (LEANING, "pairs accepted"),
+        ] {
             let (done, all) = (self.census.count(op, Some(0)), self.census.count(op, None));
             let percent = 100.0 * done as f64 / all.max(1) as f64;
             text += &format!("{what}: {done} of {all} ({percent:.1} %)\n");
