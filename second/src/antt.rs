@@ -1,7 +1,11 @@
 //! Cases written as text for a checker that computes them by itself.
 
 use crate::names::is_identifier;
-use crate::vectors::{run, Case, Seen, CHECK, NAME, SIZE};
+use crate::vectors::{module_and_index, places, run, told_name, Case, Seen};
+use crate::vectors::{CHECK, JOIN, LEANING, LEANING_NAME, LEANING_SIZE, NAME, SIZE};
+
+/// The ops that the text is written for.
+pub const OPS: [u32; 7] = [CHECK, SIZE, NAME, JOIN, LEANING, LEANING_SIZE, LEANING_NAME];
 
 /// What stands before the first list: the names it leans on, and how a case
 /// is held against the definitions.
@@ -33,10 +37,13 @@ fn named_list(which: usize, lines: &[String]) -> String {
     }
     text.push_str(&format!(
         "    []\n\nagree{which} : differing 1 cases{which} ≡ []\n\
-         unfolding computes checked sized named joined cases{which}\nagree{which} = refl\n"
+         unfolding computes {UNFOLDED} cases{which}\nagree{which} = refl\n"
     ));
     text
 }
+
+/// How cases are held against the definitions, and what those of a pair unfold.
+const UNFOLDED: &str = "leans checked sized named joined leaning leaningSized leaningNamed";
 
 /// The surface syntax of a list of numbers.
 fn numbers(list: &[u32]) -> String {
@@ -67,17 +74,22 @@ fn identifier_length(case: &Case, seen: &Seen) -> u32 {
 /// which is then not written as bytes of b, and the one afterwards for a
 /// check; the output is the one afterwards, or a name's part.
 fn parts(case: &Case, seen: &Seen) -> [Vec<u32>; 5] {
+    let [number, inner, t, p] = match case.op {
+        LEANING_NAME => told_name(case),
+        _ => [seen.number, seen.inner, seen.t, seen.p],
+    };
     let head = vec![
         case.op,
         case.index_places,
         case.work_places,
         case.output_bytes,
         case.x,
-        seen.number,
-        seen.inner,
-        seen.t,
-        seen.p,
+        number,
+        inner,
+        t,
+        p,
         identifier_length(case, seen),
+        case.y,
     ];
     let wide = |bytes: &[u8]| {
         bytes
@@ -86,8 +98,12 @@ fn parts(case: &Case, seen: &Seen) -> [Vec<u32>; 5] {
             .collect::<Vec<u32>>()
     };
     let (b, index) = match case.op {
-        SIZE => (Vec::new(), crate::vectors::places(&case.b)),
-        CHECK => (wide(&case.b), seen.index.clone()),
+        SIZE => (Vec::new(), places(&case.b)),
+        LEANING_SIZE => {
+            let (module, index) = module_and_index(case);
+            (wide(module), places(index))
+        }
+        CHECK | LEANING => (wide(&case.b), seen.index.clone()),
         _ => (wide(&case.b), Vec::new()),
     };
     [head, wide(&case.a), b, index, wide(&seen.output)]

@@ -4,9 +4,9 @@
 use crate::archive;
 use crate::archive_leaning::{self, Blobs};
 use crate::generate::random::Random;
-use crate::lean_questions::{name_leaning, LeaningName};
-use crate::vectors::{module_and_index, places, run, Case, Seen, MOST_BYTES, MOST_PLACES};
+use crate::vectors::{module_and_index, places, run, start_in, told_name, Case, Seen};
 use crate::vectors::{CHECK, JOIN, LEANING, LEANING_NAME, LEANING_SIZE, MEMBER, NAME, SIZE};
+use crate::vectors::{MOST_BYTES, MOST_PLACES};
 
 /// What stands in an answer's place before a call; no answer has this number.
 const UNTOLD: u32 = 0xA5A5_A5A5;
@@ -145,7 +145,7 @@ impl Trial {
     fn told(&self, seen: &Seen) -> Vec<u32> {
         match self.case.op {
             NAME => vec![seen.number, 0, name_start(&self.case), seen.p],
-            LEANING_NAME => leaning_name(&self.case).to_vec(),
+            LEANING_NAME => told_name(&self.case).to_vec(),
             MEMBER => vec![seen.number, seen.inner, seen.t, seen.p, 0],
             _ => vec![seen.number, seen.inner, seen.t, seen.p],
         }
@@ -194,20 +194,6 @@ fn inner<T>(whole: &mut [T]) -> &mut [T] {
 fn name_start(case: &Case) -> u32 {
     let (part, _) = crate::name(&case.a, case.x);
     start_in(&case.a, part)
-}
-
-/// Where a part of a blob begins in it.
-fn start_in(blob: &[u8], part: &[u8]) -> u32 {
-    (part.as_ptr() as usize - blob.as_ptr() as usize) as u32
-}
-
-/// Is there no name, does it lie in the module, where there, and how long.
-fn leaning_name(case: &Case) -> [u32; 4] {
-    match name_leaning(&case.a, &case.b, case.x) {
-        LeaningName::InBase(part) => [0, 0, start_in(&case.a, part), part.len() as u32],
-        LeaningName::InModule(part) => [0, 1, start_in(&case.b, part), part.len() as u32],
-        LeaningName::Nowhere => [1, 0, 0, 0],
-    }
 }
 
 /// The first slice that differs, and where.

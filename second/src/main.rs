@@ -1,7 +1,7 @@
 //! The command line of the second implementation of paper 01.
 //!
 //!     second vectors --seed S --cases N [--ops 1,2,3] [--small|--long] [--only R]
-//!     second antt    --seed S --cases N [--ops 1,2,3,4] [--only R] [--each]
+//!     second antt    --seed S --cases N [--ops 1,2,3] [--only R] [--each]
 //!     second census  --seed S --cases N [--ops 1,2,3] [--small|--long]
 //!     second check FILE [MODULE]
 //!     second changed FILE
@@ -19,21 +19,22 @@
 //! had with `--ops 5`, or with `--members N` behind all others: its edges and
 //! large tables where those are asked for, and N of the seed's. Ops 9 to 11, a
 //! module's table on its base, are had with `--ops 9,10,11`, or likewise with
-//! `--leaning N` behind those, N of the seed's for each of the three.
+//! `--leaning N` behind those, N of the seed's for each of the three. `antt` has
+//! no op 5, and without `--ops` the edges of ops 9 to 11 behind the others.
 
 use second::census::Census;
 use second::changed::changed;
-use second::generate::{cases, cases_then, Behind, Scale, Wanted};
+use second::generate::{cases_then, Behind, Scale, Wanted};
 use second::limits::FULL_PLACES;
 use second::report::meaning;
-use second::vectors::{self, run, Case, CHECK, JOIN, OPS};
+use second::vectors::{self, run, Case, OPS};
 use second::{LeaningRefusal, Report};
 use std::io::Write;
 use std::process::ExitCode;
 
 const USAGE: &str = "\
 second vectors --seed S --cases N [--ops 1,2,3] [--small|--long] [--only R]
-second antt    --seed S --cases N [--ops 1,2,3,4] [--only R] [--each]
+second antt    --seed S --cases N [--ops 1,2,3] [--only R] [--each]
 second census  --seed S --cases N [--ops 1,2,3] [--small|--long]
 second check FILE [MODULE]
 second changed FILE
@@ -103,12 +104,20 @@ fn antt(arguments: &[String]) -> Result<Vec<u8>, String> {
         scale: Scale::Tiny,
         ..wanted(&rest)?
     };
-    if !wanted.ops.iter().all(|op| (CHECK..=JOIN).contains(op)) {
-        return Err("antt has ops 1 to 4".to_string());
+    if !wanted.ops.iter().all(|op| second::antt::OPS.contains(op)) {
+        return Err("antt has ops 1 to 4 and 9 to 11".to_string());
     }
+    // The edges of a pair are always with those of the ops of before.
+    let without_ops = !rest.contains(&"--ops".to_string());
+    let behind: &[Behind] = if without_ops {
+        &[Behind::leaning(0)]
+    } else {
+        &[]
+    };
     let in_a_list = if each.is_empty() { 25 } else { 1 };
     let with_limits = wanted.part.as_deref().is_none_or(|part| part == "limits");
-    Ok(second::antt::file(&cases(&wanted), in_a_list, with_limits).into_bytes())
+    let found = cases_then(wanted, behind);
+    Ok(second::antt::file(&found, in_a_list, with_limits).into_bytes())
 }
 
 fn wanted(arguments: &[String]) -> Result<Wanted, String> {

@@ -203,6 +203,22 @@ fn run_leaning_name(case: &Case) -> Seen {
     }
 }
 
+/// A name of a pair as C is told it, in more numbers than a file has: is there
+/// none, does it lie in the module, where does it begin there, and how long is
+/// it.
+pub fn told_name(case: &Case) -> [u32; 4] {
+    match name_leaning(&case.a, &case.b, case.x) {
+        LeaningName::InBase(part) => [0, 0, start_in(&case.a, part), part.len() as u32],
+        LeaningName::InModule(part) => [0, 1, start_in(&case.b, part), part.len() as u32],
+        LeaningName::Nowhere => [1, 0, 0, 0],
+    }
+}
+
+/// Where a part of a blob begins in it.
+pub fn start_in(blob: &[u8], part: &[u8]) -> u32 {
+    (part.as_ptr() as usize - blob.as_ptr() as usize) as u32
+}
+
 /// A report that is the answer itself.
 fn put_report(seen: &mut Seen, report: Report) {
     seen.number = report.number;
