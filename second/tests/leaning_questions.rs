@@ -156,58 +156,64 @@ fn each_blob_in_its_own_order() {
     assert_eq!(of_module, SizeAnswer::Report21);
 }
 
-/// The forms of ops 9 to 11 in a vector file.
-#[test]
-fn cases_of_the_three_ops() {
+/// A pair of T and a module whose one type is a TYPEDEF of T's, with this op.
+fn case_of(op: u32) -> Case {
     let mut m = module();
     m.typedef(3, 1);
-    let (a, b) = (t().blob(), m.blob());
+    Case {
+        op,
+        a: t().blob(),
+        b: m.blob(),
+        ..Case::default()
+    }
+}
+
+/// The form of op 9 in a vector file.
+#[test]
+fn cases_of_the_check() {
     let case = Case {
-        op: LEANING,
         index_places: 4,
         work_places: 3,
-        a,
-        b,
-        ..Case::default()
+        ..case_of(LEANING)
     };
     let index = [0, 24, 24, 0].map(u32::to_le_bytes).concat();
     let sums = [sum(&index), sum(&[0; 12]), 1];
     assert_eq!(numbers_of(&run(&case))[..4], [0, 0, 2, 0]);
     assert_eq!(numbers_of(&run(&case))[4..], sums);
+    let with = |a: Vec<u8>, b: Vec<u8>| {
+        let case = Case {
+            a,
+            b,
+            ..case.clone()
+        };
+        numbers_of(&run(&case))[..4].to_vec()
+    };
     let mut bad = t();
     bad.at(1).third = 3;
-    let refused = run(&Case {
-        a: bad.blob(),
-        ..case.clone()
-    });
-    assert_eq!(numbers_of(&refused)[..4], [25, 10, 1, 24]);
-    let other = run(&Case {
-        b: turned(&case.b),
-        ..case.clone()
-    });
-    assert_eq!(numbers_of(&other)[..4], [26, 0, 0, 0]);
-    m.at(1).third = 2;
-    let refused = run(&Case {
-        b: m.blob(),
-        ..case.clone()
-    });
-    assert_eq!(numbers_of(&refused)[..4], [14, 0, 2, 24]);
-    // The index is the last of b, and no output is lent.
+    assert_eq!(with(bad.blob(), case.b.clone()), [25, 10, 1, 24]);
+    assert_eq!(with(case.a.clone(), turned(&case.b)), [26, 0, 0, 0]);
+    let mut bad = module();
+    bad.typedef(3, 2);
+    assert_eq!(with(case.a.clone(), bad.blob()), [14, 0, 2, 24]);
+}
+
+/// Those of ops 10 and 11. The index is the last of b, and no output is lent.
+#[test]
+fn cases_of_the_questions() {
+    let size = case_of(LEANING_SIZE);
+    let index = [0, 24, 24].map(u32::to_le_bytes).concat();
     let size = Case {
-        op: LEANING_SIZE,
         x: 2,
         y: 1,
         output_bytes: 3,
-        b: [&case.b[..], &index[..12]].concat(),
-        a: case.a.clone(),
-        ..Case::default()
+        b: [size.b, index].concat(),
+        ..size
     };
     assert_eq!(numbers_of(&run(&size)), [0, 0, 0, 2, 1, 1, 1]);
     let name = |x| {
         let case = Case {
-            op: LEANING_NAME,
             x,
-            ..case.clone()
+            ..case_of(LEANING_NAME)
         };
         numbers_of(&run(&case))
     };

@@ -45,12 +45,10 @@ pub fn lend(a: Vec<u8>, b: Vec<u8>, (index_places, work_places): (u32, u32)) -> 
 
 fn attempt(r: &mut Random, scale: Scale, aim: u32) -> Case {
     let mut pair = pair::accepted(r, scale);
-    if (10..=15).contains(&aim) || (aim != 0 && r.one_in(4)) {
-        let number = if aim < 16 {
-            aim.max(10)
-        } else {
-            r.between(10, 15)
-        };
+    if (10..=15).contains(&aim) {
+        damage_module(r, &mut pair, aim);
+    } else if aim != 0 && r.one_in(4) {
+        let number = r.between(10, 15);
         damage_module(r, &mut pair, number);
     }
     let (base, module) = pair.blobs();

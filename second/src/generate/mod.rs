@@ -184,32 +184,34 @@ fn asked_for(case: &Case, wanted: &Wanted) -> bool {
     wanted.ops.contains(&case.op) && wanted.only.is_none_or(|number| run(case).number == number)
 }
 
-/// Checks, joins and members have the most answers, so they come more often.
+/// Checks, joins, members and pairs have the most answers, so they come more
+/// often.
+const WEIGHTED: [u32; 19] = [
+    CHECK,
+    CHECK,
+    CHECK,
+    CHECK,
+    SIZE,
+    SIZE,
+    NAME,
+    JOIN,
+    JOIN,
+    JOIN,
+    MEMBER,
+    MEMBER,
+    MEMBER,
+    LEANING,
+    LEANING,
+    LEANING,
+    LEANING_SIZE,
+    LEANING_SIZE,
+    LEANING_NAME,
+];
+
 /// Each is made of little-endian tables, and turned round as often as not, but
 /// for members: all that is told of a turned table that is accepted is 35.
 fn one(r: &mut Random, wanted: &Wanted) -> Case {
-    let weighted = [
-        CHECK,
-        CHECK,
-        CHECK,
-        CHECK,
-        SIZE,
-        SIZE,
-        NAME,
-        JOIN,
-        JOIN,
-        JOIN,
-        MEMBER,
-        MEMBER,
-        MEMBER,
-        LEANING,
-        LEANING,
-        LEANING,
-        LEANING_SIZE,
-        LEANING_SIZE,
-        LEANING_NAME,
-    ];
-    let open: Vec<u32> = weighted
+    let open: Vec<u32> = WEIGHTED
         .into_iter()
         .filter(|op| wanted.ops.contains(op))
         .collect();

@@ -2,12 +2,12 @@
 //! types and strings of the base go before the module's.
 
 use crate::generate::grow::grow;
-use crate::generate::pieces::index_of;
+use crate::generate::pieces::{identifier, index_of, kind_of, types_where};
 use crate::generate::random::Random;
 use crate::generate::{valid, Scale};
 use crate::lean::judge_leaning;
 use crate::make::Make;
-use crate::table::ALL_KINDS;
+use crate::table::{Kind, ALL_KINDS};
 
 /// Both in one, and how much of it is the base's.
 #[derive(Clone)]
@@ -91,9 +91,22 @@ fn grown(r: &mut Random, scale: Scale) -> Pair {
         let kind = r.pick(&ALL_KINDS);
         grow(r, &mut pair.whole, kind);
     }
+    if r.one_in(4) {
+        add_func(r, &mut pair.whole);
+    }
     valid::turn_pointers_behind(r, &mut pair.whole, pair.types);
     if r.one_in(2) {
         valid::shuffle_behind(r, &mut pair.whole, pair.types);
     }
     pair
+}
+
+/// A FUNC of a prototype that is there, which may be the base's: what grows has
+/// a prototype of its own.
+fn add_func(r: &mut Random, m: &mut Make) {
+    let found = types_where(m, |number| kind_of(m, number) == Some(Kind::FuncProto));
+    if let Some(prototype) = r.pick_any(&found) {
+        let name = identifier(r, m);
+        m.func(name, prototype);
+    }
 }
