@@ -1,93 +1,33 @@
--- Laws of the check: the phases one after the other are the table's report, and with `scan` before them the gate's answer and slices.
+-- Laws of the check: `scan`, and then what is judged of the table that its index shows, are the gate's answer and slices.
 -- Assumes nothing.
 use Prim.Native.Nat.{ℕ, suc, _<_, _≤_}
 use mathlib.Core.Path.{_≡_, refl, sym, ap, _∙_, subst}
-use mathlib.Core.List.{List}
+use mathlib.Core.List.{List, []}
 use mathlib.Core.Option.{Option, none, some}
 use native.Mathlib.Omega.{arith}
 use lib.ListN.{length, getD}
-use Rattle.gate.specs.Check.{Judgeable, AnswerOf}
-use Rattle.gate.proofs.Stands.{stands-shows, stands-place, stands-phase}
-use Rattle.gate.specs.Said.{saidAsPaper, overShown}
-use Rattle.links.proofs.Linking.{links-say}
-use Rattle.links.specs.Links.{linkedAsPaper, linksSay}
-use Rattle.links.specs.declared.whole.Linked.{Linked}
-use Rattle.links.specs.declared.whole.Linked.the-variants.{Good, Reference, Endless}
-use Rattle.paper.specs.rules.Limits.{typeLimit}
-use Rattle.views.specs.Shown.{placeBy, tableBy}
+use Rattle.gate.specs.Check.{AnswerOf}
+use Rattle.gate.proofs.Stands.{stands-judged}
+use Rattle.phases.specs.Said.{saidAsPaper, judged}
 use Rattle.views.specs.declared.View.{View}
 use Rattle.gate.specs.Standing.{Standing}
-use Rattle.gate.specs.declared.phases.Said.{Said}
-use Rattle.gate.specs.declared.phases.Said.the-variants.{Nothing, Says}
+use Rattle.phases.specs.declared.types.Said.{Said}
+use Rattle.phases.specs.declared.types.Said.the-variants.{Nothing, Says}
 use Rattle.paper.proofs.Outcomes.{gate-refused, gate-accepted, length-indexOf, getD-indexOf}
-use Rattle.paper.specs.rules.Answer.{Answer, report, reportAt, checkedAsPaper}
+use Rattle.paper.specs.rules.Answer.{Answer, report, checkedAsPaper}
 use Rattle.paper.specs.rules.Choice.{orElse}
 use Rattle.paper.specs.terms.Fit.{Bytes}
-use Rattle.paper.specs.rules.Gate.{phase1, phase2, shortSlices, phase3, phase4, phase5, phase6, overTypes}
+use Rattle.paper.specs.rules.Gate.{phase1, phase2, shortSlices}
 use Rattle.paper.specs.rules.Gate.{tableReport, refusal, zeros, indexOf, Outcome, outcome, gate}
-use Rattle.paper.specs.rules.Table.{Table, count}
+use Rattle.paper.specs.rules.Header.{orderOf}
+use Rattle.paper.specs.rules.Table.{count}
 use Rattle.paper.specs.rules.Walk.{tableOf}
 use Rattle.paper.specs.declared.Checked.the-variants.{Accepted, Refused}
 use Rattle.paper.specs.declared.Report.{Report}
-use Rattle.paper.specs.declared.TypeNo.{TypeNo}
 use Rattle.scan.proofs.Founds.{count-readable}
 use Rattle.scan.specs.Scan.{scanReport, CountOf, FoundOf, indexAfter, ScanOf}
 use Rattle.scan.specs.declared.found.Scanned.{Scanned}
 use Rattle.scan.specs.declared.found.Scanned.the-variants.{Counted, Refused}
-
--- ── phases 3 to 6 ──
-
--- what is said where the phases before are silent
-module _ (T : Table) where
-  said-third : {a : Answer} → overTypes phase3 T ≡ some a → tableReport T ≡ some a
-  unfolding tableReport
-  said-third e = ap (λ (o : Option Answer). orElse o (orElse (overTypes phase4 T) (orElse (overTypes phase5 T) (overTypes phase6 T)))) e
-
-  module _ (p3 : overTypes phase3 T ≡ none) where
-    from-fourth : tableReport T ≡ orElse (overTypes phase4 T) (orElse (overTypes phase5 T) (overTypes phase6 T))
-    unfolding tableReport
-    from-fourth = ap (λ (o : Option Answer). orElse o (orElse (overTypes phase4 T) (orElse (overTypes phase5 T) (overTypes phase6 T)))) p3
-
-    said-links : (o : Option Answer) → orElse (overTypes phase4 T) (overTypes phase5 T) ≡ o → tableReport T ≡ orElse o (overTypes phase6 T)
-    said-links o e =
-        from-fourth ∙ go (overTypes phase4 T) (overTypes phase5 T) (overTypes phase6 T) ∙ ap (λ (x : Option Answer). orElse x (overTypes phase6 T)) e
-      where
-        go : (x y z : Option Answer) → orElse x (orElse y z) ≡ orElse (orElse x y) z
-        go none y z = refl
-        go (some a) y z = refl
-
--- the same of the answers in code, of the table that the index shows
-module _ {b index work : List ℕ} (base : List ℕ) {v : View} (j : Judgeable b index v work) (s₃ : Said)
-    (e₃ : saidAsPaper s₃ ≡ overShown phase3 base b index v) where
-  abbrev T : Table
-  T = tableOf b
-
-  third-here : saidAsPaper s₃ ≡ overTypes phase3 T
-  third-here = e₃ ∙ stands-phase (j .standing) base v refl (j .ordered) phase3
-
-  pub judge-third : {r : Report} → s₃ ≡ Says r → saidAsPaper s₃ ≡ tableReport T
-  judge-third p = ap saidAsPaper p ∙ sym (said-third T (sym third-here ∙ ap saidAsPaper p))
-
-  module _ (n₃ : s₃ ≡ Nothing) (few : v .n ≤ typeLimit) (w : Linked)
-      (e₄ : linkedAsPaper (tableBy base b index v) w ≡ linksSay (tableBy base b index v) (v .n) (length work)) where
-    linked : {x : Linked} → w ≡ x → tableReport T ≡ orElse (linkedAsPaper T x) (overTypes phase6 T)
-    linked {x} q =
-        let says : linkedAsPaper T w ≡ orElse (overTypes phase4 T) (overTypes phase5 T) =
-        subst (λ (S : Table). linkedAsPaper S w ≡ orElse (overTypes phase4 S) (overTypes phase5 S)) (stands-shows (j .standing) base v refl (j .ordered))
-        (e₄ ∙ links-say (tableBy base b index v) (v .n) (length work) few (j .room)) in
-        said-links T (sym third-here ∙ ap saidAsPaper n₃) (linkedAsPaper T x) (sym says ∙ ap (linkedAsPaper T) q)
-
-    pub judge-reference : {t : TypeNo} {p : ℕ} → w ≡ Reference t → p ≡ placeBy index v (t .0) → some (reportAt 13 (t .0) p) ≡ tableReport T
-    judge-reference {t} q at = ap (λ (p : ℕ). some (reportAt 13 (t .0) p)) (at ∙ stands-place (j .standing) v refl (t .0)) ∙ sym (linked q)
-
-    pub judge-endless : {t : TypeNo} {p : ℕ} → w ≡ Endless t → p ≡ placeBy index v (t .0) → some (reportAt 14 (t .0) p) ≡ tableReport T
-    judge-endless {t} q at = ap (λ (p : ℕ). some (reportAt 14 (t .0) p)) (at ∙ stands-place (j .standing) v refl (t .0)) ∙ sym (linked q)
-
-    pub judge-sixth : w ≡ Good → {o : Option Answer} → o ≡ overShown phase6 base b index v → o ≡ tableReport T
-    judge-sixth q e = e ∙ stands-phase (j .standing) base v refl (j .ordered) phase6 ∙ sym (linked q)
-
-pub judge-few : {b index work : List ℕ} {v : View} → Judgeable b index v work → v .n ≤ typeLimit
-judge-few j = omega (arith, j .standing .counted, j .standing .readable .section .few-found)
 
 -- ── with phases 1 and 2 before them ──
 
@@ -143,6 +83,11 @@ module _ (b : List ℕ) (places work : ℕ) where
 
     pub scan-room : n < work
     scan-room = omega (arith, count-readable b places work counted .enough-work, counted .counts)
+
+    -- what is judged is what the table's own phases say
+    pub scan-table : Bytes b → (v : View) → v .n ≡ n → v .order ≡ orderOf b → v .before ≡ 0 → (j : Said) → saidAsPaper j ≡ judged [] b index v work
+        → saidAsPaper j ≡ tableReport (tableOf b)
+    scan-table bytes v many order alone j e = e ∙ stands-judged (scan-standing bytes) v many order alone scan-room
 
     pub scan-accepted : (j : Said) → saidAsPaper j ≡ tableReport (tableOf b) → j ≡ Nothing → AnswerOf (Accepted n) b places work index
     unfolding checkedAsPaper

@@ -1,4 +1,3 @@
 pub mod Stands
-pub mod TypeDues
 pub mod Checks
 pub mod Demands

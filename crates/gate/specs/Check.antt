@@ -1,20 +1,10 @@
 -- What the check asks of its parts and answers, in the paper's terms.
-use Prim.Native.Nat.{ℕ, _<_}
+use Prim.Native.Nat.{ℕ}
 use mathlib.Core.Path.{_≡_}
 use mathlib.Core.List.{List}
-use lib.ListN.{length}
-use Rattle.gate.specs.Standing.{Standing}
 use Rattle.paper.specs.rules.Answer.{checkedAsPaper}
 use Rattle.paper.specs.rules.Gate.{gate}
-use Rattle.paper.specs.rules.Header.{orderOf}
 use Rattle.paper.specs.declared.Checked.{Checked}
-use Rattle.views.specs.declared.View.{View}
-
--- a blob that phases 1 and 2 have passed, looked at in its own order, and a work slice with a place for each type
-pub record Judgeable (b index : List ℕ) (v : View) (work : List ℕ) : Type 0 where
-  pub standing : Standing b index (v .n)
-  pub ordered : v .order ≡ orderOf b
-  pub room : v .n < length work
 
 -- the answer and the index afterwards are those of the gate
 pub record AnswerOf (c : Checked) (b : List ℕ) (places workPlaces : ℕ) (index : List ℕ) : Type 0 where

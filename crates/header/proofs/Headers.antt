@@ -17,7 +17,7 @@ use Rattle.paper.specs.rules.Choice.{differ, same}
 use Rattle.paper.specs.rules.Gate.{naming}
 use Rattle.paper.specs.rules.Header.{orderOf, magicFirst, magicSecond, opening, typeOff, typeLen, strOff, strLen, stringsIn}
 use Rattle.paper.specs.rules.Header.{openingBad, headerLengthBad, sectionsBad, stringsBad}
-use Rattle.paper.specs.rules.Lean.{lengthBadBehind, endBad, otherOpening}
+use Rattle.pairs.specs.Lean.{lengthBadBehind, endBad, otherOpening}
 use Rattle.paper.specs.rules.Limits.{byteLimit}
 use Rattle.paper.specs.rules.Word.{wordAt}
 use Rattle.paper.specs.declared.Order.{Order}

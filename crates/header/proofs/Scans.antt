@@ -20,14 +20,14 @@ use Rattle.header.specs.Header.{HeaderOf, HeaderBy}
 use Rattle.header.specs.declared.first.Header.{Header}
 use Rattle.header.specs.declared.first.Header.the-variants.{Good, Bad}
 use Rattle.header.specs.declared.first.Sections.{Sections}
-use Rattle.header.proofs.Behinds.{behindReport-facts}
+use Rattle.pairs.proofs.Headers.{behindReport-facts}
 use Rattle.paper.specs.declared.Part.{Part}
 use Rattle.paper.specs.declared.Report.{Report}
 use Rattle.paper.specs.rules.Answer.{Answer}
 use Rattle.paper.specs.rules.Choice.{isSome}
 use Rattle.paper.specs.rules.Gate.{naming, phase1}
 use Rattle.paper.specs.rules.Header.{orderOf, strLen, typeLen, stringsIn, headerReport}
-use Rattle.paper.specs.rules.Lean.{behindReport}
+use Rattle.pairs.specs.Lean.{behindReport}
 use Rattle.paper.specs.rules.Name.{untilZero, nameIn, nameless, nameAt, nameStart}
 use Rattle.paper.specs.rules.Word.{wordAt}
 
@@ -131,7 +131,7 @@ module _ (b : List ℕ) (off : ℕ) where
   unfolding namelessBehind
   behind-held before =
       record {
-        inside = λ e. let d = silent-due (behindReport before b) off (strLen b) e in omega (arith, behindReport-facts before b (d .0) .sum, d .1);
+        inside = λ e. let d = silent-due (behindReport before b) off (strLen b) e in omega (arith, behindReport-facts before b (d .0) .sections .sum, d .1);
         short = λ e. omega (arith, behindReport-facts before b (silent-due (behindReport before b) off (strLen b) e .0) .short);
       }
 

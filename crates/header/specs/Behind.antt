@@ -12,7 +12,7 @@ use Rattle.header.specs.declared.first.Header.{Header}
 use Rattle.paper.specs.declared.Part.{Part}
 use Rattle.paper.specs.rules.Choice.{isSome}
 use Rattle.paper.specs.rules.Header.{strLen}
-use Rattle.paper.specs.rules.Lean.{behindReport}
+use Rattle.pairs.specs.Lean.{behindReport}
 
 -- both sections where nothing is due, else the report
 abbrev pub HeaderBehind : Header → ℕ → List ℕ → Type 0

@@ -8,7 +8,7 @@ ghost use lib.ListN.{getD};
 ghost use Rattle.header.specs.Behind.{HeaderBehind};
 ghost use Rattle.header.specs.Header.{HeaderBy, HeaderOf, opensOtherwise, reportBy};
 ghost use Rattle.paper.specs.rules.Header.{openingBad, headerLengthBad, sectionsBad, stringsBad};
-ghost use Rattle.paper.specs.rules.Lean.{endBad, lengthBadBehind};
+ghost use Rattle.pairs.specs.Lean.{endBad, lengthBadBehind};
 
 // How long the two sections behind a good header are.
 pub struct Sections {

@@ -2,7 +2,7 @@
 use paper::Order;
 ghost use mathlib.Core.Path.{_≡_};
 ghost use Rattle.header.specs.Header.{beginsWith};
-ghost use Rattle.paper.specs.rules.Lean.{otherOpening};
+ghost use Rattle.pairs.specs.Lean.{otherOpening};
 
 // The first two bytes are these.
 fn begins_with(b: &[u8], first: u8, second: u8) -> bool

@@ -20,7 +20,7 @@ use rows::third_role;
 use texts::first_of;
 use views::View;
 use views::record_of;
-use views::strings_of;
+use views::strings_in;
 use words::rest_from;
 
 // A name is compared that ends before so many bytes, as every identifier does.
@@ -28,14 +28,22 @@ const NAME: usize = 128;
 
 pub(crate) fn record_at<'a>(blob: &'a [u8], index: &[u32], n: u32, t: u32) -> &'a [u8] {
     let order = words::order_of(blob);
-    record_of(&blob[..0], blob, index, View { n, order }, TypeNo(t))
+    record_of(
+        &blob[..0],
+        blob,
+        index,
+        View {
+            n,
+            order,
+            before: 0,
+        },
+        TypeNo(t),
+    )
 }
 
 // The bytes from a name on, as many as are compared.
-fn name_bytes<'a>(blob: &'a [u8], index: &[u32], at: u32) -> &'a [u8] {
-    let order = words::order_of(blob);
-    let strings = strings_of(&blob[..0], blob, index, View { n: 0, order });
-    first_of(rest_from(strings, at as usize), NAME)
+fn name_bytes(blob: &[u8], at: u32) -> &[u8] {
+    first_of(rest_from(strings_in(blob), at as usize), NAME)
 }
 
 // Up to a zero byte, which both must have, two parts hold the same.
@@ -56,15 +64,8 @@ fn same_until_zero(s: &[u8], z: &[u8]) -> bool {
     false
 }
 
-pub(crate) fn same_name(
-    a: &[u8],
-    a_index: &[u32],
-    i: u32,
-    b: &[u8],
-    b_index: &[u32],
-    j: u32,
-) -> bool {
-    same_until_zero(name_bytes(a, a_index, i), name_bytes(b, b_index, j))
+pub(crate) fn same_name(a: &[u8], i: u32, b: &[u8], j: u32) -> bool {
+    same_until_zero(name_bytes(a, i), name_bytes(b, j))
 }
 
 fn same_size(s: Sized, z: Sized) -> bool {
@@ -91,7 +92,7 @@ fn same_referent(
     }
     let i = name_of(words::order_of(a), r);
     let j = name_of(words::order_of(b), s);
-    if !same_name(a, a_index, i.0, b, b_index, j.0) {
+    if !same_name(a, i.0, b, j.0) {
         return false;
     }
     same_size(
@@ -113,7 +114,7 @@ fn same_word(
     v: u32,
 ) -> bool {
     if is_name(role) {
-        return same_name(a, a_index, w, b, b_index, v);
+        return same_name(a, w, b, v);
     }
     if is_reference(role) {
         return same_referent(a, a_index, a_n, b, b_index, b_n, w, v);

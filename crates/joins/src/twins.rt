@@ -36,7 +36,7 @@ fn is_twin(a: &[u8], a_index: &[u32], r: &[u8], b: &[u8], b_index: &[u32], s: &[
     }
     let i = name_of(words::order_of(a), r);
     let j = name_of(words::order_of(b), s);
-    same_name(a, a_index, i.0, b, b_index, j.0)
+    same_name(a, i.0, b, j.0)
 }
 
 // The first type of the other table that has a type's kind and name, where there is one and none of them says the same; else 0.

@@ -19,8 +19,8 @@ use Rattle.paper.specs.rules.Table.{Record, Table, count, recordAt, wordsOf}
 use Rattle.paper.specs.rules.Walk.{placeAt}
 use Rattle.paper.specs.rules.Word.{wordAt}
 use Rattle.rows.proofs.RoleCodes.{tailLength-few}
-use Rattle.views.proofs.Shows.{tableBy-count, startBy-record}
-use Rattle.views.specs.Shown.{tableBy, startBy}
+use Rattle.views.proofs.Shows.{tableBy-count, bytesBy-record}
+use Rattle.views.specs.Shown.{tableBy, bytesBy}
 use Rattle.views.specs.declared.View.{View}
 use Rattle.links.specs.Links.{linkedAsPaper, linksSay, LinksOf}
 use Rattle.links.specs.Search.{mostWords, Unsearched, ringAsPaper}
@@ -48,8 +48,8 @@ over-all T e = ap (λ (m : ℕ). firstOf (placeAt T) (phase4 T) m 1) e
 -- no record that an index shows has many words
 pub shown-few : (base b index : List ℕ) (v : View) (t : ℕ) → length (wordsOf (recordAt (tableBy base b index v) t)) ≤ mostWords
 shown-few base b index v t =
-    let s = drop (startBy base b index v t) b in
-    let same = ap (λ (r : Record). length (wordsOf r)) (startBy-record base b index v t) in
+    let s = bytesBy base b index v t in
+    let same = ap (λ (r : Record). length (wordsOf r)) (bytesBy-record base b index v t) in
     omega (arith, same, length-recordIn (v .order) s, tailLength-few (wordAt (v .order) s 4))
 
 pub searchable : (base b index : List ℕ) (v : View) {work : List ℕ} → (size : ℕ) → work ≡ zeros size → v .n ≤ typeLimit → v .n < size → {r : Linked}

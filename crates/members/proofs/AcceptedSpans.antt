@@ -20,7 +20,7 @@ use Rattle.paper.proofs.gates.Acceptance.{accepted-meets, accepted-good, accept
 use Rattle.paper.proofs.renaming.Rename.{rename-id}
 use Rattle.paper.proofs.renaming.Renaming.{Renaming}
 use Rattle.paper.specs.rules.Gate.{refusal, zeros, indexOf}
-use Rattle.paper.specs.rules.Header.{orderOf}
+use Rattle.paper.specs.rules.Header.{orderOf, stringsIn}
 use Rattle.paper.specs.rules.Name.{nameIn}
 use Rattle.paper.specs.rules.Table.{Table, count, recordAt}
 use Rattle.paper.specs.rules.Walk.{tableOf, placesOf}
@@ -35,8 +35,8 @@ use Rattle.values.proofs.Values.{read-21}
 use Rattle.values.specs.Given.{Finding, readFound}
 use Rattle.values.specs.Sought.{noSpan, soughtIn}
 use Rattle.values.specs.Value.{readMember}
-use Rattle.views.proofs.Shows.{getD-else, tableBy-count, tableBy-record}
-use Rattle.views.specs.Shown.{recordBy, tableBy}
+use Rattle.views.proofs.Shows.{getD-else, holder-own, stringsIn-none, tableBy-count, tableBy-record}
+use Rattle.views.specs.Shown.{recordFrom, recordBy, tableBy}
 
 -- ── the index that a check leaves ──
 
@@ -84,18 +84,19 @@ module _ (b : List ℕ) (bytes : Bytes b) (places work : ℕ) (e : refusal b pla
   -- ── the table that it shows has the blob's records at their numbers ──
 
   shows : (t : ℕ) → t ≤ count A → recordAt B t ≡ recordAt A t
-  unfolding recordBy
+  unfolding recordBy recordFrom
   shows zero h = refl
   shows (suc t) h =
       let l = length-indexOf A places enough in
       let n = enough in
       tableBy-record [] b index (viewIn b index) (suc t) (omega arith) (omega (arith, more))
+      ∙ ap (λ (s : List ℕ). recordIn (orderOf b) (drop (getD index (suc t) (length s)) s)) (holder-own (viewIn b index) (suc t) [] b (omega arith))
       ∙ ap (λ (p : ℕ). recordIn (orderOf b) (drop p b)) (getD-else index (suc t) (length b) 0 (omega arith) ∙ getD-indexOf A places enough t h)
       ∙ recordIn-place b bytes (accepted-header b places work e) (A .records) (accepted-walk b places work e) t h
 
   strings : B .strings ≡ A .strings
   unfolding tableBy
-  strings = sym (strings-tableOf b)
+  strings = ap (λ (s : List ℕ). s ++ stringsIn b) stringsIn-none ∙ sym (strings-tableOf b)
 
   shown : Renaming A B (λ n. n) (λ n. n)
   shown =

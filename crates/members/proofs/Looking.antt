@@ -29,10 +29,10 @@ module _ (b index : List ℕ) (t m : ℕ) where
     looked-21 e d = d ∙ sym (ap₂ (λ (x : Order) (y : Bool). asked (sameOrder x HighFirst) y) o (sym test ∙ e))
 
     pub looked-in : {f : Finding} → x ≡ false → {n : ℕ} → n ≡ placesIn index → {order : Order} → order ≡ orderOf b
-        → f ≡ soughtIn (tableBy [] b index (record { n = n; order = order })) (recordAt (tableBy [] b index (record { n = n; order = order })) t) m
+        → let T = tableBy [] b index (record { n = n; order = order; before = 0 }) in f ≡ soughtIn T (recordAt T t) m
         → f ≡ soughtAt b index t m
     unfolding soughtAt
     looked-in e places order d =
         d
-        ∙ (λ i. soughtIn (tableBy [] b index (record { n = places i; order = order i })) (recordAt (tableBy [] b index (record { n = places i; order = order i })) t) m)
+        ∙ (λ i. let T = tableBy [] b index (record { n = places i; order = order i; before = 0 }) in soughtIn T (recordAt T t) m)
         ∙ sym (ap₂ (λ (x : Order) (y : Bool). asked (sameOrder x HighFirst) y) o (sym test ∙ e))

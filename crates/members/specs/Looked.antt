@@ -18,7 +18,7 @@ abbrev pub placesIn : List ℕ → ℕ
 placesIn index = cond (ltb (length index) 4294967296) (length index) 4294967295
 
 abbrev pub viewIn : List ℕ → List ℕ → View
-viewIn b index = record { n = placesIn index; order = orderOf b }
+viewIn b index = record { n = placesIn index; order = orderOf b; before = 0 }
 
 abbrev pub shownIn : List ℕ → List ℕ → Table
 shownIn b index = tableBy [] b index (viewIn b index)

@@ -31,5 +31,16 @@ pub fn span_of(b: &[u8], index: &[u32], t: TypeNo, m: u32) -> MemberSpan
         return no_span(Sort::NoType, 0);
     }
     let n = places(index);
-    member_in(&b[..0], b, index, View { n, order }, t, m)
+    member_in(
+        &b[..0],
+        b,
+        index,
+        View {
+            n,
+            order,
+            before: 0,
+        },
+        t,
+        m,
+    )
 }

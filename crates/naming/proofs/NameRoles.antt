@@ -1,17 +1,19 @@
 -- Laws of one word by the code of its role: a name that its rule allows, or no name.
 -- Assumes nothing.
-use Prim.Native.Nat.{ℕ, zero, suc, _<_, _≤_}
+use Prim.Native.Nat.{ℕ, zero, suc, _+_, _-_, _<_, _≤_}
 use mathlib.Core.Path.{_≡_, refl, sym, ap, _∙_}
 use mathlib.Core.Bool.{Bool, true, false, not, _&&_}
 use mathlib.Core.Logic.{⊎-elim}
 use mathlib.Core.List.{List, [], _∷_}
 use native.Mathlib.Omega.{arith}
 use borrow.Author.Tests.{le-leb, lt-ltb, le-ltb, not-true, not-false}
+use lib.Dec.{ltb}
 use lib.ListN.{length}
 use Rattle.paper.specs.declared.Order.{Order}
 use Rattle.paper.specs.rules.Kind.{NameRule, Role, Row, rowOf, rows, names, refers, holds, number, voidOrPlain, plain, anInt, aProto, aVar, taggable}
 use Rattle.paper.specs.rules.Name.{nameIn}
-use Rattle.paper.specs.rules.Names.{nameFits, nameOk, nameWordOk}
+use Rattle.pairs.specs.Lean.{nameOver, nameOkOver, nameWordOver}
+use Rattle.paper.specs.rules.Names.{nameFits}
 use Rattle.paper.specs.rules.Word.{wordAt}
 use Rattle.paper.specs.terms.Reading.{roled}
 use Rattle.paper.proofs.basics.Choices.{and-true, and-nothing, every-getD}
@@ -41,9 +43,9 @@ nameRuleOf-other (suc (suc (suc (suc zero)))) a b c d e = absurd (d refl)
 nameRuleOf-other (suc (suc (suc (suc (suc zero))))) a b c d e = absurd (e refl)
 nameRuleOf-other (suc (suc (suc (suc (suc (suc n)))))) a b c d e = refl
 
-module _ (strings : List ℕ) where
+module _ (base strings : List ℕ) where
   -- a word of a reference passes, and one past all codes
-  word-behind : (role w : ℕ) → 6 < role → true ≡ nameWordOk strings (roleOf role) w
+  word-behind : (role w : ℕ) → 6 < role → true ≡ nameWordOver base strings (roleOf role) w
   word-behind zero w h = absurd (omega arith)
   word-behind (suc zero) w h = absurd (omega arith)
   word-behind (suc (suc zero)) w h = absurd (omega arith)
@@ -53,17 +55,17 @@ module _ (strings : List ℕ) where
   word-behind (suc (suc (suc (suc (suc (suc zero)))))) w h = absurd (omega arith)
   word-behind (suc (suc (suc (suc (suc (suc (suc n))))))) w h =
       sym
-      (every-getD (λ (ρ : Role). nameWordOk strings ρ w)
+      (every-getD (λ (ρ : Role). nameWordOver base strings ρ w)
       (refers voidOrPlain ∷ refers plain ∷ refers anInt ∷ refers aProto ∷ refers aVar ∷ refers taggable
       ∷ holds voidOrPlain ∷ holds plain ∷ holds anInt ∷ holds aProto ∷ holds aVar ∷ holds taggable ∷ [])
       number refl refl n)
 
-  word-number : (role w : ℕ) → role < 1 → true ≡ nameWordOk strings (roleOf role) w
+  word-number : (role w : ℕ) → role < 1 → true ≡ nameWordOver base strings (roleOf role) w
   word-number zero w h = refl
   word-number (suc n) w h = absurd (omega arith)
 
   -- any other word passes
-  pub word-other : (role w : ℕ) {z : Bool} → z ≡ isNameCode role → not z ≡ true → true ≡ nameWordOk strings (roleOf role) w
+  pub word-other : (role w : ℕ) {z : Bool} → z ≡ isNameCode role → not z ≡ true → true ≡ nameWordOver base strings (roleOf role) w
   word-other role w {z} asked e = ⊎-elim (λ h. word-number role w h) (λ h. word-behind role w h) (between-out 1 6 role (sym asked ∙ not-true z e))
 
   module _ (role w : ℕ) {z : Bool} (asked : z ≡ isNameCode role) (e : not z ≡ false) where
@@ -73,19 +75,30 @@ module _ (strings : List ℕ) where
     named : roleOf role ≡ names (nameRuleOf role)
     named = role-names role (λ n. omega (arith, at)) (at .1)
 
-    -- "Each offset is below the string length"
-    pub word-outside : length strings ≤ w → false ≡ nameWordOk strings (roleOf role) w
-    unfolding nameOk
-    word-outside h =
-        sym (ap (λ (t : Bool). t && nameFits (nameRuleOf role) w (nameIn strings w)) (le-ltb w (length strings) h))
-        ∙ sym (ap (λ (ρ : Role). nameWordOk strings ρ w) named)
-
-    pub word-inside : w < length strings → {r : Bool} → r ≡ nameFits (nameRuleOf role) w (nameIn strings w) → r ≡ nameWordOk strings (roleOf role) w
-    unfolding nameOk
-    word-inside h e =
+    -- what the rule asks of the name, where the offset is below the length of both sections
+    asked-there : {r t : Bool} {cs : List ℕ} → ltb w (length base + length strings) ≡ t → nameOver base strings w ≡ cs
+        → r ≡ (t && nameFits (nameRuleOf role) w cs) → r ≡ nameWordOver base strings (roleOf role) w
+    unfolding nameOkOver
+    asked-there below there e =
         e
-        ∙ sym (ap (λ (t : Bool). t && nameFits (nameRuleOf role) w (nameIn strings w)) (lt-ltb w (length strings) h))
-        ∙ sym (ap (λ (ρ : Role). nameWordOk strings ρ w) named)
+        ∙ sym (λ i. below i && nameFits (nameRuleOf role) w (there i))
+        ∙ sym (ap (λ (ρ : Role). nameWordOver base strings ρ w) named)
+
+    -- in the base's strings
+    pub word-base : w < length base → {r : Bool} → r ≡ nameFits (nameRuleOf role) w (nameIn base w) → r ≡ nameWordOver base strings (roleOf role) w
+    unfolding nameOver
+    word-base h e = asked-there (lt-ltb w (length base + length strings) (omega arith)) (rw (lt-ltb w (length base) h) refl) e
+
+    module _ (past : length base ≤ w) where
+      -- in its own
+      pub word-own : w - length base < length strings → {r : Bool} → r ≡ nameFits (nameRuleOf role) w (nameIn strings (w - length base))
+          → r ≡ nameWordOver base strings (roleOf role) w
+      unfolding nameOver
+      word-own h e = asked-there (lt-ltb w (length base + length strings) (omega arith)) (rw (le-ltb w (length base) past) refl) e
+
+      -- "Each offset is below the string length"
+      pub word-outside : length strings ≤ w - length base → false ≡ nameWordOver base strings (roleOf role) w
+      word-outside h = asked-there (le-ltb w (length base + length strings) (omega arith)) refl refl
 
 -- the code of a name's rule is that of a name
 pub name-code : (rule : NameRule) {a : ℕ} → a ≡ nameCode rule → isNameCode a ≡ true
@@ -94,16 +107,16 @@ name-code rule {a} e =
     and-true (le-leb 1 a (omega (arith, at))) (le-leb a 6 (omega (arith, at)))
 
 -- of a head's three words the name alone is asked: no kind has a name for its third
-module _ (order : Order) (strings s : List ℕ) where
-  third-nameless : (k w : ℕ) → nameWordOk strings (roleOf (roleCode (rowOf k .thirdRole))) w ≡ true
+module _ (order : Order) (base strings s : List ℕ) where
+  third-nameless : (k w : ℕ) → nameWordOver base strings (roleOf (roleCode (rowOf k .thirdRole))) w ≡ true
   third-nameless k w =
-      ap (λ (ρ : Role). nameWordOk strings ρ w) (roleOf-roleCode (rowOf k .thirdRole))
-      ∙ rowOf-every (λ (r : Row). nameWordOk strings (r .thirdRole) w) (unfold rows in refl) k
+      ap (λ (ρ : Role). nameWordOver base strings ρ w) (roleOf-roleCode (rowOf k .thirdRole))
+      ∙ rowOf-every (λ (r : Row). nameWordOver base strings (r .thirdRole) w) (unfold rows in refl) k
 
-  pub head-name : (k a : ℕ) {t : Bool} → t ≡ nameWordOk strings (roleOf a) (wordAt order s 0)
-      → t ≡ roled order (nameWordOk strings) s 0 (roleOf a ∷ roleOf 0 ∷ roleOf (roleCode (rowOf k .thirdRole)) ∷ [])
+  pub head-name : (k a : ℕ) {t : Bool} → t ≡ nameWordOver base strings (roleOf a) (wordAt order s 0)
+      → t ≡ roled order (nameWordOver base strings) s 0 (roleOf a ∷ roleOf 0 ∷ roleOf (roleCode (rowOf k .thirdRole)) ∷ [])
   unfolding roled
   head-name k a e =
       e
-      ∙ sym (and-nothing (nameWordOk strings (roleOf a) (wordAt order s 0)))
-      ∙ sym (ap (λ (t : Bool). nameWordOk strings (roleOf a) (wordAt order s 0) && (t && true)) (third-nameless k (wordAt order s 8)))
+      ∙ sym (and-nothing (nameWordOver base strings (roleOf a) (wordAt order s 0)))
+      ∙ sym (ap (λ (t : Bool). nameWordOver base strings (roleOf a) (wordAt order s 0) && (t && true)) (third-nameless k (wordAt order s 8)))

@@ -1,4 +1,5 @@
 // Report 11: "a name breaks the list". A record's words are gone over three at a time, each by its role.
+// Names stand in two string sections, one behind the other: `base` is that of the table that is leaned on, of no bytes where there is none.
 use idents::Spelt;
 use idents::identifier;
 use idents::section_name;
@@ -21,8 +22,9 @@ ghost use Prim.Native.Nat.{_<_, _≤_};
 ghost use lib.ListN.{length};
 ghost use Rattle.paper.specs.rules.Choice.{times};
 ghost use Rattle.paper.specs.rules.Kind.{rowOf};
+ghost use Rattle.pairs.specs.Lean.{nameWordOver, namesOver};
 ghost use Rattle.paper.specs.rules.Name.{isIdentifier, nameIn};
-ghost use Rattle.paper.specs.rules.Names.{nameFits, nameWordOk, namesOk};
+ghost use Rattle.paper.specs.rules.Names.{nameFits};
 ghost use Rattle.paper.specs.terms.Reading.{recordIn, roled, tailRoled};
 ghost use Rattle.paper.specs.rules.Word.{wordAt};
 ghost use Rattle.kindrows.specs.Codes.{isNameCode, roleOf};
@@ -38,48 +40,57 @@ fn is_identifier(strings: &[u8], at: NameOff) -> bool
     }
 }
 
-// What a name's rule asks of an offset and the name that stands there.
-fn fits(strings: &[u8], rule: u32, at: NameOff) -> bool
+// What a name's rule asks of an offset through both sections and the name that stands at its place in one.
+fn fits(strings: &[u8], rule: u32, at: NameOff, off: NameOff) -> bool
     requires { ⌜ at .0 < length (now strings) ⌝ }
-    ensures { λ r. ⌜ r ≡ nameFits (nameRuleOf rule) (at .0) (nameIn (now (strings .entry)) (at .0)) ⌝ }
+    ensures { λ r. ⌜ r ≡ nameFits (nameRuleOf rule) (off .0) (nameIn (now (strings .entry)) (at .0)) ⌝ }
 {
     let from = at.0 as usize;
+    let whole = off.0;
     match rule {
-        1 => from == 0,
+        1 => whole == 0,
         2 => true,
-        3 => from == 0 || is_identifier(strings, at),
+        3 => whole == 0 || is_identifier(strings, at),
         4 => is_identifier(strings, at),
         5 => strings[from] != 0,
         _ => section_name(strings, at),
     }
 }
 
-// The word at a place, a name, is one that its rule allows.
-fn name_ok(order: Order, bytes: &[u8], strings: &[u8], at: Place, role: u32) -> bool
+// The word at a place, a name, is one that its rule allows. Its offset counts through both string sections.
+fn name_ok(order: Order, bytes: &[u8], base: &[u8], strings: &[u8], at: Place, role: u32) -> bool
     requires { ⌜ isNameCode role ≡ true ⌝ }
-    ensures { λ r. ⌜ r ≡ nameWordOk (now (strings .entry)) (roleOf role) (wordAt order (now (bytes .entry)) (at .0)) ⌝ }
+    ensures { λ r. ⌜ r ≡ nameWordOver (now (base .entry)) (now (strings .entry)) (roleOf role) (wordAt order (now (bytes .entry)) (at .0)) ⌝ }
 {
     let off = words::read(order, bytes, at);
-    if strings.len() <= off as usize {
+    let k = off as usize;
+    let n = base.len();
+    if k < n {
+        return fits(base, role, NameOff(off), NameOff(off));
+    }
+    let own = k - n;
+    if strings.len() <= own {
         return false;
     }
-    fits(strings, role, NameOff(off))
+    let at = own as u32;
+    fits(strings, role, NameOff(at), NameOff(off))
 }
 
 // The same of a word of any role: what is no name passes. The test stands by itself, so that only a name costs a call.
-fn word_ok(order: Order, bytes: &[u8], strings: &[u8], at: Place, role: u32) -> bool
-    ensures { λ r. ⌜ r ≡ nameWordOk (now (strings .entry)) (roleOf role) (wordAt order (now (bytes .entry)) (at .0)) ⌝ }
+fn word_ok(order: Order, bytes: &[u8], base: &[u8], strings: &[u8], at: Place, role: u32) -> bool
+    ensures { λ r. ⌜ r ≡ nameWordOver (now (base .entry)) (now (strings .entry)) (roleOf role) (wordAt order (now (bytes .entry)) (at .0)) ⌝ }
 {
     if !is_name(role) {
         return true;
     }
-    name_ok(order, bytes, strings, at, role)
+    name_ok(order, bytes, base, strings, at, role)
 }
 
 // Three words from a place on.
 fn three_ok(
     order: Order,
     bytes: &[u8],
+    base: &[u8],
     strings: &[u8],
     at: Place,
     r0: u32,
@@ -87,22 +98,32 @@ fn three_ok(
     r2: u32,
 ) -> bool
     requires { ⌜ at .0 < 1000000 ⌝ }
-    ensures { λ r. ⌜ r ≡ roled order (nameWordOk (now (strings .entry))) (now (bytes .entry)) (at .0) (roleOf r0 ∷ roleOf r1 ∷ roleOf r2 ∷ []) ⌝ }
+    ensures { λ r. ⌜ r ≡ roled order (nameWordOver (now (base .entry)) (now (strings .entry))) (now (bytes .entry)) (at .0) (roleOf r0 ∷ roleOf r1 ∷ roleOf r2 ∷ []) ⌝ }
 {
     let p = at.0;
-    if !word_ok(order, bytes, strings, at, r0) {
+    if !word_ok(order, bytes, base, strings, at, r0) {
         return false;
     }
-    if !word_ok(order, bytes, strings, Place(p + 4), r1) {
+    let second = p + 4;
+    if !word_ok(order, bytes, base, strings, Place(second), r1) {
         return false;
     }
-    word_ok(order, bytes, strings, Place(p + 8), r2)
+    let third = p + 8;
+    word_ok(order, bytes, base, strings, Place(third), r2)
 }
 
 // So many entries from a place on. The words that an entry does not have are plain numbers to `three_ok`.
-fn entries_ok(order: Order, bytes: &[u8], strings: &[u8], at: Place, kind: u32, n: u32) -> bool
+fn entries_ok(
+    order: Order,
+    bytes: &[u8],
+    base: &[u8],
+    strings: &[u8],
+    at: Place,
+    kind: u32,
+    n: u32,
+) -> bool
     requires { ⌜ (at .0 ≤ 24) × (n < 65536) ⌝ }
-    ensures { λ r. ⌜ r ≡ roled order (nameWordOk (now (strings .entry))) (now (bytes .entry)) (at .0) (times n (rowOf kind .each)) ⌝ }
+    ensures { λ r. ⌜ r ≡ roled order (nameWordOver (now (base .entry)) (now (strings .entry))) (now (bytes .entry)) (at .0) (times n (rowOf kind .each)) ⌝ }
 {
     let step = 4 * entry_words(kind);
     let r0 = entry_role(kind, 0);
@@ -111,7 +132,7 @@ fn entries_ok(order: Order, bytes: &[u8], strings: &[u8], at: Place, kind: u32, 
     let mut p = at.0;
     let mut left = n;
     while 0 < left {
-        if !three_ok(order, bytes, strings, Place(p), r0, r1, r2) {
+        if !three_ok(order, bytes, base, strings, Place(p), r0, r1, r2) {
             return false;
         }
         p += step;
@@ -121,8 +142,8 @@ fn entries_ok(order: Order, bytes: &[u8], strings: &[u8], at: Place, kind: u32, 
 }
 
 // The names of a tail, behind the head. Most kinds have none there, which one look at the row tells.
-fn tail_names_ok(order: Order, bytes: &[u8], strings: &[u8], info: u32) -> bool
-    ensures { λ r. ⌜ r ≡ tailRoled order (nameWordOk (now (strings .entry))) (now (bytes .entry)) info ⌝ }
+fn tail_names_ok(order: Order, bytes: &[u8], base: &[u8], strings: &[u8], info: u32) -> bool
+    ensures { λ r. ⌜ r ≡ tailRoled order (nameWordOver (now (base .entry)) (now (strings .entry))) (now (bytes .entry)) info ⌝ }
 {
     let kind = kind_of(info);
     if only_numbers(kind) {
@@ -131,6 +152,7 @@ fn tail_names_ok(order: Order, bytes: &[u8], strings: &[u8], info: u32) -> bool
     if !three_ok(
         order,
         bytes,
+        base,
         strings,
         Place(12),
         once_role(kind, 0),
@@ -140,16 +162,31 @@ fn tail_names_ok(order: Order, bytes: &[u8], strings: &[u8], info: u32) -> bool
         return false;
     }
     let from = 12 + 4 * once_words(kind);
-    entries_ok(order, bytes, strings, Place(from), kind, vlen_of(info))
+    entries_ok(
+        order,
+        bytes,
+        base,
+        strings,
+        Place(from),
+        kind,
+        vlen_of(info),
+    )
 }
 
 // Every name of the record keeps to the list. Of the head only the name is one.
-pub fn names_ok(order: Order, bytes: &[u8], strings: &[u8]) -> bool
-    ensures { λ r. ⌜ r ≡ namesOk (now (strings .entry)) (recordIn order (now (bytes .entry))) ⌝ }
+pub fn names_ok(order: Order, bytes: &[u8], base: &[u8], strings: &[u8]) -> bool
+    ensures { λ r. ⌜ r ≡ namesOver (now (base .entry)) (now (strings .entry)) (recordIn order (now (bytes .entry))) ⌝ }
 {
     let info = words::read(order, bytes, Place(4));
-    if !name_ok(order, bytes, strings, Place(0), name_role(kind_of(info))) {
+    if !name_ok(
+        order,
+        bytes,
+        base,
+        strings,
+        Place(0),
+        name_role(kind_of(info)),
+    ) {
         return false;
     }
-    tail_names_ok(order, bytes, strings, info)
+    tail_names_ok(order, bytes, base, strings, info)
 }

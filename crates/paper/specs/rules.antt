@@ -21,4 +21,3 @@ pub mod Layout
 pub mod Gate
 pub mod Rename
 pub mod Join
-pub mod Lean

@@ -59,7 +59,11 @@ fn member_part(blob: &[u8], index: &[u32], n: u32, held: u32, i: u32) -> Part {
         &blob[..0],
         blob,
         index,
-        View { n, order },
+        View {
+            n,
+            order,
+            before: 0,
+        },
         flag_of(info_of(order, r)),
         TypeNo(t),
         words::read(order, e, Place(8)),
@@ -81,7 +85,11 @@ fn element_part(blob: &[u8], index: &[u32], n: u32, held: u32) -> Part {
     let t = fourth_of(order, record_of(blob, index, held));
     let size = bytes_of(sizes::size(blob, index, TypeNo(t)));
     let none = &blob[..0];
-    let view = View { n, order };
+    let view = View {
+        n,
+        order,
+        before: 0,
+    };
     let lies = member_span(none, blob, index, view, 0, TypeNo(t), 0);
     let span = numbered(none, blob, index, view, 0, size, TypeNo(t), 0);
     lying(t, lies, span)

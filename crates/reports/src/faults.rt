@@ -77,7 +77,11 @@ fn entry_fault(number: u32, n: u32, place: u32, info: u32, entry: u32) -> Look {
 // An array's index breaks the rule; where it does not, the element does.
 fn is_index_wrong(blob: &[u8], index: &[u32], n: u32, r: &[u8], number: u32) -> bool {
     let order = words::order_of(blob);
-    let view = View { n, order };
+    let view = View {
+        n,
+        order,
+        before: 0,
+    };
     let none = &blob[..0];
     let t = TypeNo(words::read(order, r, Place(16)));
     if number == 13 {
@@ -128,7 +132,15 @@ fn told_by(order: Order, r: &[u8], entry: u32, number: u32) -> u32 {
 // The fault of a function is in its prototype, whose parameter has no name.
 fn prototype_fault(blob: &[u8], index: &[u32], n: u32, t: u32, proto: u32) -> Look {
     let order = words::order_of(blob);
-    let place = place_of(index, View { n, order }, TypeNo(proto)).0;
+    let place = place_of(
+        index,
+        View {
+            n,
+            order,
+            before: 0,
+        },
+        TypeNo(proto),
+    ).0;
     let entry = first_entry(blob, index, n, t, place, 15);
     let info = words::blob_word(blob, Place(std::num::wrapping_add_u32(place, 4)));
     entry_fault(15, n, place, info, entry)

@@ -13,7 +13,7 @@ use rows::vlen_of;
 use texts::first_of;
 use views::View;
 use views::record_of;
-use views::strings_of;
+use views::strings_in;
 use words::lay;
 
 // An info word with another number of entries.
@@ -40,10 +40,14 @@ fn is_broken(
 ) -> bool {
     let none = &b[..0];
     let order = words::order_of(b);
-    let view = View { n, order };
+    let view = View {
+        n,
+        order,
+        before: 0,
+    };
     let r = record_of(none, b, index, view, TypeNo(t));
     match number {
-        11 => !naming::names_ok(order, r, strings_of(none, b, index, view)),
+        11 => !naming::names_ok(order, r, none, strings_in(b)),
         12 => !tails::tail_ok(order, r),
         13 => !refs::refs_ok(none, b, index, view, r),
         14 => is_endless(links(none, b, index, view, work), t),

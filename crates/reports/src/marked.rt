@@ -109,6 +109,7 @@ fn put_prototype(
     let view = View {
         n: look.n,
         order: words::order_of(blob),
+        before: 0,
     };
     let place = place_of(index, view, TypeNo(t)).0;
     let o = put_with(buf, o, b"    its prototype, type ", t as u64);
@@ -123,7 +124,11 @@ fn put_prototype(
 fn parts_of(blob: &[u8], index: &[u32], n: u32, t: u32) -> u32 {
     let order = words::order_of(blob);
     let none = &blob[..0];
-    let view = View { n, order };
+    let view = View {
+        n,
+        order,
+        before: 0,
+    };
     let r = record_of(none, blob, index, view, TypeNo(t));
     let info = info_of(order, r);
     match kind_of(info) {

@@ -1,4 +1,4 @@
-// Phase 3 of one record, reports 10 to 12, from the bytes that begin with it and the string section. Any bytes.
+// Phase 3 of one record, reports 10 to 12, from the bytes that begin with it and the strings of the base and of its own table. Any bytes.
 mod phase; // the smallest of the three that is due
 
 pub use phase::Due;

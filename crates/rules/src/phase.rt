@@ -17,13 +17,13 @@ pub enum Due {
 }
 
 // "later, the smallest type, then the smallest number": of one type, the smallest number.
-pub fn phase3(order: Order, bytes: &[u8], strings: &[u8]) -> Due
-    ensures { λ r. ⌜ dueAsPaper r ≡ firstDue (rulesOf (now (strings .entry)) (recordIn order (now (bytes .entry)))) ⌝ }
+pub fn phase3(order: Order, bytes: &[u8], base: &[u8], strings: &[u8]) -> Due
+    ensures { λ r. ⌜ dueAsPaper r ≡ firstDue (rulesOf (now (base .entry)) (now (strings .entry)) (recordIn order (now (bytes .entry)))) ⌝ }
 {
     if !head_ok(order, bytes) {
         return Due::Head;
     }
-    if !names_ok(order, bytes, strings) {
+    if !names_ok(order, bytes, base, strings) {
         return Due::Named;
     }
     if !tail_ok(order, bytes) {

@@ -9,7 +9,8 @@ use native.Mathlib.Omega.{arith}
 use borrow.Author.Tests.{ltb-false}
 use lib.Dec.{ltb}
 use lib.ListN.{length}
-use Rattle.header.proofs.Behinds.{BehindFacts, behindReport-facts}
+use Rattle.pairs.proofs.Headers.{behindReport-facts}
+use Rattle.pairs.specs.Leaning.{BehindFacts}
 use Rattle.header.specs.Behind.{HeaderBehind}
 use Rattle.header.specs.Header.{SectionsBy}
 use Rattle.header.specs.declared.first.Header.{Header}
@@ -23,7 +24,7 @@ use Rattle.paper.specs.rules.Answer.{Answer, reportAt, reportAsPaper}
 use Rattle.paper.specs.rules.Choice.{orElse}
 use Rattle.paper.specs.rules.Gate.{naming, walkReport}
 use Rattle.paper.specs.rules.Header.{headerLength}
-use Rattle.paper.specs.rules.Lean.{behindReport, walkBehind}
+use Rattle.pairs.specs.Lean.{behindReport, walkBehind}
 use Rattle.paper.specs.rules.Limits.{typeLimit}
 use Rattle.paper.specs.rules.Walk.{records, recordsIn, typeWords}
 use Rattle.paper.specs.terms.Good.{WholeWalk}

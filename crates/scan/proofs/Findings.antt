@@ -6,11 +6,11 @@ use mathlib.Core.List.{List}
 use mathlib.Core.Option.{none, some}
 use native.Mathlib.Omega.{arith}
 use lib.ListN.{length}
-use Rattle.header.proofs.Behinds.{behindReport-facts}
+use Rattle.pairs.proofs.Headers.{behindReport-facts}
 use Rattle.paper.specs.rules.Answer.{Answer}
 use Rattle.paper.specs.rules.Gate.{walkReport}
 use Rattle.paper.specs.rules.Header.{headerLength, headerReport, typeLen, strLen}
-use Rattle.paper.specs.rules.Lean.{behindReport}
+use Rattle.pairs.specs.Lean.{behindReport}
 use Rattle.paper.specs.rules.Limits.{byteLimit}
 use Rattle.paper.specs.rules.Walk.{Walked, records, stopped, recordsIn}
 use Rattle.paper.proofs.bytes.Headers.{headerReport-facts}
@@ -26,7 +26,7 @@ headerReport-section b silent e = let f = headerReport-facts b silent in section
 pub behindReport-section : (before : ℕ) (b : List ℕ) {n : ℕ} → behindReport before b ≡ none → n ≡ typeLen b → TypeSection b n
 behindReport-section before b silent e =
     let f = behindReport-facts before b silent in
-    section-of b e (f .type-len) (f .sum) (omega (arith, f .short))
+    section-of b e (f .sections .type-len) (f .sections .sum) (omega (arith, f .short))
 
 -- ── a finding behind so many types ──
 

@@ -14,7 +14,7 @@ use Rattle.paper.specs.rules.Choice.{orElse}
 use Rattle.paper.specs.rules.Gate.{phase1, phase2, shortSlices, zeros, indexOf}
 use Rattle.paper.specs.terms.Good.{Readable}
 use Rattle.paper.specs.rules.Header.{headerLength, headerReport}
-use Rattle.paper.specs.rules.Lean.{walkBehind}
+use Rattle.pairs.specs.Lean.{walkBehind}
 use Rattle.paper.specs.rules.Table.{count}
 use Rattle.paper.specs.rules.Walk.{Walked, recordsIn, tableOf, placesFrom}
 use Rattle.paper.specs.terms.Put.{put}

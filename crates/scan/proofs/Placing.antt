@@ -9,7 +9,7 @@ use lib.ListN.{length, getD, drop, set, length-append}
 use lib.Seq.{drop-cons, drop-at}
 use Rattle.paper.specs.terms.Fit.{Whole}
 use Rattle.paper.specs.rules.Header.{orderOf, headerLength, typeLen}
-use Rattle.paper.specs.rules.Lean.{walkBehind}
+use Rattle.pairs.specs.Lean.{walkBehind}
 use Rattle.paper.specs.rules.Limits.{typeLimit, byteLimit}
 use Rattle.paper.specs.rules.Table.{Record, nothing, tailLength, wordsOf}
 use Rattle.paper.specs.rules.Walk.{typeWords, recordsIn, flat, placesFrom, placesOf}

@@ -10,7 +10,7 @@ use Rattle.paper.specs.rules.Answer.{reportAt}
 use Rattle.paper.specs.rules.Header.{orderOf, headerLength}
 use Rattle.paper.specs.rules.Limits.{typeLimit}
 use Rattle.paper.specs.rules.Table.{Record, tailLength}
-use Rattle.paper.specs.rules.Lean.{walkBehind}
+use Rattle.pairs.specs.Lean.{walkBehind}
 use Rattle.paper.specs.rules.Walk.{Walked, records, stopped, ahead, walkFrom}
 use Rattle.paper.specs.rules.Word.{wordAt}
 use Rattle.paper.proofs.bytes.Sections.{recordFrom}

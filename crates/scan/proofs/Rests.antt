@@ -15,7 +15,7 @@ use Rattle.paper.specs.rules.Answer.{Answer, report, reportAt, reportAsPaper}
 use Rattle.paper.specs.rules.Choice.{_when_, firstDue, orElse}
 use Rattle.paper.specs.rules.Gate.{naming, walkReport, phase2, sliceRules, shortSlices}
 use Rattle.paper.specs.rules.Header.{headerLength}
-use Rattle.paper.specs.rules.Lean.{walkBehind}
+use Rattle.pairs.specs.Lean.{walkBehind}
 use Rattle.paper.specs.rules.Limits.{typeLimit}
 use Rattle.paper.specs.rules.Table.{count}
 use Rattle.paper.specs.rules.Walk as paper

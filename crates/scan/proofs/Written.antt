@@ -7,14 +7,14 @@ use native.Mathlib.Omega.{arith}
 use lib.ListN.{length, drop}
 use Rattle.paper.specs.rules.Gate.{zeros, indexOf}
 use Rattle.paper.specs.rules.Header.{headerLength}
-use Rattle.paper.specs.rules.Lean.{walkBehind}
+use Rattle.pairs.specs.Lean.{walkBehind}
 use Rattle.paper.specs.rules.Table.{Table, count}
 use Rattle.paper.specs.rules.Walk.{recordsIn, walk, tableOf, placesFrom, placesOf}
 use Rattle.paper.specs.terms.Put.{put}
 use Rattle.paper.proofs.bytes.Places.{length-placesOf}
 
 -- zeros are left behind some of them
-drop-zeros : (k n : ℕ) → drop k (zeros n) ≡ zeros (n - k)
+pub drop-zeros : (k n : ℕ) → drop k (zeros n) ≡ zeros (n - k)
 drop-zeros zero n = let same : n ≡ n - 0 = omega arith in ap zeros same
 drop-zeros (suc k) zero = let same : 0 ≡ 0 - suc k = omega arith in ap zeros same
 drop-zeros (suc k) (suc n) = let same : n - k ≡ suc n - suc k = omega arith in drop-zeros k n ∙ ap zeros same

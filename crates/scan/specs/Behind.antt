@@ -10,7 +10,7 @@ use Rattle.paper.specs.rules.Answer.{Answer, reportAt, reportAsPaper}
 use Rattle.paper.specs.rules.Choice.{orElse}
 use Rattle.paper.specs.rules.Gate.{naming, walkReport, shortSlices, zeros}
 use Rattle.paper.specs.rules.Header.{headerLength}
-use Rattle.paper.specs.rules.Lean.{behindReport, walkBehind}
+use Rattle.pairs.specs.Lean.{behindReport, walkBehind}
 use Rattle.paper.specs.rules.Limits.{typeLimit}
 use Rattle.paper.specs.rules.Walk.{recordsIn, placesFrom}
 use Rattle.paper.specs.terms.Put.{put}

@@ -7,7 +7,7 @@ use lib.Dec.{leb}
 use lib.ListN.{length}
 use Rattle.paper.specs.rules.Answer.{Answer, reportAt, reportAsPaper}
 use Rattle.paper.specs.rules.Header.{orderOf, headerLength, typeLen}
-use Rattle.paper.specs.rules.Lean.{walkBehind}
+use Rattle.pairs.specs.Lean.{walkBehind}
 use Rattle.paper.specs.rules.Limits.{byteLimit, typeLimit}
 use Rattle.paper.specs.rules.Table.{kindIn, tailLength}
 use Rattle.paper.specs.rules.Walk.{records, stopped, known}

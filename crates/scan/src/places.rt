@@ -5,7 +5,7 @@ ghost use mathlib.Core.Path.{_≡_};
 ghost use Prim.Native.Nat.{suc};
 ghost use lib.ListN.{length};
 ghost use Rattle.paper.specs.rules.Header.{headerLength};
-ghost use Rattle.paper.specs.rules.Lean.{walkBehind};
+ghost use Rattle.pairs.specs.Lean.{walkBehind};
 ghost use Rattle.paper.specs.rules.Walk.{placesFrom, recordsIn};
 ghost use Rattle.paper.specs.terms.Put.{put};
 ghost use Rattle.scan.specs.Phase2.{WalkDone};

@@ -6,7 +6,7 @@ use mathlib.Core.List.{List}
 use native.Mathlib.Omega.{arith}
 use borrow.Author.Tests.{le-leb, lt-leb}
 use lib.ListN.{length}
-use Rattle.paper.specs.rules.Lean.{stepOver, sizeOver}
+use Rattle.pairs.specs.Lean.{stepOver, sizeOver}
 use Rattle.paper.specs.rules.Size.{Step, is, manyOf, sizeless, lost, Found, scale, goOn, sizeBy, stepAt, sizeAsked, sizeAnswer, sizeOf}
 
 -- ── which blob is read ──

@@ -15,7 +15,7 @@ ghost use Prim.Native.Nat.{_*_, _≤_};
 ghost use mathlib.Core.Bool.{not};
 ghost use Rattle.sizes.specs.SizeStep.{cut, readable, stepAsPaper, stepOf, stepWords};
 ghost use Rattle.paper.specs.rules.Answer.{sizedAsPaper};
-ghost use Rattle.paper.specs.rules.Lean.{sizeOver, stepOver};
+ghost use Rattle.pairs.specs.Lean.{sizeOver, stepOver};
 ghost use Rattle.paper.specs.rules.Size.{exactly, sizeAnswer, sizeOf, stepAt, stepBy};
 ghost use Rattle.paper.specs.rules.Word.{wordAt};
 ghost use Rattle.kindrows.specs.Codes.{sizeRuleOf};

@@ -1,13 +1,13 @@
 -- Laws of the table that an index shows: its records one by one, for any bytes and any index.
 -- Assumes nothing.
 use Prim.Native.Nat.{ℕ, zero, suc, _+_, _-_, _≤_, _<_}
-use mathlib.Core.Path.{_≡_, refl, sym, ap, _∙_}
+use mathlib.Core.Path.{_≡_, refl, sym, ap, _∙_, subst}
 use mathlib.Core.Bool.{Bool, true, false, cond}
-use mathlib.Core.List.{List, [], _∷_}
+use mathlib.Core.List.{List, [], _∷_, _++_}
 use denote.Ref.{RefT, now, ptr}
-use lib.Dec.{ltb}
+use lib.Dec.{leb, ltb}
 use native.Mathlib.Omega.{arith}
-use borrow.Author.Tests.{eq-eqb, ne-eqb, lt-ltb, le-ltb, ltb-true, ltb-false}
+use borrow.Author.Tests.{eq-eqb, ne-eqb, lt-ltb, le-ltb, le-leb, lt-leb, ltb-true, ltb-false}
 use lib.ListN.{length, getD, take, drop, List·getD-eq-default, drop-of-length-le}
 use lib.Seq.{drop-nil, drop-length, ext-getD}
 use Rattle.paper.proofs.bytes.Bytes.{part-rest}
@@ -18,7 +18,8 @@ use Rattle.paper.specs.terms.Reading.{recordIn}
 use Rattle.paper.specs.rules.Table.{Table, count, nothing, recordAt, tailLength}
 use Rattle.paper.specs.declared.Order.{Order}
 use Rattle.paper.specs.rules.Word.{firstWord, wordAt}
-use Rattle.views.specs.Shown.{outside, placeBy, within, recordBy, recordsBy, tableBy, startBy, Starts, stringsStart, ShownAs, WordOf, StringsAs}
+use Rattle.views.specs.Shown.{outside, placeBy, within, holder, recordFrom, startIn, recordBy, recordsBy, tableBy, bytesBy}
+use Rattle.views.specs.Shown.{Starts, stringsStart, PartIn, ShownAs, WordOf, StringsAs}
 use Rattle.views.specs.declared.View.{View}
 
 -- no bytes are the record of no kind
@@ -59,10 +60,6 @@ module _ (b : List ℕ) where
       go true e = let h = ltb-true (length b) p e in drop-length b ∙ sym (drop-of-length-le b {i = p} (omega arith))
       go false e = refl
 
-recordBy-bytes : (base b index : List ℕ) (o : Order) (t : ℕ) → recordIn o (drop (getD index t (length b)) b) ≡ recordBy base b index o t
-unfolding recordBy
-recordBy-bytes base b index o t = refl
-
 module _ (v : View) {t : ℕ} where
   outside-void : t ≡ 0 → outside v t ≡ true
   outside-void e = rw (eq-eqb t 0 e) refl
@@ -74,93 +71,139 @@ module _ (v : View) {t : ℕ} where
     outside-within : t ≤ v .n → outside v t ≡ false
     outside-within h = rw (ne-eqb t 0 low, le-ltb (v .n) t h) refl
 
-module _ (base b index : List ℕ) where
-  recordsBy-length : (o : Order) (n t : ℕ) → length (recordsBy base b index o n t) ≡ n
-  recordsBy-length o zero t = refl
-  recordsBy-length o (suc n) t = ap suc (recordsBy-length o n (suc t))
+-- ── which blob holds a type ──
 
-  recordsBy-at : (o : Order) (n t i : ℕ) → i < n → getD (recordsBy base b index o n t) i nothing ≡ recordBy base b index o (t + i)
-  recordsBy-at o zero t i h = absurd (omega arith)
-  recordsBy-at o (suc n) t zero h = ap (recordBy base b index o) (omega arith)
-  recordsBy-at o (suc n) t (suc i) h = recordsBy-at o n (suc t) i (omega arith) ∙ ap (recordBy base b index o) (omega arith)
+module _ {A : Type 0} (v : View) (t : ℕ) (base b : A) where
+  pub holder-base : t ≤ v .before → holder v t base b ≡ base
+  holder-base h = rw (le-leb t (v .before) h) refl
 
-  module _ (v : View) where
-    pub tableBy-count : count (tableBy base b index v) ≡ v .n
-    unfolding tableBy
-    tableBy-count = recordsBy-length (v .order) (v .n) 1
+  pub holder-own : v .before < t → holder v t base b ≡ b
+  holder-own h = rw (lt-leb t (v .before) h) refl
 
-    pub tableBy-record : (t : ℕ) → 1 ≤ t → t ≤ v .n → recordAt (tableBy base b index v) t ≡ recordBy base b index (v .order) t
-    unfolding tableBy
-    tableBy-record zero low h = absurd (omega arith)
-    tableBy-record (suc t) low h = recordsBy-at (v .order) (v .n) 1 t (omega arith) ∙ ap (recordBy base b index (v .order)) (omega arith)
+-- what is said of both blobs is said of the one that holds it
+now-holder : (v : View) (t : ℕ) (base b : RefT (List ℕ)) → now (holder v t base b) ≡ holder v t (now base) (now b)
+now-holder v t base b = go (leb t (v .before))
+  where
+    go : (z : Bool) → now (cond z base b) ≡ cond z (now base) (now b)
+    go true = refl
+    go false = refl
 
-    -- ── where the bytes of a type begin ──
+-- ── where the bytes of a type begin in a blob ──
 
-    startBy-outside : (t : ℕ) → outside v t ≡ true → length b ≡ startBy base b index v t
-    unfolding startBy
-    startBy-outside t e = rw e refl
+module _ (s index : List ℕ) (v : View) where
+  startIn-outside : (t : ℕ) → outside v t ≡ true → length s ≡ startIn s index v t
+  unfolding startIn
+  startIn-outside t e = rw e refl
 
-    startBy-within : (t : ℕ) → outside v t ≡ false → within b (getD index t (length b)) ≡ startBy base b index v t
-    unfolding startBy
-    startBy-within t e = rw e refl
+  startIn-within : (t : ℕ) → outside v t ≡ false → within s (getD index t (length s)) ≡ startIn s index v t
+  unfolding startIn
+  startIn-within t e = rw e refl
 
-    pub start-void : {t : ℕ} → t ≡ 0 → length b ≡ startBy base b index v t
-    start-void {t} e = startBy-outside t (outside-void v e)
+  pub start-void : {t : ℕ} → t ≡ 0 → length s ≡ startIn s index v t
+  start-void {t} e = startIn-outside t (outside-void v e)
 
-    module _ {t : ℕ} (low : t ≡ 0 → ⊥) where
-      pub start-above : v .n < t → length b ≡ startBy base b index v t
-      start-above h = startBy-outside t (outside-above v low h)
+  module _ {t : ℕ} (low : t ≡ 0 → ⊥) where
+    pub start-above : v .n < t → length s ≡ startIn s index v t
+    start-above h = startIn-outside t (outside-above v low h)
 
-      module _ (high : t ≤ v .n) where
-        here : within b (getD index t (length b)) ≡ startBy base b index v t
-        here = startBy-within t (outside-within v low high)
+    module _ (high : t ≤ v .n) where
+      here : within s (getD index t (length s)) ≡ startIn s index v t
+      here = startIn-within t (outside-within v low high)
 
-        pub start-unlisted : length index ≤ t → length b ≡ startBy base b index v t
-        start-unlisted h = sym (within-end b) ∙ ap (within b) (sym (List·getD-eq-default index (length b) h)) ∙ here
+      pub start-unlisted : length index ≤ t → length s ≡ startIn s index v t
+      start-unlisted h = sym (within-end s) ∙ ap (within s) (sym (List·getD-eq-default index (length s) h)) ∙ here
 
-        module _ (listed : t < length index) where
-          place : within b (getD index t 0) ≡ startBy base b index v t
-          place = ap (within b) (getD-else index t 0 (length b) listed) ∙ here
+      module _ (listed : t < length index) where
+        place : within s (getD index t 0) ≡ startIn s index v t
+        place = ap (within s) (getD-else index t 0 (length s) listed) ∙ here
 
-          pub start-past : length b < getD index t 0 → length b ≡ startBy base b index v t
-          start-past h = sym (within-past b h) ∙ place
+        pub start-past : length s < getD index t 0 → length s ≡ startIn s index v t
+        start-past h = sym (within-past s h) ∙ place
 
-          pub start-there : getD index t 0 ≤ length b → getD index t 0 ≡ startBy base b index v t
-          start-there h = sym (within-inside b h) ∙ place
+        pub start-there : getD index t 0 ≤ length s → getD index t 0 ≡ startIn s index v t
+        start-there h = sym (within-inside s h) ∙ place
 
-    -- ── the bytes from there on are those of its record ──
+        -- the bytes from there on, whether or not the place is there
+        start-bytes : drop (getD index t 0) s ≡ drop (startIn s index v t) s
+        start-bytes = sym (drop-within s (getD index t 0)) ∙ ap (λ (p : ℕ). drop p s) place
 
-    startBy-inside : (t : ℕ) → startBy base b index v t ≤ length b
-    unfolding startBy
-    startBy-inside t = go (outside v t)
-      where
-        go : (z : Bool) → cond z (length b) (within b (getD index t (length b))) ≤ length b
-        go true = omega arith
-        go false = within-low b (getD index t (length b))
+  startIn-inside : (t : ℕ) → startIn s index v t ≤ length s
+  unfolding startIn
+  startIn-inside t = go (outside v t)
+    where
+      go : (z : Bool) → cond z (length s) (within s (getD index t (length s))) ≤ length s
+      go true = omega arith
+      go false = within-low s (getD index t (length s))
 
-    pub starts : {t from : ℕ} → from ≡ startBy base b index v t → Starts base b index v t from
-    starts {t} e = record { inside = omega (arith, e, startBy-inside t); there = e }
+  pub starts : {t from : ℕ} → from ≡ startIn s index v t → Starts s index v t from
+  starts {t} e = record { inside = omega (arith, e, startIn-inside t); there = e }
 
-    shown-none : (t : ℕ) → outside v t ≡ true → recordAt (tableBy base b index v) t ≡ nothing
-        → recordIn (v .order) (drop (startBy base b index v t) b) ≡ recordAt (tableBy base b index v) t
-    shown-none t o e =
-        ap (λ (p : ℕ). recordIn (v .order) (drop p b)) (sym (startBy-outside t o)) ∙ ap (recordIn (v .order)) (drop-length b) ∙ recordIn-empty (v .order) ∙ sym e
+  -- no bytes of a number outside
+  start-none : (t : ℕ) → outside v t ≡ true → [] ≡ drop (startIn s index v t) s
+  start-none t e = sym (drop-length s) ∙ ap (λ (p : ℕ). drop p s) (startIn-outside t e)
 
-    pub startBy-record : (t : ℕ) → recordIn (v .order) (drop (startBy base b index v t) b) ≡ recordAt (tableBy base b index v) t
-    startBy-record zero = shown-none 0 (outside-void v refl) refl
-    startBy-record (suc t) = go (ltb (v .n) (suc t)) refl
-      where
-        go : (z : Bool) → ltb (v .n) (suc t) ≡ z → recordIn (v .order) (drop (startBy base b index v (suc t)) b) ≡ recordAt (tableBy base b index v) (suc t)
-        go true e =
-            let h = ltb-true (v .n) (suc t) e in
-            shown-none (suc t) (outside-above v {t = suc t} (λ z. omega arith) h)
-            (recordAt-outside (tableBy base b index v) (suc t) (rw tableBy-count h))
-        go false e =
-            let h = ltb-false (v .n) (suc t) e in
-            ap (λ (p : ℕ). recordIn (v .order) (drop p b)) (sym (startBy-within (suc t) (outside-within v {t = suc t} (λ z. omega arith) h)))
-            ∙ ap (recordIn (v .order)) (drop-within b (getD index (suc t) (length b)))
-            ∙ recordBy-bytes base b index (v .order) (suc t)
-            ∙ sym (tableBy-record (suc t) (omega arith) h)
+  startIn-record : (t : ℕ) → outside v t ≡ false → recordIn (v .order) (drop (startIn s index v t) s) ≡ recordFrom s index (v .order) t
+  unfolding recordFrom
+  startIn-record t e =
+      ap (λ (p : ℕ). recordIn (v .order) (drop p s)) (sym (startIn-within t e)) ∙ ap (recordIn (v .order)) (drop-within s (getD index t (length s)))
+
+-- ── the table, record by record ──
+
+module _ (base b index : List ℕ) (v : View) where
+  recordsBy-length : (n t : ℕ) → length (recordsBy base b index v n t) ≡ n
+  recordsBy-length zero t = refl
+  recordsBy-length (suc n) t = ap suc (recordsBy-length n (suc t))
+
+  recordsBy-at : (n t i : ℕ) → i < n → getD (recordsBy base b index v n t) i nothing ≡ recordBy base b index v (t + i)
+  recordsBy-at zero t i h = absurd (omega arith)
+  recordsBy-at (suc n) t zero h = ap (recordBy base b index v) (omega arith)
+  recordsBy-at (suc n) t (suc i) h = recordsBy-at n (suc t) i (omega arith) ∙ ap (recordBy base b index v) (omega arith)
+
+  pub tableBy-count : count (tableBy base b index v) ≡ v .n
+  unfolding tableBy
+  tableBy-count = recordsBy-length (v .n) 1
+
+  pub tableBy-record : (t : ℕ) → 1 ≤ t → t ≤ v .n → recordAt (tableBy base b index v) t ≡ recordBy base b index v t
+  unfolding tableBy
+  tableBy-record zero low h = absurd (omega arith)
+  tableBy-record (suc t) low h = recordsBy-at (v .n) 1 t (omega arith) ∙ ap (recordBy base b index v) (omega arith)
+
+  -- ── the bytes of a type are those of its record ──
+
+  shown-none : (t : ℕ) → outside v t ≡ true → recordAt (tableBy base b index v) t ≡ nothing
+      → recordIn (v .order) (bytesBy base b index v t) ≡ recordAt (tableBy base b index v) t
+  unfolding bytesBy
+  shown-none t o e = ap (recordIn (v .order)) (sym (start-none (holder v t base b) index v t o)) ∙ recordIn-empty (v .order) ∙ sym e
+
+  pub bytesBy-record : (t : ℕ) → recordIn (v .order) (bytesBy base b index v t) ≡ recordAt (tableBy base b index v) t
+  unfolding bytesBy recordBy
+  bytesBy-record zero = shown-none 0 (outside-void v refl) refl
+  bytesBy-record (suc t) = go (ltb (v .n) (suc t)) refl
+    where
+      go : (z : Bool) → ltb (v .n) (suc t) ≡ z → recordIn (v .order) (bytesBy base b index v (suc t)) ≡ recordAt (tableBy base b index v) (suc t)
+      go true e =
+          let h = ltb-true (v .n) (suc t) e in
+          shown-none (suc t) (outside-above v {t = suc t} (λ z. omega arith) h)
+          (recordAt-outside (tableBy base b index v) (suc t) (rw tableBy-count h))
+      go false e =
+          let h = ltb-false (v .n) (suc t) e in
+          startIn-record (holder v (suc t) base b) index v (suc t) (outside-within v {t = suc t} (λ z. omega arith) h)
+          ∙ sym (tableBy-record (suc t) (omega arith) h)
+
+-- a part of the blob that holds a type begins with its record
+pub shown-part : {base b r : RefT (List ℕ)} {index : List ℕ} {v : View} {t : ℕ} → PartIn (holder v t base b) index v t r → ShownAs base b index v t r
+unfolding bytesBy
+shown-part {base} {b} {r} {index} {v} {t} p =
+    record {
+      part = p;
+      shows =
+          ap (recordIn (v .order)) (p .bytes ∙ ap (λ (s : List ℕ). drop (startIn s index v t) s) (now-holder v t base b))
+          ∙ bytesBy-record (now base) (now b) index v t;
+    }
+
+-- and so does a part of a blob that is the one that holds it
+pub shown-held : {base b s r : RefT (List ℕ)} {index : List ℕ} {v : View} {t : ℕ} → holder v t base b ≡ s → PartIn s index v t r → ShownAs base b index v t r
+shown-held {base} {b} {s} {r} {index} {v} {t} e p = shown-part (subst (λ (x : RefT (List ℕ)). PartIn x index v t r) (sym e) p)
 
 -- ── a word of it ──
 
@@ -169,20 +212,39 @@ word-none : (order : Order) (k : ℕ) → 0 ≡ wordAt order [] k
 unfolding wordAt
 word-none order k = ap (firstWord order) (sym (drop-nil k))
 
-module _ (base b index : List ℕ) (v : View) {t at : ℕ} where
-  pub word-nowhere : length b ≡ startBy base b index v t → WordOf base b index v t at 0
-  word-nowhere e =
-      record {
-        says = word-none (v .order) at ∙ ap (λ (s : List ℕ). wordAt (v .order) s at) (sym (drop-length b) ∙ ap (λ (p : ℕ). drop p b) e);
-        shows = startBy-record base b index v t;
-      }
+pub word-past : (order : Order) (s : List ℕ) (p k : ℕ) → length s < p → 0 ≡ wordAt order (drop p s) k
+word-past order s p k h = word-none order k ∙ ap (λ (x : List ℕ). wordAt order x k) (sym (drop-of-length-le s {i = p} (omega arith)))
 
-  pub word-there : {p r : ℕ} → p ≡ startBy base b index v t → r ≡ wordAt (v .order) (take (length b - p) (drop p b)) at → WordOf base b index v t at r
-  word-there {p} e d =
-      record {
-        says = d ∙ ap (λ (s : List ℕ). wordAt (v .order) s at) (part-rest b p ∙ ap (λ (q : ℕ). drop q b) e);
-        shows = startBy-record base b index v t;
-      }
+pub word-part : (order : Order) (s : List ℕ) (p k : ℕ) {r : ℕ} → r ≡ wordAt order (take (length s - p) (drop p s)) k → r ≡ wordAt order (drop p s) k
+word-part order s p k e = e ∙ ap (λ (x : List ℕ). wordAt order x k) (part-rest s p)
+
+module _ (base b index : List ℕ) (v : View) {t at : ℕ} where
+  word-is : {s : List ℕ} {r : ℕ} → s ≡ bytesBy base b index v t → r ≡ wordAt (v .order) s at → WordOf base b index v t at r
+  word-is e d = record { says = d ∙ ap (λ (s : List ℕ). wordAt (v .order) s at) e; shows = bytesBy-record base b index v t }
+
+  word-outside : outside v t ≡ true → WordOf base b index v t at 0
+  unfolding bytesBy
+  word-outside e = word-is (start-none (holder v t base b) index v t e) (word-none (v .order) at)
+
+  pub word-void : t ≡ 0 → WordOf base b index v t at 0
+  word-void e = word-outside (outside-void v e)
+
+  module _ (low : t ≡ 0 → ⊥) where
+    pub word-above : v .n < t → WordOf base b index v t at 0
+    word-above h = word-outside (outside-above v low h)
+
+    module _ (high : t ≤ v .n) where
+      pub word-unlisted : length index ≤ t → WordOf base b index v t at 0
+      unfolding bytesBy
+      word-unlisted h =
+          let s = holder v t base b in
+          word-is (sym (drop-length s) ∙ ap (λ (p : ℕ). drop p s) (start-unlisted s index v low high h)) (word-none (v .order) at)
+
+      pub word-held : t < length index → {s : List ℕ} {r : ℕ} → holder v t base b ≡ s → r ≡ wordAt (v .order) (drop (getD index t 0) s) at
+          → WordOf base b index v t at r
+      unfolding bytesBy
+      word-held listed e d =
+          word-is (ap (drop (getD index t 0)) (sym e) ∙ start-bytes (holder v t base b) index v low high listed) d
 
 -- the same word of two that are allowed
 pub word-one : {base b index : List ℕ} {v : View} {t at r r′ : ℕ} → WordOf base b index v t at r → WordOf base b index v t at r′ → r ≡ r′
@@ -209,7 +271,7 @@ module _ (index : List ℕ) (v : View) {t : ℕ} where
 
 -- ── the strings ──
 
-module _ (base b index : List ℕ) (v : View) {w : ℕ} (e : w ≡ wordAt (orderOf b) b 12) where
+module _ (b : List ℕ) {w : ℕ} (e : w ≡ wordAt (orderOf b) b 12) where
   strings-from : within b (24 + w) ≡ stringsStart b
   unfolding stringsStart typeLen
   strings-from = ap (λ (l : ℕ). within b (24 + l)) e
@@ -220,9 +282,14 @@ module _ (base b index : List ℕ) (v : View) {w : ℕ} (e : w ≡ wordAt (order
   pub strings-inside : 24 + w ≤ length b → 24 + w ≡ stringsStart b
   strings-inside h = sym (within-inside b h) ∙ strings-from
 
-pub stringsStart-strings : (base b index : List ℕ) (v : View) → drop (stringsStart b) b ≡ tableBy base b index v .strings
-unfolding stringsStart tableBy stringsIn
-stringsStart-strings base b index v = drop-within b (headerLength + typeLen b)
+pub stringsStart-strings : (b : List ℕ) → drop (stringsStart b) b ≡ stringsIn b
+unfolding stringsStart stringsIn
+stringsStart-strings b = drop-within b (headerLength + typeLen b)
+
+-- of no bytes there are none
+pub stringsIn-none : stringsIn [] ≡ []
+unfolding stringsIn
+stringsIn-none = drop-nil (headerLength + typeLen [])
 
 -- ── parts: the same bytes at the same place ──
 
@@ -232,23 +299,22 @@ part-place s e = ap {B = ℕ × ℕ} (λ (k : ℕ). (ptr s .0, k + ptr s .1)) e
 
 pub shown-one : {base b r r′ : RefT (List ℕ)} {index : List ℕ} {v : View} {t : ℕ} → ShownAs base b index v t r → ShownAs base b index v t r′
     → (now r ≡ now r′) × (ptr r ≡ ptr r′)
-shown-one h k = (h .bytes ∙ sym (k .bytes), h .place ∙ sym (k .place))
+shown-one h k = (h .part .bytes ∙ sym (k .part .bytes), h .part .place ∙ sym (k .part .place))
 
-pub strings-one : {base b r r′ : RefT (List ℕ)} {index : List ℕ} {v : View} → StringsAs base b index v r → StringsAs base b index v r′
-    → (now r ≡ now r′) × (ptr r ≡ ptr r′)
+pub strings-one : {b r r′ : RefT (List ℕ)} → StringsAs b r → StringsAs b r′ → (now r ≡ now r′) × (ptr r ≡ ptr r′)
 strings-one h k = (h .bytes ∙ sym (k .bytes), h .place ∙ sym (k .place))
 
 -- ── which table it is ──
 
--- a table of so many types, whose records stand where the index says and whose strings are the blob's, is the table that the index shows
+-- a table of so many types, whose records stand where the index says and whose strings are both blobs', is the table that the index shows
 pub tableBy-is : (base b index : List ℕ) (v : View) (T : Table) → v .n ≡ count T
-    → ((t : ℕ) → t < v .n → recordBy base b index (v .order) (suc t) ≡ getD (T .records) t nothing)
-    → stringsIn b ≡ T .strings → tableBy base b index v ≡ T
+    → ((t : ℕ) → t < v .n → recordBy base b index v (suc t) ≡ getD (T .records) t nothing)
+    → stringsIn base ++ stringsIn b ≡ T .strings → tableBy base b index v ≡ T
 unfolding tableBy
 tableBy-is base b index v T counted there strings = λ i. record { records = same i; strings = strings i }
   where
-    same : recordsBy base b index (v .order) (v .n) 1 ≡ T .records
+    same : recordsBy base b index v (v .n) 1 ≡ T .records
     same =
-        let many = recordsBy-length base b index (v .order) (v .n) 1 in
+        let many = recordsBy-length base b index v (v .n) 1 in
         ext-getD nothing _ _ (many ∙ counted)
-        (λ t h. recordsBy-at base b index (v .order) (v .n) 1 t (rw many at h) ∙ ap (recordBy base b index (v .order)) (omega arith) ∙ there t (rw many at h))
+        (λ t h. recordsBy-at base b index v (v .n) 1 t (rw many at h) ∙ ap (recordBy base b index v) (omega arith) ∙ there t (rw many at h))

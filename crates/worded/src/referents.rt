@@ -65,6 +65,7 @@ pub(crate) fn put_referent(
     let view = View {
         n: look.n,
         order: words::order_of(blob),
+        before: 0,
     };
     let r = record_of(&blob[..0], blob, index, view, TypeNo(t));
     let o = put_record(buf, o, blob, r);

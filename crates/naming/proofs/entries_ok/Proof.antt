@@ -5,7 +5,7 @@ use mathlib.Core.Path.{_≡_, refl, _∙_}
 use denote.Ref.{now}
 use Rattle.paper.specs.rules.Kind.{rowOf}
 use Rattle.rows.proofs.RoleCodes.{each-few}
-use Rattle.paper.specs.rules.Names.{nameWordOk}
+use Rattle.pairs.specs.Lean.{nameWordOver}
 use Rattle.paper.specs.terms.Reading.{roled}
 use Rattle.rows.proofs.ByRole.{three-codes, Entering, entering-done, entering-bad, entering-next}
 use borrow.Author.Needs.{needs}
@@ -13,27 +13,27 @@ use Rattle.naming.proofs.entries_ok.Statement.{statement}
 use Rattle.naming.proofs.entries_ok.Tie as tie
 
 abbrev Inv-loop : tie.InvT-loop
-Inv-loop order bytes strings kind n step r0 r1 r2 p₀ left₀ p left = Entering order (nameWordOk strings) bytes (rowOf kind .each) p₀ n p left
+Inv-loop order bytes base strings kind n step r0 r1 r2 p₀ left₀ p left = Entering order (nameWordOver base strings) bytes (rowOf kind .each) p₀ n p left
 
 abbrev μ-loop : tie.MeasureT-loop
-μ-loop order bytes strings kind n step r0 r1 r2 p₀ left₀ p left = left
+μ-loop order bytes base strings kind n step r0 r1 r2 p₀ left₀ p left = left
 
 -- the three words at a place are those of an entry
-here : (c : tie.After-three-ok Inv-loop μ-loop) → let l = c .before .before in let a = l .before .before .before .before .before .before .before .args in
-    c .three-ok .result ≡ roled (a .order) (nameWordOk (now (a .strings))) (now (a .bytes)) (l .loop .p) (rowOf (a .kind) .each)
+here : (c : tie.After-three-ok Inv-loop μ-loop) → let l = c .before .before in let a = l .before .before .before .before .before .before .before .before .args in
+    c .three-ok .result ≡ roled (a .order) (nameWordOver (now (a .base)) (now (a .strings))) (now (a .bytes)) (l .loop .p) (rowOf (a .kind) .each)
 here c =
     let l = c .before .before in
     let r = l .before in
-    let a = r .before .before .before .before .before .before .args in
+    let a = r .before .before .before .before .before .before .before .args in
     c .three-ok .ensures
-    ∙ three-codes (a .order) (nameWordOk (now (a .strings))) (now (a .bytes)) (λ w. refl) (l .loop .p) (rowOf (a .kind) .each) (each-few (a .kind))
+    ∙ three-codes (a .order) (nameWordOver (now (a .base)) (now (a .strings))) (now (a .bytes)) (λ w. refl) (l .loop .p) (rowOf (a .kind) .each) (each-few (a .kind))
     (r .before .before .entry-role .ensures) (r .before .entry-role2 .ensures) (r .entry-role3 .ensures)
 
 entry-words-requires : tie.Need-entry-words-requires Inv-loop μ-loop
 entry-words-requires c κs = search needs
 
 mul-step : tie.Need-mul-step Inv-loop μ-loop
-mul-step c = omega (arith, c .entry-words .ensures, each-few (c .before .before .before .args .kind))
+mul-step c = omega (arith, c .entry-words .ensures, each-few (c .before .before .before .before .args .kind))
 
 entry-role-requires : tie.Need-entry-role-requires Inv-loop μ-loop
 entry-role-requires c κs = search needs
@@ -57,7 +57,7 @@ add-p : tie.Need-add-p Inv-loop μ-loop
 add-p c =
     let l = c .before .before .before in
     let e = l .before .before .before .before in
-    omega (arith, l .loop .inv .near, l .loop .inv .few, e .entry-words .ensures, each-few (e .before .before .before .args .kind))
+    omega (arith, l .loop .inv .near, l .loop .inv .few, e .entry-words .ensures, each-few (e .before .before .before .before .args .kind))
 
 sub-left : tie.Need-sub-left Inv-loop μ-loop
 sub-left c = omega arith
@@ -70,7 +70,7 @@ loop-again c =
     let l = c .before .before .before in
     let e = l .before .before .before .before in
     entering-next (l .loop .inv) (c .before .before .loop-test .taken) (here (c .before)) (c .if1 .left) (e .entry-words .ensures)
-    (each-few (e .before .before .before .args .kind))
+    (each-few (e .before .before .before .before .args .kind))
 
 returns-2 : tie.Need-returns-2 Inv-loop μ-loop
 returns-2 c = entering-done (c .before .loop .inv) (c .loop-test .left)

@@ -37,13 +37,13 @@ returns-3 : tie.Need-returns-3
 returns-3 c =
     let m = c .before in
     let a = m .before .before .before .args in
-    rw (m .match .keys3, eq-eqb (a .at .0) 0 (c .if1 .taken)) refl
+    rw (m .match .keys3, eq-eqb (a .off .0) 0 (c .if1 .taken)) refl
 
 returns-4 : tie.Need-returns-4
 returns-4 c =
     let m = c .before .before in
     let a = m .before .before .before .args in
-    rw (m .match .keys3, ne-eqb (a .at .0) 0 (c .before .if1 .left)) (c .is-identifier .ensures)
+    rw (m .match .keys3, ne-eqb (a .off .0) 0 (c .before .if1 .left)) (c .is-identifier .ensures)
 
 returns-5 : tie.Need-returns-5
 returns-5 c = rw (c .before .match .keys4) (c .is-identifier2 .ensures)
@@ -60,7 +60,7 @@ returns-7 c =
     let a = m .before .before .before .args in
     let r = m .match .rest in
     c .section-name .ensures
-    ∙ ap (λ (rule : NameRule). nameFits rule (a .at .0) (nameIn (now (a .strings)) (a .at .0)))
+    ∙ ap (λ (rule : NameRule). nameFits rule (a .off .0) (nameIn (now (a .strings)) (a .at .0)))
     (nameRuleOf-other (a .rule) (r .0 .0 .0 .0 .1) (r .0 .0 .0 .1) (r .0 .0 .1) (r .0 .1) (r .1))
 
 pub fits-spec : {M : Type 1} → statement M

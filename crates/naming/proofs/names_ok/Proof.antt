@@ -3,7 +3,7 @@
 use mathlib.Core.Path.{refl}
 use denote.Ref.{now}
 use Rattle.paper.specs.rules.Kind.{rowOf}
-use Rattle.paper.specs.rules.Names.{nameWordOk, namesOk}
+use Rattle.pairs.specs.Lean.{nameWordOver, namesOver}
 use Rattle.rows.proofs.ByRole.{record-head, record-tail}
 use Rattle.naming.proofs.NameRoles.{name-code, head-name}
 use borrow.Author.Needs.{needs}
@@ -23,25 +23,25 @@ name-ok-requires : tie.Need-name-ok-requires
 name-ok-requires c κs = name-code (rowOf (c .before .kind-of .result) .name) (c .name-role .ensures)
 
 returns : tie.Need-returns
-unfolding namesOk
+unfolding namesOver
 returns c =
     let n = c .before in
     let k = n .before .before in
-    let a = k .before .before .before .before .args in
-    record-head (a .order) (nameWordOk (now (a .strings))) (now (a .bytes)) (k .before .read .ensures) (k .kind-of .ensures)
-    (n .before .name-role .ensures) refl (head-name (a .order) (now (a .strings)) (now (a .bytes)) (k .kind-of .result) (n .before .name-role .result) (n .name-ok .ensures)) (c .if1 .taken)
+    let a = k .before .before .before .before .before .args in
+    record-head (a .order) (nameWordOver (now (a .base)) (now (a .strings))) (now (a .bytes)) (k .before .read .ensures) (k .kind-of .ensures)
+    (n .before .name-role .ensures) refl (head-name (a .order) (now (a .base)) (now (a .strings)) (now (a .bytes)) (k .kind-of .result) (n .before .name-role .result) (n .name-ok .ensures)) (c .if1 .taken)
 
 tail-names-ok-requires : tie.Need-tail-names-ok-requires
 tail-names-ok-requires c κs = search needs
 
 returns-2 : tie.Need-returns-2
-unfolding namesOk
+unfolding namesOver
 returns-2 c =
     let n = c .before .before in
     let k = n .before .before in
-    let a = k .before .before .before .before .args in
-    record-tail (a .order) (nameWordOk (now (a .strings))) (now (a .bytes)) (k .before .read .ensures) (k .kind-of .ensures)
-    (n .before .name-role .ensures) refl (head-name (a .order) (now (a .strings)) (now (a .bytes)) (k .kind-of .result) (n .before .name-role .result) (n .name-ok .ensures))
+    let a = k .before .before .before .before .before .args in
+    record-tail (a .order) (nameWordOver (now (a .base)) (now (a .strings))) (now (a .bytes)) (k .before .read .ensures) (k .kind-of .ensures)
+    (n .before .name-role .ensures) refl (head-name (a .order) (now (a .base)) (now (a .strings)) (now (a .bytes)) (k .kind-of .result) (n .before .name-role .result) (n .name-ok .ensures))
     (c .before .if1 .left) (c .tail-names-ok .ensures)
 
 pub names-ok-spec : {M : Type 1} → statement M

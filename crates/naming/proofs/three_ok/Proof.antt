@@ -2,7 +2,7 @@
 -- Assumes nothing.
 use Rattle.kindrows.specs.Codes.{roleOf}
 use denote.Ref.{now}
-use Rattle.paper.specs.rules.Names.{nameWordOk}
+use Rattle.pairs.specs.Lean.{nameWordOver}
 use Rattle.rows.proofs.ByRole.{three-first, three-second, three-third}
 use borrow.Author.Needs.{needs}
 use Rattle.naming.proofs.three_ok.Statement.{statement}
@@ -14,12 +14,12 @@ word-ok-requires c κs = search needs
 returns : tie.Need-returns
 returns c =
     let w = c .before in
-    let a = w .before .before .before .args in
-    three-first (a .order) (nameWordOk (now (a .strings))) (now (a .bytes)) (a .at .0) (roleOf (a .r0)) (roleOf (a .r1))
+    let a = w .before .before .before .before .args in
+    three-first (a .order) (nameWordOver (now (a .base)) (now (a .strings))) (now (a .bytes)) (a .at .0) (roleOf (a .r0)) (roleOf (a .r1))
     (roleOf (a .r2)) (w .word-ok .ensures) (c .if1 .taken)
 
-add-t11 : tie.Need-add-t11
-add-t11 c = search needs
+add-second : tie.Need-add-second
+add-second c = search needs
 
 word-ok-requires-2 : tie.Need-word-ok-requires-2
 word-ok-requires-2 c κs = search needs
@@ -28,13 +28,13 @@ returns-2 : tie.Need-returns-2
 returns-2 c =
     let e = c .before .before in
     let w = e .before in
-    let a = w .before .before .before .args in
-    three-second (a .order) (nameWordOk (now (a .strings))) (now (a .bytes)) (a .at .0) (roleOf (a .r0)) (roleOf (a .r1))
+    let a = w .before .before .before .before .args in
+    three-second (a .order) (nameWordOver (now (a .base)) (now (a .strings))) (now (a .bytes)) (a .at .0) (roleOf (a .r0)) (roleOf (a .r1))
     (roleOf (a .r2)) (w .word-ok .ensures) (e .if1 .left)
     (c .before .word-ok2 .ensures) (c .if2 .taken)
 
-add-t11-2 : tie.Need-add-t11-2
-add-t11-2 c = search needs
+add-third : tie.Need-add-third
+add-third c = search needs
 
 word-ok-requires-3 : tie.Need-word-ok-requires-3
 word-ok-requires-3 c κs = search needs
@@ -43,8 +43,8 @@ returns-3 : tie.Need-returns-3
 returns-3 c =
     let e = c .before .before .before in
     let w = e .before in
-    let a = w .before .before .before .args in
-    three-third (a .order) (nameWordOk (now (a .strings))) (now (a .bytes)) (a .at .0) (roleOf (a .r0)) (roleOf (a .r1))
+    let a = w .before .before .before .before .args in
+    three-third (a .order) (nameWordOver (now (a .base)) (now (a .strings))) (now (a .bytes)) (a .at .0) (roleOf (a .r0)) (roleOf (a .r1))
     (roleOf (a .r2)) (w .word-ok .ensures) (e .if1 .left)
     (c .before .before .word-ok2 .ensures) (c .before .if2 .left) (c .word-ok3 .ensures)
 
@@ -54,9 +54,9 @@ three-ok-spec =
     (tie.spec
     word-ok-requires
     returns
-    add-t11
+    add-second
     word-ok-requires-2
     returns-2
-    add-t11-2
+    add-third
     word-ok-requires-3
     returns-3)

@@ -14,8 +14,8 @@ is-name-requires c κs = search needs
 returns : tie.Need-returns
 returns c =
     let i = c .before in
-    let a = i .before .before .before .args in
-    word-other (now (a .strings)) (a .role) _ (i .is-name .ensures) (c .if1 .taken)
+    let a = i .before .before .before .before .args in
+    word-other (now (a .base)) (now (a .strings)) (a .role) _ (i .is-name .ensures) (c .if1 .taken)
 
 name-ok-requires : tie.Need-name-ok-requires
 name-ok-requires c κs = let i = c .before in sym (i .is-name .ensures) ∙ not-false (i .is-name .result) (c .if1 .left)

@@ -8,7 +8,7 @@ use native.Mathlib.Omega.{arith}
 use lib.ListN.{length, take, drop, length-drop, take-append-drop}
 use lib.Seq.{length-take-le, drop-drop}
 use Rattle.paper.specs.terms.Fit.{Below, Bytes, wordBound, Fits}
-use Rattle.paper.specs.terms.Good.{HeaderFacts, WholeWalk}
+use Rattle.paper.specs.terms.Good.{SectionFacts, HeaderFacts, WholeWalk}
 use Rattle.paper.specs.rules.Header.{headerLength, opening, orderOf, typeOff, typeLen, strOff, strLen, stringsIn, headerReport}
 use Rattle.paper.specs.rules.Limits.{typeLimit}
 use Rattle.paper.specs.rules.Table.{Record, Table}
@@ -42,26 +42,28 @@ drop-wordAt order b p h l {w} e =
     ∙ ap (λ (v : ℕ). wordBytes order v ++ drop 4 (drop p b)) e
     ∙ ap (λ (t : List ℕ). wordBytes order w ++ t) (drop-drop 4 p b)
 
-module _ (b : List ℕ) (f : HeaderFacts b) where
+-- ── of a blob that passes reports 1 to 4 ──
+
+module _ (b : List ℕ) (f : SectionFacts b) where
   -- the type section is as long as the header says
-  pub typeSection-length : length (take (typeLen b) (drop headerLength b)) ≡ typeLen b
-  typeSection-length = length-take-le (typeLen b) (drop headerLength b) (simp length-drop (omega (arith, f .sum)))
+  pub section-long : length (take (typeLen b) (drop headerLength b)) ≡ typeLen b
+  section-long = length-take-le (typeLen b) (drop headerLength b) (simp length-drop (omega (arith, f .sum)))
 
   -- and so are the strings
-  pub stringsIn-length : length (stringsIn b) ≡ strLen b
+  pub strings-long : length (stringsIn b) ≡ strLen b
   unfolding stringsIn
-  stringsIn-length = simp length-drop (omega (arith, f .sum))
+  strings-long = simp length-drop (omega (arith, f .sum))
 
   -- the type section has four bytes to a word
-  pub typeWords-length : 4 * length (typeWords b) ≡ typeLen b
+  pub words-long : 4 * length (typeWords b) ≡ typeLen b
   unfolding typeWords
-  typeWords-length = omega (arith, length-words (orderOf b) (take (typeLen b) (drop headerLength b)), typeSection-length, f .type-len)
+  words-long = omega (arith, length-words (orderOf b) (take (typeLen b) (drop headerLength b)), section-long, f .type-len)
 
-module _ (b : List ℕ) (bytes : Bytes b) (f : HeaderFacts b) where
+module _ (b : List ℕ) (bytes : Bytes b) (f : SectionFacts b) where
   -- a blob begins with the header of its own numbers
-  pub header-first : b ≡ headerOf (orderOf b) (typeLen b) (strLen b) ++ drop headerLength b
+  pub header-opens : b ≡ headerOf (orderOf b) (typeLen b) (strLen b) ++ drop headerLength b
   unfolding typeOff typeLen strOff strLen
-  header-first =
+  header-opens =
       sym (take-append-drop 4 b)
       ∙ ap (λ (s : List ℕ). s ++ drop 4 b) (f .opens)
       ∙ ap (λ (s : List ℕ). opening (orderOf b) ++ s) (drop-wordAt (orderOf b) b 4 bytes (omega (arith, f .long)) (f .header-length)
@@ -71,31 +73,68 @@ module _ (b : List ℕ) (bytes : Bytes b) (f : HeaderFacts b) where
       ∙ ap (λ (s : List ℕ). wordBytes (orderOf b) (typeLen b) ++ s) (drop-wordAt (orderOf b) b 20 bytes (omega (arith, f .long)) refl)))))
 
   -- the type section is the bytes of its words
-  pub typeWords-bytes : bytesOfWords (orderOf b) (typeWords b) ≡ take (typeLen b) (drop headerLength b)
+  pub words-bytes : bytesOfWords (orderOf b) (typeWords b) ≡ take (typeLen b) (drop headerLength b)
   unfolding typeWords
-  typeWords-bytes =
+  words-bytes =
       bytesOfWords-words (orderOf b) (take (typeLen b) (drop headerLength b))
       (below-take 256 (typeLen b) (drop headerLength b) (below-drop 256 headerLength b bytes))
-      (omega (arith, typeSection-length b f, f .type-len))
+      (omega (arith, section-long b f, f .type-len))
 
   -- behind the header stand the type section and the strings
-  pub sections-follow : drop headerLength b ≡ bytesOfWords (orderOf b) (typeWords b) ++ stringsIn b
+  pub sections-behind : drop headerLength b ≡ bytesOfWords (orderOf b) (typeWords b) ++ stringsIn b
   unfolding stringsIn
-  sections-follow =
+  sections-behind =
       sym (take-append-drop (typeLen b) (drop headerLength b))
       ∙ ap (λ (s : List ℕ). take (typeLen b) (drop headerLength b) ++ s) (drop-drop (typeLen b) headerLength b)
-      ∙ ap (λ (s : List ℕ). s ++ drop (headerLength + typeLen b) b) (sym typeWords-bytes)
+      ∙ ap (λ (s : List ℕ). s ++ drop (headerLength + typeLen b) b) (sym words-bytes)
 
   -- a table of a blob's words and strings is held by that blob
-  pub bytesOf-words : (T : Table) → flat (T .records) ≡ typeWords b → T .strings ≡ stringsIn b → bytesOf (orderOf b) T ≡ b
-  bytesOf-words T r s =
+  pub blob-words : (T : Table) → flat (T .records) ≡ typeWords b → T .strings ≡ stringsIn b → bytesOf (orderOf b) T ≡ b
+  blob-words T r s =
       bytesOf-parts (orderOf b) T
       ∙ ap (λ (ws : List ℕ). headerOf (orderOf b) (4 * length ws) (length (T .strings)) ++ (bytesOfWords (orderOf b) ws ++ T .strings)) r
       ∙ ap (λ (t : List ℕ). headerOf (orderOf b) (4 * length (typeWords b)) (length t) ++ (bytesOfWords (orderOf b) (typeWords b) ++ t)) s
-      ∙ ap (λ (n : ℕ). headerOf (orderOf b) n (length (stringsIn b)) ++ (bytesOfWords (orderOf b) (typeWords b) ++ stringsIn b)) (typeWords-length b f)
-      ∙ ap (λ (n : ℕ). headerOf (orderOf b) (typeLen b) n ++ (bytesOfWords (orderOf b) (typeWords b) ++ stringsIn b)) (stringsIn-length b f)
-      ∙ ap (λ (t : List ℕ). headerOf (orderOf b) (typeLen b) (strLen b) ++ t) (sym sections-follow)
-      ∙ sym header-first
+      ∙ ap (λ (n : ℕ). headerOf (orderOf b) n (length (stringsIn b)) ++ (bytesOfWords (orderOf b) (typeWords b) ++ stringsIn b)) (words-long b f)
+      ∙ ap (λ (n : ℕ). headerOf (orderOf b) (typeLen b) n ++ (bytesOfWords (orderOf b) (typeWords b) ++ stringsIn b)) (strings-long b f)
+      ∙ ap (λ (t : List ℕ). headerOf (orderOf b) (typeLen b) (strLen b) ++ t) (sym sections-behind)
+      ∙ sym header-opens
+
+-- ── the same of a blob that passes phase 1 ──
+
+pub facts-sections : {b : List ℕ} → HeaderFacts b → SectionFacts b
+facts-sections f =
+    record {
+      long = f .long;
+      opens = f .opens;
+      header-length = f .header-length;
+      type-off = f .type-off;
+      type-len = f .type-len;
+      str-off = f .str-off;
+      sum = f .sum;
+    }
+
+module _ (b : List ℕ) (f : HeaderFacts b) where
+  pub typeSection-length : length (take (typeLen b) (drop headerLength b)) ≡ typeLen b
+  typeSection-length = section-long b (facts-sections f)
+
+  pub stringsIn-length : length (stringsIn b) ≡ strLen b
+  stringsIn-length = strings-long b (facts-sections f)
+
+  pub typeWords-length : 4 * length (typeWords b) ≡ typeLen b
+  typeWords-length = words-long b (facts-sections f)
+
+module _ (b : List ℕ) (bytes : Bytes b) (f : HeaderFacts b) where
+  pub header-first : b ≡ headerOf (orderOf b) (typeLen b) (strLen b) ++ drop headerLength b
+  header-first = header-opens b bytes (facts-sections f)
+
+  pub typeWords-bytes : bytesOfWords (orderOf b) (typeWords b) ≡ take (typeLen b) (drop headerLength b)
+  typeWords-bytes = words-bytes b bytes (facts-sections f)
+
+  pub sections-follow : drop headerLength b ≡ bytesOfWords (orderOf b) (typeWords b) ++ stringsIn b
+  sections-follow = sections-behind b bytes (facts-sections f)
+
+  pub bytesOf-words : (T : Table) → flat (T .records) ≡ typeWords b → T .strings ≡ stringsIn b → bytesOf (orderOf b) T ≡ b
+  bytesOf-words = blob-words b bytes (facts-sections f)
 
 -- the words of the type section of bytes fit 32 bits
 pub typeWords-fit : (b : List ℕ) → Bytes b → Below wordBound (typeWords b)

@@ -42,7 +42,7 @@ module _ (P : ℕ → Type 0) where
   pub says-naming : (t : ℕ) (rules : List Rule) → Numbers rules → Says (naming t (firstDue rules))
   says-naming t rules h = says-namingAt t 0 rules h
 
-  says-firstOf : (place : ℕ → ℕ) (rules : ℕ → List Rule) → ((t : ℕ) → Numbers (rules t)) → (left k : ℕ) → Says (firstOf place rules left k)
+  pub says-firstOf : (place : ℕ → ℕ) (rules : ℕ → List Rule) → ((t : ℕ) → Numbers (rules t)) → (left k : ℕ) → Says (firstOf place rules left k)
   says-firstOf place rules h zero k = tt
   says-firstOf place rules h (suc left) k =
       says-orElse (namingAt k (place k) (firstDue (rules k))) (firstOf place rules left (suc k)) (says-namingAt k (place k) (rules k) (h k))
@@ -93,9 +93,12 @@ module _ (P : ℕ → Type 0) where
     says-report (records rs) h = tt
     says-report (stopped n t p) h = h
 
+    pub says-walk : (room k p : ℕ) (ws : List ℕ) → Says (walkReport (walkFrom room k p ws))
+    says-walk room k p ws = says-report (walkFrom room k p ws) (says-walkFrom room k p ws)
+
     pub says-phase2 : (b : List ℕ) → Says (phase2 b)
     unfolding phase2 walk
-    says-phase2 b = says-report (walk b) (says-walkFrom typeLimit 1 headerLength (typeWords b))
+    says-phase2 b = says-walk typeLimit 1 headerLength (typeWords b)
 
   -- ── the other phases ──
 

@@ -105,11 +105,24 @@ only-if : (t : Bool) {x : Bool} → (t ≡ true → x ≡ true) → not t || x �
 only-if true h = h refl
 only-if false h = refl
 
-module _ (order : Order) (T : Table) (fits : Fits T) (refs : (t : ℕ) → 1 ≤ t → t ≤ count T → refsOk T (recordAt T t) ≡ true)
-    (ends : (t : ℕ) → 1 ≤ t → t ≤ count T → endless T t ≡ false) (index : List ℕ) (long : count T < length index)
-    (at : (t : ℕ) → t < count T → getD index (suc t) 0 ≡ getD (placesOf T) t 0) where
-  abbrev b : List ℕ
-  b = bytesOf order T
+-- ── a walk whose steps are a table's ──
+
+module _ (T : Table) (refs : (t : ℕ) → 1 ≤ t → t ≤ count T → refsOk T (recordAt T t) ≡ true) (ends : (t : ℕ) → 1 ≤ t → t ≤ count T → endless T t ≡ false)
+    (step : ℕ → Step) (same : (t : ℕ) → 1 ≤ t → t ≤ count T → step t ≡ stepIn T t) where
+  -- with more reads than there are types it answers the exact size
+  pub steps-exact : (reads : ℕ) → count T < reads → (t : ℕ) → t ≤ count T → sizeAnswer (sizeBy step reads t) ≡ answerOf (exactSize T t)
+  unfolding exactSize
+  steps-exact reads long t h =
+      ap sizeAnswer
+      (sizeBy-same step (stepIn T) (count T) same (next-inside T refs) reads t h
+      ∙ sizeBy-enough (stepIn T) {k = count T} {m = reads} t (omega arith) (never-far T ends t h))
+      ∙ found-answer (sizeBy (stepIn T) (count T) t) (never-far T ends t h) (never-lost T (count T) t)
+
+-- ── a step of a table's blob, at the record's place ──
+
+module _ (order : Order) (T : Table) (fits : Fits T) (index : List ℕ) where
+  abbrev blob : List ℕ
+  blob = bytesOf order T
 
   module _ (t : ℕ) (h : t < count T) where
     abbrev r : Record
@@ -122,45 +135,51 @@ module _ (order : Order) (T : Table) (fits : Fits T) (refs : (t : ℕ) → 1 ≤
     unfolding tailLength
     tail-long c = let w = whole-at (T .records) (fits .whole) t h .whole-tail in omega arith
 
-    word : (j : ℕ) → j < length (wordsOf r) → wordAt (orderOf b) b (p + 4 * j) ≡ getD (wordsOf r) j 0
-    word j l = ap (λ (o : Order). wordAt o b (p + 4 * j)) (order-bytesOf order T) ∙ place-word order T fits t h j l
+    word : (j : ℕ) → j < length (wordsOf r) → wordAt (orderOf blob) blob (p + 4 * j) ≡ getD (wordsOf r) j 0
+    word j l = ap (λ (o : Order). wordAt o blob (p + 4 * j)) (order-bytesOf order T) ∙ place-word order T fits t h j l
 
-    inside-blob : (k : ℕ) → k ≤ 3 + length (r .tail) → p + 4 * k ≤ length b
+    inside-blob : (k : ℕ) → k ≤ 3 + length (r .tail) → p + 4 * k ≤ length blob
     inside-blob k l = let e = place-high order T t h in omega arith
 
-    step-at-place : stepAtPlace b index p ≡ stepIn T (suc t)
+    pub step-at-place : stepAtPlace blob index p ≡ stepIn T (suc t)
     unfolding stepAtPlace stepIn
     step-at-place =
         ap (λ (w : ℕ). cond
-        (leb headerLength p && leb (p + 12) (length b) && known (kindIn w) && (not (eqb (kindIn w) ARRAY) || leb (p + 24) (length b)))
-        (stepBy (rowOf (kindIn w) .size) (wordAt (orderOf b) b (p + 8)) (wordAt (orderOf b) b (p + 12)) (wordAt (orderOf b) b (p + 20)))
+        (leb headerLength p && leb (p + 12) (length blob) && known (kindIn w) && (not (eqb (kindIn w) ARRAY) || leb (p + 24) (length blob)))
+        (stepBy (rowOf (kindIn w) .size) (wordAt (orderOf blob) blob (p + 8)) (wordAt (orderOf blob) blob (p + 12)) (wordAt (orderOf blob) blob (p + 20)))
         lost)
         (word 1 (omega arith))
         ∙ ap (λ (c : Bool). cond c
-        (stepBy (rowOf (kindOf r) .size) (wordAt (orderOf b) b (p + 8)) (wordAt (orderOf b) b (p + 12)) (wordAt (orderOf b) b (p + 20)))
+        (stepBy (rowOf (kindOf r) .size) (wordAt (orderOf blob) blob (p + 8)) (wordAt (orderOf blob) blob (p + 12)) (wordAt (orderOf blob) blob (p + 20)))
         lost)
-        (and-true (and-true (and-true (le-leb headerLength p (place-low T t h)) (le-leb (p + 12) (length b) (inside-blob 3 (omega arith))))
+        (and-true (and-true (and-true (le-leb headerLength p (place-low T t h)) (le-leb (p + 12) (length blob) (inside-blob 3 (omega arith))))
         (whole-at (T .records) (fits .whole) t h .known-kind))
-        (only-if (eqb (kindOf r) ARRAY) (λ e. le-leb (p + 24) (length b) (array-inside (eqb-true (kindOf r) ARRAY e)))))
+        (only-if (eqb (kindOf r) ARRAY) (λ e. le-leb (p + 24) (length blob) (array-inside (eqb-true (kindOf r) ARRAY e)))))
         ∙ stepBy-same (rowOf (kindOf r) .size) (length (rowOf (kindOf r) .once)) (rowOf-counts (kindOf r)) (word 2 (omega arith))
         (λ c. let l = tail-long c in (word 3 (omega arith), word 5 (omega arith)))
       where
-        array-inside : kindOf r ≡ ARRAY → p + 24 ≤ length b
+        array-inside : kindOf r ≡ ARRAY → p + 24 ≤ length blob
         array-inside e = inside-blob 6 (omega (arith, tail-long (unfold rowOf rows in omega (arith, ap (λ (k : ℕ). length (rowOf k .once)) e))))
 
-  step-at : (t : ℕ) → 1 ≤ t → t ≤ count T → stepAt b index t ≡ stepIn T t
+  -- by an index that has the place
+  pub step-placed : (t k : ℕ) → t < count T → k < length index → getD index k 0 ≡ getD (placesOf T) t 0 → stepAt blob index k ≡ stepIn T (suc t)
   unfolding stepAt
+  step-placed t k h long at =
+      ap (λ (c : Bool). cond c (stepAtPlace blob index (getD index k 0)) lost) (lt-ltb k (length index) long)
+      ∙ ap (stepAtPlace blob index) at
+      ∙ step-at-place t h
+
+module _ (order : Order) (T : Table) (fits : Fits T) (refs : (t : ℕ) → 1 ≤ t → t ≤ count T → refsOk T (recordAt T t) ≡ true)
+    (ends : (t : ℕ) → 1 ≤ t → t ≤ count T → endless T t ≡ false) (index : List ℕ) (long : count T < length index)
+    (at : (t : ℕ) → t < count T → getD index (suc t) 0 ≡ getD (placesOf T) t 0) where
+  abbrev b : List ℕ
+  b = bytesOf order T
+
+  step-at : (t : ℕ) → 1 ≤ t → t ≤ count T → stepAt b index t ≡ stepIn T t
   step-at zero low high = absurd (omega arith)
-  step-at (suc t) low high =
-      ap (λ (c : Bool). cond c (stepAtPlace b index (getD index (suc t) 0)) lost) (lt-ltb (suc t) (length index) (omega arith))
-      ∙ ap (stepAtPlace b index) (at t high)
-      ∙ step-at-place t high
+  step-at (suc t) low high = step-placed order T fits index t (suc t) high (omega arith) (at t high)
 
   -- the size question of an accepted table's blob and an index with its places is answered by the exact size
   pub sizeOf-exact : (t : ℕ) → t ≤ count T → sizeOf b index t ≡ answerOf (exactSize T t)
-  unfolding sizeOf sizeAsked exactSize
-  sizeOf-exact t h =
-      ap sizeAnswer
-      (sizeBy-same (stepAt b index) (stepIn T) (count T) step-at (next-inside T refs) (length index) t h
-      ∙ sizeBy-enough (stepIn T) {k = count T} {m = length index} t (omega arith) (never-far T ends t h))
-      ∙ found-answer (sizeBy (stepIn T) (count T) t) (never-far T ends t h) (never-lost T (count T) t)
+  unfolding sizeOf sizeAsked
+  sizeOf-exact t h = steps-exact T refs ends (stepAt b index) step-at (length index) long t h

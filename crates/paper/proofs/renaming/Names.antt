@@ -26,17 +26,27 @@ untilZero-append (c ∷ d ∷ s) u h e =
     ap (λ (r : List ℕ). cond (eqb c 0) [] (c ∷ r))
     (untilZero-append (d ∷ s) u (omega arith) (ap (λ (i : ℕ). getD (c ∷ d ∷ s) i 0) at ∙ e))
 
+-- the names of a section that ends in a zero byte are the same with more strings behind it
+pub nameIn-ended : (s u : List ℕ) → getD s (length s - 1) 0 ≡ 0 → (n : ℕ) → n < length s → nameIn (s ++ u) n ≡ nameIn s n
+unfolding nameIn
+nameIn-ended s u last n h =
+    ap untilZero (drop-append-le n s u (omega arith))
+    ∙ untilZero-append (drop n s) u (simp length-drop (omega arith))
+    (getD-drop n s (length (drop n s) - 1) 0 ∙ ap (λ (i : ℕ). getD s i 0) last-place ∙ last)
+  where
+    last-place : n + (length (drop n s) - 1) ≡ length s - 1
+    last-place = simp length-drop (omega arith)
+
+-- and those behind it are its own
+pub nameIn-past : (s u : List ℕ) (n : ℕ) → length s ≤ n → nameIn (s ++ u) n ≡ nameIn u (n - length s)
+unfolding nameIn
+nameIn-past s u n h =
+    let at : n ≡ length s + (n - length s) = omega arith in
+    ap untilZero (ap (λ (i : ℕ). drop i (s ++ u)) at ∙ drop-append-add s u (n - length s))
+
 module _ (s : List ℕ) (c : Closed s) (u : List ℕ) where
-  -- the names of a section are the same with more strings behind it
   pub nameIn-append : (n : ℕ) → n < length s → nameIn (s ++ u) n ≡ nameIn s n
-  unfolding nameIn
-  nameIn-append n h =
-      ap untilZero (drop-append-le n s u (omega arith))
-      ∙ untilZero-append (drop n s) u (simp length-drop (omega arith))
-      (getD-drop n s (length (drop n s) - 1) 0 ∙ ap (λ (i : ℕ). getD s i 0) last-place ∙ c .last)
-    where
-      last-place : n + (length (drop n s) - 1) ≡ length s - 1
-      last-place = simp length-drop (omega arith)
+  nameIn-append = nameIn-ended s u (c .last)
 
 -- and those of the section behind, all but its first byte kept, are raised by the length less one
 module _ (s : List ℕ) (c : Closed s) (u : List ℕ) (d : Closed u) where

@@ -20,6 +20,16 @@ use Rattle.paper.specs.rules.Tails.{tailOk}
 use Rattle.paper.specs.rules.Walk.{typeWords, tableOf, flat}
 use Rattle.paper.specs.rules.Word.{wordAt}
 
+-- reports 1 to 4: a header, and sections that stand behind it and fill the blob
+pub record SectionFacts (b : List ℕ) : Type 0 where
+  pub long : headerLength ≤ length b
+  pub opens : take 4 b ≡ opening (orderOf b)
+  pub header-length : wordAt (orderOf b) b 4 ≡ headerLength
+  pub type-off : typeOff b ≡ 0
+  pub type-len : typeLen b % 4 ≡ 0
+  pub str-off : strOff b ≡ typeLen b
+  pub sum : headerLength + typeLen b + strLen b ≡ length b
+
 -- phase 1: what a header and the sections behind it are
 pub record HeaderFacts (b : List ℕ) : Type 0 where
   pub long : headerLength ≤ length b

@@ -6,7 +6,7 @@ use native.Mathlib.Omega.{arith}
 use Rattle.sizes.proofs.Scales.{Left, left-all, left-void, left-far, left-is, left-many, left-sizeless, left-lost, sizeAnswer-cut}
 use Rattle.sizes.specs.SizeStep.{stepAsPaper}
 use Rattle.paper.specs.rules.Answer.{sizedAsPaper}
-use Rattle.paper.specs.rules.Lean.{stepOver, sizeOver}
+use Rattle.pairs.specs.Lean.{stepOver, sizeOver}
 use Rattle.paper.specs.rules.Size.{sizeAnswer}
 use borrow.Author.Needs.{needs}
 use Rattle.sizes.proofs.size_over.Statement.{statement}

@@ -1,10 +1,12 @@
 -- `gate::whole::answer` meets its contract: what `scan` refuses is refused, and what it counts is judged.
 -- Assumes nothing.
-use mathlib.Core.Path.{ap, _∙_}
+use mathlib.Core.Path.{_≡_, refl, ap, _∙_}
 use denote.Ref.{now}
-use Rattle.gate.proofs.Checks.{scan-refused, scan-standing, scan-room, scan-accepted, scan-judged}
+use Rattle.gate.proofs.Checks.{scan-refused, scan-table, scan-accepted, scan-judged}
 use Rattle.paper.proofs.bytes.Bytes.{slice-bytes}
-use Rattle.paper.specs.rules.Gate.{zeros}
+use Rattle.paper.specs.rules.Gate.{tableReport, zeros}
+use Rattle.paper.specs.rules.Walk.{tableOf}
+use Rattle.phases.specs.Said.{saidAsPaper}
 use borrow.Author.Needs.{needs}
 use Rattle.gate.proofs.whole.answer.Statement.{statement}
 use Rattle.gate.proofs.whole.answer.Tie as tie
@@ -25,18 +27,18 @@ slice-aggregate-judge : tie.Need-slice-aggregate-judge
 slice-aggregate-judge c = search needs
 
 judge-requires : tie.Need-judge-requires
-judge-requires c κs =
-    let o = c .before .before .before in
+judge-requires c κs = search needs
+
+-- what is judged is what the table's own phases say
+judged : (c : tie.After-judge) → let m = c .before .before .before .before .before .before in let s = m .before .before .before .before in
+    saidAsPaper (c .judge .result) ≡ tableReport (tableOf (now (s .before .before .before .before .before .args .b)))
+judged c =
+    let o = c .before .before .before .before in
     let m = o .before .before in
     let s = m .before .before .before .before in
     let a = s .before .before .before .before .before in
-    record {
-      standing =
-          scan-standing _ _ _ (s .scan .result) (s .scan .ensures) (m .n .given .1)
-          (slice-bytes (now (a .args .b)) (s .before .before .before .before .shared-slice-known .given));
-      ordered = o .order-of .ensures;
-      room = scan-room _ _ _ (s .scan .result) (s .scan .ensures) (m .n .given .1);
-    }
+    scan-table _ _ _ (s .scan .result) (s .scan .ensures) (m .n .given .1) (slice-bytes (now (a .args .b)) (s .before .before .before .before .shared-slice-known .given))
+    _ refl (o .order-of .ensures) refl (c .judge .result) (c .judge .ensures .says)
 
 enum-told : tie.Need-enum-told
 enum-told c = search needs
@@ -64,7 +66,7 @@ returns-2 c =
     let j = c .before .before .before .before in
     let m = j .before .before .before .before .before .before in
     let s = m .before .before .before .before in
-    scan-accepted _ _ _ (s .scan .result) (s .scan .ensures) (m .n .given .1) (j .judge .result) (j .judge .ensures) (c .enum-told .given .1)
+    scan-accepted _ _ _ (s .scan .result) (s .scan .ensures) (m .n .given .1) (j .judge .result) (judged j) (c .enum-told .given .1)
 
 same-length-4 : tie.Need-same-length-4
 same-length-4 c = search needs
@@ -79,7 +81,7 @@ returns-3 c =
     let j = r .before .before .before .before in
     let m = j .before .before .before .before .before .before in
     let s = m .before .before .before .before in
-    scan-judged _ _ _ (s .scan .result) (s .scan .ensures) (m .n .given .1) (j .judge .result) (j .judge .ensures) (r .r2 .given .1)
+    scan-judged _ _ _ (s .scan .result) (s .scan .ensures) (m .n .given .1) (j .judge .result) (judged j) (r .r2 .given .1)
     (l .clear .ensures ∙ ap zeros (s .scan .kept .1 .0))
 
 pub answer-spec : {M : Type 1} → statement M

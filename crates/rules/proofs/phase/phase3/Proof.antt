@@ -13,9 +13,9 @@ head-ok-requires c κs = search needs
 returns : tie.Need-returns
 returns c =
     let h = c .before in
-    let a = h .before .before .before .args in
+    let a = h .before .before .before .before .args in
     let r = recordIn (a .order) (now (a .bytes)) in
-    due-head (now (a .strings)) r (h .head-ok .ensures) (c .if1 .taken)
+    due-head (now (a .base)) (now (a .strings)) r (h .head-ok .ensures) (c .if1 .taken)
 
 names-ok-requires : tie.Need-names-ok-requires
 names-ok-requires c κs = search needs
@@ -24,9 +24,9 @@ returns-2 : tie.Need-returns-2
 returns-2 c =
     let e = c .before .before in
     let h = e .before in
-    let a = h .before .before .before .args in
+    let a = h .before .before .before .before .args in
     let r = recordIn (a .order) (now (a .bytes)) in
-    due-named (now (a .strings)) r (h .head-ok .ensures) (e .if1 .left) (c .before .names-ok .ensures) (c .if2 .taken)
+    due-named (now (a .base)) (now (a .strings)) r (h .head-ok .ensures) (e .if1 .left) (c .before .names-ok .ensures) (c .if2 .taken)
 
 tail-ok-requires : tie.Need-tail-ok-requires
 tail-ok-requires c κs = search needs
@@ -36,9 +36,9 @@ returns-3 c =
     let n = c .before .before in
     let e = n .before .before in
     let h = e .before in
-    let a = h .before .before .before .args in
+    let a = h .before .before .before .before .args in
     let r = recordIn (a .order) (now (a .bytes)) in
-    due-tail (now (a .strings)) r (h .head-ok .ensures) (e .if1 .left) (n .before .names-ok .ensures) (n .if2 .left)
+    due-tail (now (a .base)) (now (a .strings)) r (h .head-ok .ensures) (e .if1 .left) (n .before .names-ok .ensures) (n .if2 .left)
     (c .before .tail-ok .ensures) (c .if3 .taken)
 
 returns-4 : tie.Need-returns-4
@@ -46,9 +46,9 @@ returns-4 c =
     let n = c .before .before in
     let e = n .before .before in
     let h = e .before in
-    let a = h .before .before .before .args in
+    let a = h .before .before .before .before .args in
     let r = recordIn (a .order) (now (a .bytes)) in
-    due-none (now (a .strings)) r (h .head-ok .ensures) (e .if1 .left) (n .before .names-ok .ensures) (n .if2 .left)
+    due-none (now (a .base)) (now (a .strings)) r (h .head-ok .ensures) (e .if1 .left) (n .before .names-ok .ensures) (n .if2 .left)
     (c .before .tail-ok .ensures) (c .if3 .left)
 
 pub phase3-spec : {M : Type 1} → statement M

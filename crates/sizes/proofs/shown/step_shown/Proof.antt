@@ -4,14 +4,13 @@ use Prim.Native.Nat.{ℕ}
 use mathlib.Core.Path.{_≡_, refl, ap, ap₂}
 use mathlib.Core.List.{List}
 use denote.Ref.{now}
-use lib.ListN.{drop}
 use Rattle.paper.specs.rules.Size.{Step, is, manyOf, stepBy, stepIn}
 use Rattle.paper.specs.rules.Word.{wordAt}
 use Rattle.kindrows.specs.Codes.{sizeRuleOf}
 use Rattle.sizes.proofs.SizeSteps.{sizeRuleOf-other}
 use Rattle.sizes.proofs.TableSizes.{stepIn-rule}
-use Rattle.views.proofs.Shows.{startBy-record}
-use Rattle.views.specs.Shown.{startBy, tableBy}
+use Rattle.views.proofs.Shows.{bytesBy-record}
+use Rattle.views.specs.Shown.{bytesBy, tableBy}
 use borrow.Author.Needs.{needs}
 use Rattle.sizes.proofs.shown.step_shown.Statement.{statement}
 use Rattle.sizes.proofs.shown.step_shown.Tie as tie
@@ -20,7 +19,7 @@ use Rattle.sizes.proofs.shown.step_shown.Tie as tie
 abbrev bytes : tie.After-size-rule → List ℕ
 bytes c =
     let a = c .before .before .before .before .before .args in
-    drop (startBy (now (a .base)) (now (a .b)) (now (a .index)) (a .view) (a .t .0)) (now (a .b))
+    bytesBy (now (a .base)) (now (a .b)) (now (a .index)) (a .view) (a .t .0)
 
 -- what its words say by the rule is what it says
 told : (c : tie.After-size-rule) {x : Step}
@@ -30,7 +29,7 @@ told : (c : tie.After-size-rule) {x : Step}
 told c says =
     let a = c .before .before .before .before .before .args in
     stepIn-rule _ (a .t .0) (a .view .order) (bytes c)
-    (startBy-record (now (a .base)) (now (a .b)) (now (a .index)) (a .view) (a .t .0)) (c .before .kind-at .ensures) (c .size-rule .ensures) says
+    (bytesBy-record (now (a .base)) (now (a .b)) (now (a .index)) (a .view) (a .t .0)) (c .before .kind-at .ensures) (c .size-rule .ensures) says
 
 kind-at-requires : tie.Need-kind-at-requires
 kind-at-requires c κs = search needs

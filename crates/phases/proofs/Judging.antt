@@ -1,0 +1,133 @@
+-- Laws of phases 3 to 6 one after the other, over the table that an index shows.
+-- Assumes nothing.
+use Prim.Native.Nat.{ℕ, _-_, _≤_, _<_}
+use mathlib.Core.Path.{_≡_, refl, sym, ap, _∙_}
+use mathlib.Core.Bool.{Bool, true, false, not, cond, _&&_}
+use mathlib.Core.List.{List, [], _∷_}
+use mathlib.Core.Option.{Option, none, some}
+use borrow.Author.Tests.{le-leb, lt-ltb}
+use lib.Dec.{leb, ltb}
+use lib.ListN.{length, getD}
+use Rattle.links.specs.Links.{linkedAsPaper, linksSay}
+use Rattle.links.specs.declared.whole.Linked.{Linked}
+use Rattle.links.specs.declared.whole.Linked.the-variants.{Good, Reference, Endless}
+use Rattle.paper.proofs.basics.Answers.{report-one}
+use Rattle.paper.proofs.gates.Gates.{some≢none, some-one}
+use Rattle.paper.specs.rules.Answer.{Answer, reportAt}
+use Rattle.pairs.proofs.NamesOver.{namesOver-one}
+use Rattle.pairs.proofs.Replaced.{replaced, replaced-firstOf, replaced-orElse}
+use Rattle.paper.specs.rules.Choice.{Rule, _when_, orElse}
+use Rattle.paper.specs.rules.Gate.{firstOf, overTypes, phase3, phase4, phase5, phase6}
+use Rattle.paper.specs.rules.Heads.{headOk, headBad}
+use Rattle.paper.specs.rules.Names.{nameBad}
+use Rattle.paper.specs.rules.Tails.{tailOk, tailBad}
+use Rattle.paper.specs.rules.Header.{stringsIn}
+use Rattle.paper.specs.rules.Limits.{typeLimit}
+use Rattle.paper.specs.rules.Table.{Table, count, recordAt}
+use Rattle.paper.specs.rules.Walk.{placeAt}
+use Rattle.paper.specs.declared.Report.{Report}
+use Rattle.paper.specs.declared.TypeNo.{TypeNo}
+use Rattle.phases.specs.Said.{saidAsPaper, phase3By, overShown, linkedShown, judged, JudgeOf}
+use Rattle.phases.specs.declared.types.Said.{Said}
+use Rattle.phases.specs.declared.types.Said.the-variants.{Nothing, Says}
+use Rattle.views.proofs.Shows.{tableBy-count}
+use Rattle.views.specs.Shown.{placeBy, tableBy}
+use Rattle.views.specs.declared.View.{View}
+
+module _ (base b index : List ℕ) (v : View) (room : ℕ) where
+  abbrev T : Table
+  T = tableBy base b index v
+
+  -- a phase over the types that are shown, at the index's places
+  shown-over : (phase : Table → ℕ → List Rule) → overShown base b index v phase ≡ replaced (placeBy index v) (overTypes phase T)
+  unfolding overShown overTypes
+  shown-over phase =
+      ap (λ (n : ℕ). firstOf (placeBy index v) (phase T) n 1) (sym (tableBy-count base b index v))
+      ∙ replaced-firstOf (placeAt T) (placeBy index v) (phase T) (count T) 1
+
+  linked-shown : linkedShown base b index v room ≡ replaced (placeBy index v) (linksSay T (v .n) room)
+  unfolding linkedShown linksSay
+  linked-shown =
+      (λ i. cond test (orElse (shown-over phase4 i) (shown-over phase5 i)) none)
+      ∙ ap (λ (o : Option Answer). cond test o none) (replaced-orElse (placeBy index v) (overTypes phase4 T) (overTypes phase5 T))
+      ∙ go test (orElse (overTypes phase4 T) (overTypes phase5 T))
+    where
+      test : Bool
+      test = leb (v .n) typeLimit && ltb (v .n) room
+
+      go : (z : Bool) (o : Option Answer) → cond z (replaced (placeBy index v) o) none ≡ replaced (placeBy index v) (cond z o none)
+      go true o = refl
+      go false o = refl
+
+  -- ── what is said of a table that is the one that is shown, at its own places ──
+
+  module _ {S : Table} (shows : T ≡ S) {place : ℕ → ℕ} (places : (t : ℕ) → placeBy index v t ≡ place t) where
+    abbrev over : (Table → ℕ → List Rule) → Option Answer
+    over phase = firstOf place (phase S) (count S) 1
+
+    shown-phase : (phase : Table → ℕ → List Rule) → overShown base b index v phase ≡ over phase
+    unfolding overShown
+    shown-phase phase =
+        let counted = sym (tableBy-count base b index v) ∙ ap count shows in
+        λ i. firstOf (λ t. places t i) (phase (shows i)) (counted i) 1
+
+    -- names by the two sections are names by the strings of both
+    phase3-one : getD (stringsIn base) (length (stringsIn base) - 1) 0 ≡ 0 → (t : ℕ) → phase3By (stringsIn base) (stringsIn b) T t ≡ phase3 T t
+    unfolding phase3By phase3 headBad nameBad tailBad tableBy
+    phase3-one last t =
+        ap (λ (z : Bool). 10 when not (headOk (recordAt T t)) ∷ 11 when not z ∷ 12 when not (tailOk (recordAt T t)) ∷ [])
+        (namesOver-one (stringsIn base) (stringsIn b) last (recordAt T t))
+
+    pub judged-over : getD (stringsIn base) (length (stringsIn base) - 1) 0 ≡ 0 → v .n ≤ typeLimit → v .n < room
+        → judged base b index v room ≡ orElse (over phase3) (orElse (over phase4) (orElse (over phase5) (over phase6)))
+    unfolding judged linkedShown overShown
+    judged-over last few enough =
+        (λ i. orElse (firstOf (placeBy index v) (λ t. phase3-one last t i) (v .n) 1) (orElse (linkedShown base b index v room) (overShown base b index v phase6)))
+        ∙ rw (le-leb (v .n) typeLimit few, lt-ltb (v .n) room enough)
+        ((λ i. orElse (shown-phase phase3 i) (orElse (orElse (shown-phase phase4 i) (shown-phase phase5 i)) (shown-phase phase6 i)))
+        ∙ ap (orElse (over phase3)) (grouped (over phase4) (over phase5) (over phase6)))
+      where
+        grouped : (x y z : Option Answer) → orElse (orElse x y) z ≡ orElse x (orElse y z)
+        grouped none y z = refl
+        grouped (some a) y z = refl
+
+  -- ── what is said where the phases before are silent ──
+
+  module _ (s₃ : Said) (e₃ : saidAsPaper s₃ ≡ overShown base b index v (phase3By (stringsIn base) (stringsIn b))) where
+    behind-third : {o : Option Answer} → saidAsPaper s₃ ≡ o → orElse o (orElse (linkedShown base b index v room) (overShown base b index v phase6))
+        ≡ judged base b index v room
+    unfolding judged
+    behind-third {o} e =
+        ap (λ (x : Option Answer). orElse x (orElse (linkedShown base b index v room) (overShown base b index v phase6))) (sym e ∙ e₃)
+
+    pub judge-third : {r : Report} → s₃ ≡ Says r → saidAsPaper s₃ ≡ judged base b index v room
+    judge-third p = ap saidAsPaper p ∙ behind-third (ap saidAsPaper p)
+
+    module _ (n₃ : s₃ ≡ Nothing) (w : Linked) (e₄ : linkedAsPaper T w ≡ linksSay T (v .n) room) where
+      behind-links : {x : Linked} → w ≡ x → orElse (replaced (placeBy index v) (linkedAsPaper T x)) (overShown base b index v phase6)
+          ≡ judged base b index v room
+      behind-links {x} q =
+          ap (λ (o : Option Answer). orElse o (overShown base b index v phase6))
+          (ap (λ (y : Linked). replaced (placeBy index v) (linkedAsPaper T y)) (sym q) ∙ ap (replaced (placeBy index v)) e₄ ∙ sym linked-shown)
+          ∙ behind-third (ap saidAsPaper n₃)
+
+      pub judge-reference : {t : TypeNo} {p : ℕ} → w ≡ Reference t → p ≡ placeBy index v (t .0) → some (reportAt 13 (t .0) p) ≡ judged base b index v room
+      judge-reference {t} q at = ap (λ (p : ℕ). some (reportAt 13 (t .0) p)) at ∙ behind-links q
+
+      pub judge-endless : {t : TypeNo} {p : ℕ} → w ≡ Endless t → p ≡ placeBy index v (t .0) → some (reportAt 14 (t .0) p) ≡ judged base b index v room
+      judge-endless {t} q at = ap (λ (p : ℕ). some (reportAt 14 (t .0) p)) at ∙ behind-links q
+
+      pub judge-sixth : w ≡ Good → {o : Option Answer} → o ≡ overShown base b index v phase6 → o ≡ judged base b index v room
+      judge-sixth q e = e ∙ behind-links q
+
+-- ── any two results that the contract allows are the same ──
+
+said-one : (a b : Said) → saidAsPaper a ≡ saidAsPaper b → a ≡ b
+said-one Nothing Nothing e = refl
+said-one Nothing (Says r) e = absurd (some≢none (sym e))
+said-one (Says r) Nothing e = absurd (some≢none e)
+said-one (Says r) (Says q) e = ap Says (report-one r q (some-one e))
+
+pub judge-one : {base b index : List ℕ} {v : View} {room : ℕ} {r r′ : Said} {work work′ : List ℕ} → JudgeOf base b index v room r work
+    → JudgeOf base b index v room r′ work′ → (r ≡ r′) × (work ≡ work′)
+judge-one {r = r} {r′ = r′} h k = (said-one r r′ (h .says ∙ sym (k .says)), h .cleared ∙ sym (k .cleared))

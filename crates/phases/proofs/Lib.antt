@@ -1,0 +1,2 @@
+pub mod TypeDues
+pub mod Judging
