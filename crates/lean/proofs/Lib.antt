@@ -1,0 +1,4 @@
+pub mod Indexes
+pub mod Shows
+pub mod Leans
+pub mod Demands
