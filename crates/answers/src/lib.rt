@@ -1,13 +1,14 @@
 // Every answer in the paper's four numbers, for what hands them out: the test vectors and the C interface.
 use paper::Checked;
 use paper::Joined;
+use paper::Leaned;
 use paper::Place;
 use paper::Report;
 use paper::Sized;
 use paper::TYPE_LIMIT;
 use paper::TypeNo;
 ghost use mathlib.Core.Path.{_≡_};
-ghost use Rattle.paper.specs.rules.Answer.{checkedAsPaper, inside, joinedAsPaper, report, reportAsPaper, reportAt, sizedAsPaper, value};
+ghost use Rattle.paper.specs.rules.Answer.{checkedAsPaper, inside, joinedAsPaper, leanedAsPaper, report, reportAsPaper, reportAt, sizedAsPaper, value};
 ghost use Rattle.answers.specs.Numbers.{asPaper};
 
 // The number, the number of the report inside a join's refusal, the type or the count, the size, the length or the place.
@@ -54,7 +55,7 @@ fn valued(p: u32) -> Numbers
     }
 }
 
-// A report inside a join's refusal.
+// A report inside the refusal of a join, or of a table on its base.
 fn within(number: u32, r: Numbers) -> Numbers
     ensures { λ n. ⌜ asPaper n ≡ inside number (asPaper r) ⌝ }
 {
@@ -127,5 +128,17 @@ pub fn of_joined(j: Joined) -> Numbers
         Joined::TooMany => told(18, 0),
         Joined::TooLong => told(19, 0),
         Joined::OutputShort => told(20, 0),
+    }
+}
+
+// What the check of a table that leans on a base answers.
+pub fn of_leaned(l: Leaned) -> Numbers
+    ensures { λ n. ⌜ asPaper n ≡ leanedAsPaper l ⌝ }
+{
+    match l {
+        Leaned::Accepted(n) => told(0, n),
+        Leaned::BaseRefused(r) => within(25, of_report(r)),
+        Leaned::OrdersDiffer => told(26, 0),
+        Leaned::Refused(r) => of_report(r),
     }
 }
