@@ -1,1 +1,2 @@
 pub mod Leans
+pub mod Asked
