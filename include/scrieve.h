@@ -1,5 +1,5 @@
-/* The C interface of Scrieveply: the check of a BTF table, the size of a type, the name at an offset, the join of two tables, and the value of a
- * member in a record's bytes.
+/* The C interface of Scrieveply: the check of a BTF table, the size of a type, the name at an offset, the join of two tables, the value of a
+ * member in a record's bytes, and check, size and name of a table that leans on a base.
  *
  * Every function is proved: for any bytes in the lent slices it ends, reads and writes nothing outside them, and leaves in each place
  * exactly what is written here (crates/abi/src/lib.rt has the contracts). Build with `tools/archive TARGET OUT`, link
@@ -36,12 +36,21 @@
  *   scrieve_member 0 unsigned, 1 signed, 2 a longer      for 34 the report   the span's first bit, or      the span's bits, or the place of
  *   scrieve_value  span, 21, 30 to 35                    inside              the type of the report        the report inside, else 0
  *                                                                            inside, else 0
+ *   scrieve_check_leaning
+ *                  0 accepted, 25, 26, or a report       for 25 the report   count of both tables' types,  the place of the report, or of
+ *                  1 to 15                               inside              or the type of the report     the one inside, else 0
+ *   scrieve_size_leaning
+ *                  as scrieve_size                       0                   0                             the exact size, else 0
+ *   scrieve_name_leaning
+ *                  0 a name, 1 none                      1 in the module,    where it begins in the blob   its length in bytes
+ *                                                        else 0              that holds it
  *
- * The last two have a fifth number: the high word of the span's first bit, which passes 32 bits only in a record of over 512 MiB.
+ * scrieve_member and scrieve_value have a fifth number: the high word of the span's first bit, which passes 32 bits only in a record of over
+ * 512 MiB.
  *
  * A report's place is where in the blob the record of its type begins, in bytes from the blob's first: for 8, where record 16,385 would
- * begin; for 1 to 5 and 9, which name no type, 0. It is a multiple of 4 and below the blob's length. That of a report inside a join's
- * refusal counts in the blob that was refused.
+ * begin; for 1 to 5, 9 and 26, which name no type, 0. It is a multiple of 4 and below the blob's length. That of a report inside a join's
+ * refusal counts in the blob that was refused, that of a report inside 25 in the base, and a leaning table's in its own blob.
  *
  * The numbers have names below, and scrieve_words.h has a line of text for each report.
  */
@@ -51,9 +60,9 @@
 #include <stddef.h>
 #include <stdint.h>
 
-/* Which interface this is. It rises where a function comes, or where a number, an argument or what is left in a slice changes its meaning. In 4
- * the change requests 1 to 6, 9, 11 and 12 have landed (docs/orders). */
-#define SCRIEVE_VERSION 4
+/* Which interface this is. It rises where a function comes, or where a number, an argument or what is left in a slice changes its meaning. In 5
+ * the change requests 1 to 7, 9, 11 and 12 have landed (docs/orders). */
+#define SCRIEVE_VERSION 5
 
 /* Full size: with so many places in index and work, and so many bytes of output, no table is refused for want of room. */
 #define SCRIEVE_FULL_PLACES 16385
@@ -77,8 +86,8 @@
 /* Bytes for a value. */
 #define SCRIEVE_VALUE_BYTES 16
 
-/* The reports, and 0 where there is none: `number` of every function, and `inner` of a join and a member. A check gives 1 to 15, a join 16 to 20
- * and 24, the size question 21 and 22, a member 21 and 30 to 35. There are no 23 and no 25 to 29. */
+/* The reports, and 0 where there is none: `number` of every function, and `inner` of a join, a member and a check on a base. A check gives 1 to
+ * 15, on a base 25 and 26 too, a join 16 to 20 and 24, the size question 21 and 22, a member 21 and 30 to 35. There are no 23 and no 27 to 29. */
 enum scrieve_report {
 	SCRIEVE_REPORT_NONE = 0,           /* accepted, joined, an exact size, a name */
 	SCRIEVE_REPORT_LENGTH = 1,         /* under 24 bytes or over 262,144 */
@@ -104,6 +113,8 @@ enum scrieve_report {
 	SCRIEVE_REPORT_INDEX = 21,         /* the index leads outside what can be read */
 	SCRIEVE_REPORT_READS = 22,         /* more records would be read than the index has places */
 	SCRIEVE_REPORT_ORDERS = 24,        /* the tables have different byte orders; asked after 17 and before 18 */
+	SCRIEVE_REPORT_BASE = 25,          /* the base is refused */
+	SCRIEVE_REPORT_BASE_ORDER = 26,    /* the table begins in the other byte order than its base; asked after 25 and before 1 */
 	SCRIEVE_REPORT_SHORT = 30,         /* the record is shorter than its type; asked after 31 */
 	SCRIEVE_REPORT_NO_STRUCT = 31,     /* the type is no struct and no union */
 	SCRIEVE_REPORT_NO_MEMBER = 32,     /* the type has no such member */
@@ -188,6 +199,38 @@ void scrieve_span(const uint8_t *blob, size_t blob_length, const uint32_t *index
  *   record, answer, value   as in scrieve_member */
 void scrieve_value(const uint32_t *span, size_t span_places, const uint8_t *record, size_t record_length, uint32_t *answer,
 		   size_t answer_places, uint8_t *value, size_t value_length);
+
+/* Checks a table that leans on a base, as a module's leans on the kernel's: its type numbers go on behind the base's types, its name offsets
+ * behind the base's strings, and both together must be a table. The limits, 16,384 types and 262,144 bytes, count both blobs.
+ *   base     the base's bytes, read only: a table that scrieve_check accepts, else 25 with its report
+ *   module   the leaning table's bytes, read only. Its strings may be empty, and need not begin with a zero byte: 5 is strings that do not end
+ *            in one.
+ *   index    places, count of both tables' types + 1 or more: fewer than the base needs are 25 with 9 inside, fewer than both need 9.
+ *            Accepted: place 0 holds 0, place k the byte place of record k in the blob that holds it, the base's first, the rest 0. Refused,
+ *            for whatever reason: all 0.
+ *   work     places, as many as index. All 0 afterwards, accepted or refused.
+ *   answer   see above. A report 1 to 15 is the module's, and names its types by numbers behind the base's. */
+void scrieve_check_leaning(const uint8_t *base, size_t base_length, const uint8_t *module, size_t module_length, uint32_t *index,
+			   size_t index_places, uint32_t *work, size_t work_places, uint32_t *answer, size_t answer_places);
+
+/* The size of a type of either table, in bytes.
+ *   base     the base's bytes, read only
+ *   base_count  the base's count of types: numbers up to it are read in the base, those above it in the module. Any number is as safe.
+ *   module   the leaning table's bytes, read only
+ *   index    the index that an accepted scrieve_check_leaning of both has left, read only, as in scrieve_size. Each blob is read in its own
+ *            byte order.
+ *   type, answer   as in scrieve_size */
+void scrieve_size_leaning(const uint8_t *base, size_t base_length, uint32_t base_count, const uint8_t *module, size_t module_length,
+			  const uint32_t *index, size_t index_places, uint32_t type, uint32_t *answer, size_t answer_places);
+
+/* The name at an offset of both tables' strings, up to its first zero byte. An offset below the base's string length lies in the base, any other
+ * in the module, so many bytes less. It is not copied: the answer says in which blob it lies, and where.
+ *   base, module   the two tables' bytes, read only
+ *   offset   the name offset
+ *   answer   see above. There is none (1, with inner, t and p 0) where either blob would get one of the reports 1 to 5 here, or 26, or where the
+ *            offset is not below the two string lengths together. */
+void scrieve_name_leaning(const uint8_t *base, size_t base_length, const uint8_t *module, size_t module_length, uint32_t offset,
+			  uint32_t *answer, size_t answer_places);
 
 #ifdef __cplusplus
 }

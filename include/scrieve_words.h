@@ -34,8 +34,8 @@ static inline const char *scrieve_report_words(uint32_t number)
 		"more records would be read than the index has places",
 		"there is no such report",
 		"the tables have different byte orders: one is little-endian, the other big-endian",
-		"there is no such report",
-		"there is no such report",
+		"the base is refused",
+		"the table has another byte order than its base",
 		"there is no such report",
 		"there is no such report",
 		"there is no such report",
@@ -47,7 +47,7 @@ static inline const char *scrieve_report_words(uint32_t number)
 		"the record's table is big-endian"
 	};
 
-	/* 23 and 25 to 29 are no reports: theirs is the line of every number that is none */
+	/* 23 and 27 to 29 are no reports: theirs is the line of every number that is none */
 	return words[number < sizeof words / sizeof *words ? number : 23];
 }
 

@@ -1,3 +1,4 @@
 pub mod Telling
 pub mod Spanning
 pub mod Ones
+pub mod Lyings

@@ -3,7 +3,8 @@
 use Prim.Native.Nat.{ℕ}
 use mathlib.Core.Path.{_≡_, sym, _∙_}
 use mathlib.Core.List.{List}
-use Rattle.abi.specs.Told.{CheckTold, JoinTold, MemberTold, ValueTold, partAnswer, spanIn, toldIn}
+use Rattle.abi.specs.Told.{CheckTold, JoinTold, LeanTold, MemberTold, ValueTold, partAnswer, partOver, spanIn, toldIn}
+use Rattle.pairs.specs.Lean.{sizeOver}
 use Rattle.paper.specs.rules.Size.{sizeOf}
 use Rattle.values.specs.Given.{Finding, Given}
 
@@ -38,3 +39,18 @@ pub member-told-one : {b s told room : List ℕ} {places workPlaces t m : ℕ} {
     → (index ≡ index′) × (work ≡ work′) × (answer ≡ answer′) × (value ≡ value′)
 member-told-one h k =
     let v = value-told-one (h .gives) (k .gives) in (h .indexes ∙ sym (k .indexes), h .works ∙ sym (k .works), v .0, v .1)
+
+-- ── over a base ──
+
+pub lean-told-one : {base own told : List ℕ} {places workPlaces : ℕ} {index index′ work work′ answer answer′ : List ℕ}
+    → LeanTold base own places workPlaces told index work answer → LeanTold base own places workPlaces told index′ work′ answer′
+    → (index ≡ index′) × (work ≡ work′) × (answer ≡ answer′)
+lean-told-one h k = (h .indexes ∙ sym (k .indexes), h .works ∙ sym (k .works), h .answers ∙ sym (k .answers))
+
+pub size-over-told-one : (base : List ℕ) (before : ℕ) (own index told : List ℕ) (t : ℕ) {answer answer′ : List ℕ}
+    → answer ≡ toldIn (sizeOver base before own index t) told → answer′ ≡ toldIn (sizeOver base before own index t) told → answer ≡ answer′
+size-over-told-one base before own index told t h k = h ∙ sym k
+
+pub name-over-told-one : (base own told : List ℕ) (offset : ℕ) {answer answer′ : List ℕ}
+    → answer ≡ toldIn (partOver base own offset) told → answer′ ≡ toldIn (partOver base own offset) told → answer ≡ answer′
+name-over-told-one base own told offset h k = h ∙ sym k

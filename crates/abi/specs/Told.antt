@@ -6,6 +6,7 @@ use mathlib.Core.List.{List, [], _∷_, _++_}
 use lib.ListN.{length, take, drop}
 use Rattle.handed.specs.Handed.{numbersOf, sixteenOf}
 use Rattle.handed.specs.Places.{foundNumbers, foundIn}
+use Rattle.pairs.specs.Lean.{leanGate, namelessOver, nameAtOver, inBase, nameStartOver}
 use Rattle.paper.specs.rules.Answer.{Answer}
 use Rattle.paper.specs.rules.Gate.{gate}
 use Rattle.paper.specs.rules.Join.{join}
@@ -34,11 +35,27 @@ givenIn span s = given (readFound (foundIn span) s)
 abbrev pub partAnswer : List ℕ → ℕ → Answer
 partAnswer b off = record { number = cond (nameless b off) 1 0; inner = 0; t = nameStart b off; p = length (nameAt b off) }
 
+-- the same of two tables, one on the other: 1 inside where the name lies in the second blob
+abbrev pub partOver : List ℕ → List ℕ → ℕ → Answer
+partOver base own off =
+    record {
+      number = cond (namelessOver base own off) 1 0;
+      inner = cond (namelessOver base own off) 0 (cond (inBase base own off) 0 1);
+      t = nameStartOver base own off;
+      p = length (nameAtOver base own off);
+    }
+
 -- a check: the gate's answer and what it leaves in both slices
 pub record CheckTold (b : List ℕ) (places workPlaces : ℕ) (told index work answer : List ℕ) : Type 0 where
   pub indexes : index ≡ gate b places workPlaces .index
   pub works : work ≡ gate b places workPlaces .work
   pub answers : answer ≡ toldIn (gate b places workPlaces .answer) told
+
+-- the check of a table on its base: the same of both
+pub record LeanTold (base own : List ℕ) (places workPlaces : ℕ) (told index work answer : List ℕ) : Type 0 where
+  pub indexes : index ≡ leanGate base own places workPlaces .index
+  pub works : work ≡ leanGate base own places workPlaces .work
+  pub answers : answer ≡ toldIn (leanGate base own places workPlaces .answer) told
 
 -- a join: its answer and what it leaves in all three
 pub record JoinTold (a b : List ℕ) (places workPlaces : ℕ) (out told index work output answer : List ℕ) : Type 0 where

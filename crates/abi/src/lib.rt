@@ -2,6 +2,7 @@
 use answers::Numbers;
 use answers::of_checked;
 use answers::of_joined;
+use answers::of_leaned;
 use answers::of_report;
 use answers::of_sized;
 use handed::high_of;
@@ -10,6 +11,7 @@ use handed::sixteen_of;
 use handed::span_in;
 use handed::span_numbers;
 use handed::within_34;
+use lean::Lying;
 use paper::Checked;
 use paper::NameOff;
 use paper::Report;
@@ -18,9 +20,10 @@ use values::MemberSpan;
 use values::MemberValue;
 ghost use mathlib.Core.Path.{_≡_};
 ghost use lib.ListN.{length};
-ghost use Rattle.abi.specs.Told.{CheckTold, JoinTold, MemberTold, ValueTold, givenIn, partAnswer, spanIn, toldIn, toldWide};
+ghost use Rattle.abi.specs.Told.{CheckTold, JoinTold, LeanTold, MemberTold, ValueTold, givenIn, partAnswer, partOver, spanIn, toldIn, toldWide};
 ghost use Rattle.answers.specs.Numbers.{asPaper};
 ghost use Rattle.members.specs.Looked.{soughtAt};
+ghost use Rattle.pairs.specs.Lean.{sizeOver};
 ghost use Rattle.paper.specs.rules.Answer.{inside, reportAsPaper};
 ghost use Rattle.paper.specs.rules.Size.{sizeOf};
 ghost use Rattle.values.specs.Given.{foundAsPaper, givenAsPaper, refusedAs};
@@ -100,6 +103,32 @@ fn named(blob: &[u8], at: NameOff) -> Numbers
         inner: 0,
         t: part.start.0,
         p: part.length,
+    }
+}
+
+// The same of two tables, one on the other, with 1 inside where the second blob holds it.
+fn named_leaning(base: &[u8], own: &[u8], at: NameOff) -> Numbers
+    ensures { λ n. ⌜ asPaper n ≡ partOver (now (base .entry)) (now (own .entry)) (at .0) ⌝ }
+{
+    match lean::part_leaning(base, own, at) {
+        Lying::InBase(part) => Numbers {
+            number: 0,
+            inner: 0,
+            t: part.start.0,
+            p: part.length,
+        },
+        Lying::InOwn(part) => Numbers {
+            number: 0,
+            inner: 1,
+            t: part.start.0,
+            p: part.length,
+        },
+        Lying::Nowhere => Numbers {
+            number: 1,
+            inner: 0,
+            t: 0,
+            p: 0,
+        },
     }
 }
 
@@ -185,4 +214,45 @@ pub extern "C" fn scrieve_member(
             scrieve_value(&span, bytes, answer, value);
         }
     }
+}
+
+// The check of a table that leans on a base.
+#[no_mangle]
+pub extern "C" fn scrieve_check_leaning<'a>(
+    base: &'a [u8],
+    own: &'a [u8],
+    index: &mut [u32],
+    work: &mut [u32],
+    answer: &mut [u32],
+)
+    ensures { λ r. ⌜ LeanTold (now (base .entry)) (now (own .entry)) (length (now (index .entry))) (length (now (work .entry))) (now (answer .entry)) (now (index .exit)) (now (work .exit)) (now (answer .exit)) ⌝ }
+{
+    tell(
+        of_leaned(lean::check_leaning(base, own, index, work)),
+        answer,
+    );
+}
+
+// The size of a type of either, by the index that such a check has left.
+#[no_mangle]
+pub extern "C" fn scrieve_size_leaning<'a>(
+    base: &'a [u8],
+    before: u32,
+    own: &'a [u8],
+    index: &[u32],
+    t: u32,
+    answer: &mut [u32],
+)
+    ensures { λ r. ⌜ now (answer .exit) ≡ toldIn (sizeOver (now (base .entry)) before (now (own .entry)) (now (index .entry)) t) (now (answer .entry)) ⌝ }
+{
+    let told = lean::size_leaning(base, before, own, index, TypeNo(t));
+    tell(of_sized(told), answer);
+}
+
+// The name at an offset of both: which blob holds it, where it begins there, and how many bytes it has.
+#[no_mangle]
+pub extern "C" fn scrieve_name_leaning(base: &[u8], own: &[u8], offset: u32, answer: &mut [u32])
+    ensures { λ r. ⌜ now (answer .exit) ≡ toldIn (partOver (now (base .entry)) (now (own .entry)) offset) (now (answer .entry)) ⌝ }
+{
+    tell(named_leaning(base, own, NameOff(offset)), answer);
 }
