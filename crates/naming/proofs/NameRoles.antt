@@ -2,11 +2,11 @@
 -- Assumes nothing.
 use Prim.Native.Nat.{ℕ, zero, suc, _+_, _-_, _<_, _≤_}
 use mathlib.Core.Path.{_≡_, refl, sym, ap, _∙_}
-use mathlib.Core.Bool.{Bool, true, false, not, _&&_}
+use mathlib.Core.Bool.{Bool, true, false, not, cond, _&&_}
 use mathlib.Core.Logic.{⊎-elim}
 use mathlib.Core.List.{List, [], _∷_}
 use native.Mathlib.Omega.{arith}
-use borrow.Author.Tests.{le-leb, lt-ltb, le-ltb, not-true, not-false}
+use borrow.Author.Tests.{le-leb, lt-ltb, le-ltb, ltb-true, ltb-false, not-true, not-false}
 use lib.Dec.{ltb}
 use lib.ListN.{length}
 use Rattle.paper.specs.declared.Order.{Order}
@@ -21,6 +21,7 @@ use Rattle.paper.proofs.basics.Rows.{rowOf-every}
 use Rattle.rows.proofs.RoleCodes.{between-in, between-out, nameCode-range, roleOf-roleCode}
 use Rattle.kindrows.specs.Codes.{nameCode, roleCode, roleOf, isNameCode}
 use Rattle.naming.specs.RuleOf.{nameRuleOf}
+use Rattle.naming.specs.Sections.{sectionOf, placeIn}
 
 -- a code of 1 to 6 is that of a name
 role-names : (role : ℕ) → (role ≡ 0 → ⊥) → role ≤ 6 → roleOf role ≡ names (nameRuleOf role)
@@ -42,6 +43,26 @@ nameRuleOf-other (suc (suc (suc zero))) a b c d e = absurd (c refl)
 nameRuleOf-other (suc (suc (suc (suc zero)))) a b c d e = absurd (d refl)
 nameRuleOf-other (suc (suc (suc (suc (suc zero))))) a b c d e = absurd (e refl)
 nameRuleOf-other (suc (suc (suc (suc (suc (suc n)))))) a b c d e = refl
+
+-- ── the section that an offset lies in ──
+
+module _ (base strings : List ℕ) {w : ℕ} where
+  pub section-first : w < length base → base ≡ sectionOf base strings w
+  unfolding sectionOf
+  section-first h = rw (lt-ltb w (length base) h) refl
+
+  pub section-second : length base ≤ w → strings ≡ sectionOf base strings w
+  unfolding sectionOf
+  section-second h = rw (le-ltb w (length base) h) refl
+
+module _ (base : List ℕ) {w : ℕ} where
+  pub place-first : w < length base → w ≡ placeIn base w
+  unfolding placeIn
+  place-first h = rw (lt-ltb w (length base) h) refl
+
+  pub place-second : length base ≤ w → w - length base ≡ placeIn base w
+  unfolding placeIn
+  place-second h = rw (le-ltb w (length base) h) refl
 
 module _ (base strings : List ℕ) where
   -- a word of a reference passes, and one past all codes
@@ -84,21 +105,41 @@ module _ (base strings : List ℕ) where
         ∙ sym (λ i. below i && nameFits (nameRuleOf role) w (there i))
         ∙ sym (ap (λ (ρ : Role). nameWordOver base strings ρ w) named)
 
-    -- in the base's strings
-    pub word-base : w < length base → {r : Bool} → r ≡ nameFits (nameRuleOf role) w (nameIn base w) → r ≡ nameWordOver base strings (roleOf role) w
-    unfolding nameOver
-    word-base h e = asked-there (lt-ltb w (length base + length strings) (omega arith)) (rw (lt-ltb w (length base) h) refl) e
+    -- the name, and whether it is there, by the section that the offset lies in and its place there
+    section-name : nameOver base strings w ≡ nameIn (sectionOf base strings w) (placeIn base w)
+    unfolding nameOver sectionOf placeIn
+    section-name = go (ltb w (length base))
+      where
+        go : (t : Bool) → cond t (nameIn base w) (nameIn strings (w - length base)) ≡ nameIn (cond t base strings) (cond t w (w - length base))
+        go true = refl
+        go false = refl
 
-    module _ (past : length base ≤ w) where
-      -- in its own
-      pub word-own : w - length base < length strings → {r : Bool} → r ≡ nameFits (nameRuleOf role) w (nameIn strings (w - length base))
-          → r ≡ nameWordOver base strings (roleOf role) w
-      unfolding nameOver
-      word-own h e = asked-there (lt-ltb w (length base + length strings) (omega arith)) (rw (le-ltb w (length base) past) refl) e
+    section-below : placeIn base w < length (sectionOf base strings w) → w < length base + length strings
+    unfolding sectionOf placeIn
+    section-below = go (ltb w (length base)) refl
+      where
+        go : (t : Bool) → ltb w (length base) ≡ t → cond t w (w - length base) < length (cond t base strings) → w < length base + length strings
+        go true e h = omega arith
+        go false e h = let past = ltb-false w (length base) e in omega arith
+
+    section-past : length (sectionOf base strings w) ≤ placeIn base w → length base + length strings ≤ w
+    unfolding sectionOf placeIn
+    section-past = go (ltb w (length base)) refl
+      where
+        go : (t : Bool) → ltb w (length base) ≡ t → length (cond t base strings) ≤ cond t w (w - length base) → length base + length strings ≤ w
+        go true e h = let below = ltb-true w (length base) e in absurd (omega arith)
+        go false e h = let past = ltb-false w (length base) e in omega arith
+
+    module _ {s : List ℕ} {from : ℕ} (is : s ≡ sectionOf base strings w) (at : from ≡ placeIn base w) where
+      pub word-inside : from < length s → {r : Bool} → r ≡ nameFits (nameRuleOf role) w (nameIn s from) → r ≡ nameWordOver base strings (roleOf role) w
+      word-inside h e =
+          asked-there (lt-ltb w (length base + length strings) (section-below (omega (arith, ap length is, at))))
+          (section-name ∙ (λ i. nameIn (sym is i) (sym at i))) e
 
       -- "Each offset is below the string length"
-      pub word-outside : length strings ≤ w - length base → false ≡ nameWordOver base strings (roleOf role) w
-      word-outside h = asked-there (le-ltb w (length base + length strings) (omega arith)) refl refl
+      pub word-outside : length s ≤ from → false ≡ nameWordOver base strings (roleOf role) w
+      word-outside h =
+          asked-there (le-ltb w (length base + length strings) (section-past (omega (arith, ap length is, at)))) refl refl
 
 -- the code of a name's rule is that of a name
 pub name-code : (rule : NameRule) {a : ℕ} → a ≡ nameCode rule → isNameCode a ≡ true

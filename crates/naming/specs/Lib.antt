@@ -1,1 +1,2 @@
 pub mod RuleOf
+pub mod Sections

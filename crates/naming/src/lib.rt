@@ -29,6 +29,7 @@ ghost use Rattle.paper.specs.terms.Reading.{recordIn, roled, tailRoled};
 ghost use Rattle.paper.specs.rules.Word.{wordAt};
 ghost use Rattle.kindrows.specs.Codes.{isNameCode, roleOf};
 ghost use Rattle.naming.specs.RuleOf.{nameRuleOf};
+ghost use Rattle.naming.specs.Sections.{placeIn, sectionOf};
 
 // The name at an offset is an identifier, however long.
 fn is_identifier(strings: &[u8], at: NameOff) -> bool
@@ -57,27 +58,57 @@ fn fits(strings: &[u8], rule: u32, at: NameOff, off: NameOff) -> bool
     }
 }
 
+// The section that an offset through both lies in, and its place there: choices that cost no branch, so that the rule is asked in one place.
+fn section_of<'a>(base: &'a [u8], strings: &'a [u8], off: u32) -> &'a [u8]
+    ensures { λ r. ⌜ now r ≡ sectionOf (now (base .entry)) (now (strings .entry)) off ⌝ }
+{
+    if (off as usize) < base.len() {
+        return base;
+    }
+    strings
+}
+
+fn place_in(base: &[u8], off: u32) -> u32
+    ensures { λ r. ⌜ r ≡ placeIn (now (base .entry)) off ⌝ }
+{
+    let k = off as usize;
+    let n = base.len();
+    if k < n {
+        return off;
+    }
+    (k - n) as u32
+}
+
 // The word at a place, a name, is one that its rule allows. Its offset counts through both string sections.
-fn name_ok(order: Order, bytes: &[u8], base: &[u8], strings: &[u8], at: Place, role: u32) -> bool
+fn name_ok<'a>(
+    order: Order,
+    bytes: &[u8],
+    base: &'a [u8],
+    strings: &'a [u8],
+    at: Place,
+    role: u32,
+) -> bool
     requires { ⌜ isNameCode role ≡ true ⌝ }
     ensures { λ r. ⌜ r ≡ nameWordOver (now (base .entry)) (now (strings .entry)) (roleOf role) (wordAt order (now (bytes .entry)) (at .0)) ⌝ }
 {
     let off = words::read(order, bytes, at);
-    let k = off as usize;
-    let n = base.len();
-    if k < n {
-        return fits(base, role, NameOff(off), NameOff(off));
-    }
-    let own = k - n;
-    if strings.len() <= own {
+    let section = section_of(base, strings, off);
+    let from = place_in(base, off);
+    if section.len() <= from as usize {
         return false;
     }
-    let at = own as u32;
-    fits(strings, role, NameOff(at), NameOff(off))
+    fits(section, role, NameOff(from), NameOff(off))
 }
 
 // The same of a word of any role: what is no name passes. The test stands by itself, so that only a name costs a call.
-fn word_ok(order: Order, bytes: &[u8], base: &[u8], strings: &[u8], at: Place, role: u32) -> bool
+fn word_ok<'a>(
+    order: Order,
+    bytes: &[u8],
+    base: &'a [u8],
+    strings: &'a [u8],
+    at: Place,
+    role: u32,
+) -> bool
     ensures { λ r. ⌜ r ≡ nameWordOver (now (base .entry)) (now (strings .entry)) (roleOf role) (wordAt order (now (bytes .entry)) (at .0)) ⌝ }
 {
     if !is_name(role) {
@@ -87,11 +118,11 @@ fn word_ok(order: Order, bytes: &[u8], base: &[u8], strings: &[u8], at: Place, r
 }
 
 // Three words from a place on.
-fn three_ok(
+fn three_ok<'a>(
     order: Order,
     bytes: &[u8],
-    base: &[u8],
-    strings: &[u8],
+    base: &'a [u8],
+    strings: &'a [u8],
     at: Place,
     r0: u32,
     r1: u32,
@@ -113,11 +144,11 @@ fn three_ok(
 }
 
 // So many entries from a place on. The words that an entry does not have are plain numbers to `three_ok`.
-fn entries_ok(
+fn entries_ok<'a>(
     order: Order,
     bytes: &[u8],
-    base: &[u8],
-    strings: &[u8],
+    base: &'a [u8],
+    strings: &'a [u8],
     at: Place,
     kind: u32,
     n: u32,
@@ -142,7 +173,13 @@ fn entries_ok(
 }
 
 // The names of a tail, behind the head. Most kinds have none there, which one look at the row tells.
-fn tail_names_ok(order: Order, bytes: &[u8], base: &[u8], strings: &[u8], info: u32) -> bool
+fn tail_names_ok<'a>(
+    order: Order,
+    bytes: &[u8],
+    base: &'a [u8],
+    strings: &'a [u8],
+    info: u32,
+) -> bool
     ensures { λ r. ⌜ r ≡ tailRoled order (nameWordOver (now (base .entry)) (now (strings .entry))) (now (bytes .entry)) info ⌝ }
 {
     let kind = kind_of(info);
@@ -174,7 +211,7 @@ fn tail_names_ok(order: Order, bytes: &[u8], base: &[u8], strings: &[u8], info: 
 }
 
 // Every name of the record keeps to the list. Of the head only the name is one.
-pub fn names_ok(order: Order, bytes: &[u8], base: &[u8], strings: &[u8]) -> bool
+pub fn names_ok<'a>(order: Order, bytes: &[u8], base: &'a [u8], strings: &'a [u8]) -> bool
     ensures { λ r. ⌜ r ≡ namesOver (now (base .entry)) (now (strings .entry)) (recordIn order (now (bytes .entry))) ⌝ }
 {
     let info = words::read(order, bytes, Place(4));

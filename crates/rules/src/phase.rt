@@ -17,7 +17,7 @@ pub enum Due {
 }
 
 // "later, the smallest type, then the smallest number": of one type, the smallest number.
-pub fn phase3(order: Order, bytes: &[u8], base: &[u8], strings: &[u8]) -> Due
+pub fn phase3<'a>(order: Order, bytes: &[u8], base: &'a [u8], strings: &'a [u8]) -> Due
     ensures { λ r. ⌜ dueAsPaper r ≡ firstDue (rulesOf (now (base .entry)) (now (strings .entry)) (recordIn order (now (bytes .entry)))) ⌝ }
 {
     if !head_ok(order, bytes) {

@@ -1,7 +1,7 @@
 -- `views::word_of` meets its contract.
 -- Assumes nothing.
 use native.Mathlib.Omega.{arith}
-use Rattle.views.proofs.Shows.{word-void, word-above, word-unlisted, word-held, holder-base, holder-own}
+use Rattle.views.proofs.Shows.{word-void, word-above, word-unlisted, word-held, held-bytes}
 use borrow.Author.Needs.{needs}
 use Rattle.views.proofs.word_of.Statement.{statement}
 use Rattle.views.proofs.word_of.Tie as tie
@@ -27,27 +27,17 @@ shared-slice-read-p c = search needs
 cast-p : tie.Need-cast-p
 cast-p c = omega (arith, c .shared-slice-known4 .given (c .before .before .before .before .before .before .before .args .t .0))
 
+held-requires : tie.Need-held-requires
+held-requires c κs = search needs
+
 word-from-requires : tie.Need-word-from-requires
 word-from-requires c κs = search needs
 
 returns-4 : tie.Need-returns-4
 returns-4 c =
-    let e = c .before in
-    let a = e .before .before .before .before .before .before .before .before .before .args in
-    let l = e .before .before .before in
-    word-held _ _ _ _ (l .before .before .if1 .left) (l .before .if2 .left) (l .if3 .left) (holder-base (a .view) (a .t .0) _ _ (e .if4 .taken))
-    (c .word-from .ensures)
-
-word-from-requires-2 : tie.Need-word-from-requires-2
-word-from-requires-2 c κs = search needs
-
-returns-5 : tie.Need-returns-5
-returns-5 c =
-    let e = c .before in
-    let a = e .before .before .before .before .before .before .before .before .before .args in
-    let l = e .before .before .before in
-    word-held _ _ _ _ (l .before .before .if1 .left) (l .before .if2 .left) (l .if3 .left) (holder-own (a .view) (a .t .0) _ _ (e .if4 .left))
-    (c .word-from2 .ensures)
+    let h = c .before in
+    let l = h .before .before in
+    word-held _ _ _ _ (l .before .before .if1 .left) (l .before .if2 .left) (l .if3 .left) (held-bytes (h .held .ensures)) (c .word-from .ensures)
 
 pub word-of-spec : {M : Type 1} → statement M
 word-of-spec =
@@ -60,7 +50,6 @@ word-of-spec =
     mul-p
     shared-slice-read-p
     cast-p
+    held-requires
     word-from-requires
-    returns-4
-    word-from-requires-2
-    returns-5)
+    returns-4)
