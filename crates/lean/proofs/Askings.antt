@@ -2,7 +2,7 @@
 -- Assumes nothing.
 use Prim.Native.Nat.{ℕ, _+_, _-_, _≤_, _<_}
 use mathlib.Core.Path.{_≡_, refl, ap, subst, _∙_}
-use mathlib.Core.Bool.{true, false, not, _||_}
+use mathlib.Core.Bool.{Bool, true, false, not, _||_}
 use mathlib.Core.List.{List, []}
 use mathlib.Core.Option.{Option, none, some}
 use native.Mathlib.Omega.{arith}
@@ -10,6 +10,7 @@ use borrow.Author.Tests.{lt-ltb, le-ltb, ltb-true, ltb-false, not-false}
 use denote.Ref.{RefT, now, ptr}
 use lib.Dec.{ltb}
 use lib.ListN.{length}
+use Rattle.header.proofs.Scans.{nameAt-inside, nameAtBehind-inside}
 use Rattle.header.specs.Behind.{HeaderBehind, namelessBehind, nameAtBehind, nameStartBehind, PartBehind, NamePartBehind}
 use Rattle.header.specs.Header.{HeaderOf}
 use Rattle.header.specs.Part.{PartOf, NamePart, nameIf, startIf}
@@ -20,6 +21,7 @@ use Rattle.lean.specs.Asked.{SideBy, SideOf, LyingOf, holder, NameLeanin
 use Rattle.lean.specs.declared.questions.Lying.the-variants.{InBase, InOwn}
 use Rattle.lean.specs.declared.questions.Side.{Side}
 use Rattle.lean.specs.declared.questions.Side.the-variants.{Base, Own, Neither}
+use Rattle.pairs.proofs.Headers.{behindReport-facts}
 use Rattle.pairs.specs.Lean.{otherOpening, behindReport, nameOver, namelessOver, nameAtOver, inBase, nameStartOver}
 use Rattle.paper.proofs.basics.Choices.{or-left, or-right, or-false}
 use Rattle.paper.proofs.bytes.Blobs.{stringsIn-length}
@@ -31,6 +33,7 @@ use Rattle.paper.specs.rules.Answer.{Answer}
 use Rattle.paper.specs.rules.Choice.{isSome}
 use Rattle.paper.specs.rules.Gate.{naming, phase1}
 use Rattle.paper.specs.rules.Header.{strLen, stringsIn, headerReport}
+use Rattle.paper.specs.rules.Limits.{byteLimit}
 use Rattle.paper.specs.rules.Name.{nameless, nameAt, nameStart}
 
 due-some : (o : Option ℕ) {a : Answer} → naming 0 o ≡ some a → isSome o ≡ true
@@ -129,6 +132,29 @@ module _ (base own : List ℕ) (off : ℕ) where
       own-start : nameStartBehind (length base) own (off - strLen base) ≡ nameStartOver base own off
       unfolding nameStartBehind startIf namelessBehind nameStartOver inBase
       own-start = rw (named, own-silent, own-below, e) refl
+
+  -- it is no longer than a blob may be
+  short-if : namelessOver base own off ≡ false → (t : Bool) → inBase base own off ≡ t → length (nameAtOver base own off) ≤ byteLimit
+  short-if named true e =
+      omega (arith, ap length (base-name named e), nameAt-inside base off, headerReport-facts base (base-silent named) .short)
+  short-if named false e =
+      omega (
+        arith,
+        ap length (own-name named e),
+        nameAtBehind-inside own (off - strLen base) (length base),
+        behindReport-facts (length base) own (own-silent named) .short,
+      )
+
+  short-none : namelessOver base own off ≡ true → length (nameAtOver base own off) ≤ byteLimit
+  unfolding nameAtOver
+  short-none e = rw e (omega arith)
+
+  pub nameAtOver-short : length (nameAtOver base own off) ≤ byteLimit
+  nameAtOver-short = go (namelessOver base own off) refl
+    where
+      go : (t : Bool) → namelessOver base own off ≡ t → length (nameAtOver base own off) ≤ byteLimit
+      go true e = short-none e
+      go false e = short-if e (inBase base own off) refl
 
   -- where it lies
   pub lying-base : namelessOver base own off ≡ false → inBase base own off ≡ true → {n : ℕ} → n ≡ off → {p : Part} → PartOf p base n
