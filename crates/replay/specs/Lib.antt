@@ -1,3 +1,4 @@
 pub mod Case
 pub mod Count
+pub mod Over
 pub mod Run

@@ -7,6 +7,7 @@ use lib.Dec.{eqb}
 use Rattle.paper.specs.declared.Order.the-variants.{LowFirst}
 use Rattle.paper.specs.rules.Word.{words}
 use Rattle.replay.specs.Case.{checkSeen, sizeSeen, nameSeen, joinSeen, memberSeen, sameSeen}
+use Rattle.replay.specs.Over.{leanSeen, sizeCutSeen, nameOverSeen}
 use Rattle.replay.specs.declared.cases.Head.{Head}
 use Rattle.replay.specs.declared.cases.Seen.{Seen}
 use Rattle.replay.specs.declared.ops.Ran.{Ran}
@@ -33,7 +34,10 @@ RunOf r h a b =
     (cond (eqb (h .op) 2) (RanAs r (sizeSeen (h .x) a (words LowFirst b) (h .index) (h .work) (h .output)))
     (cond (eqb (h .op) 3) (RanAs r (nameSeen (h .x) a (h .index) (h .work)))
     (cond (eqb (h .op) 4) (RanAs r (joinSeen a b (h .index) (h .work) (lentBytes (h .output))))
-    (cond (eqb (h .op) 5) (RanAs r (memberSeen (h .x) (h .y) a b (h .index) (h .work))) (r ≡ Unknown)))))
+    (cond (eqb (h .op) 5) (RanAs r (memberSeen (h .x) (h .y) a b (h .index) (h .work)))
+    (cond (eqb (h .op) 9) (RanAs r (leanSeen a b (h .index) (h .work) (lentBytes (h .output))))
+    (cond (eqb (h .op) 10) (RanAs r (sizeCutSeen (h .x) (h .y) a b (h .output)))
+    (cond (eqb (h .op) 11) (RanAs r (nameOverSeen (h .x) a b)) (r ≡ Unknown))))))))
 
 -- what was seen agrees where it is what must be; an op that there is not differs
 abbrev pub turnOf : Seen → Ran → turn.Turn

@@ -3,6 +3,7 @@
 mod cases; // what a case lends and passes, and what must be seen
 mod says; // what is written
 mod ops; // a function for each op
+mod leaning; // and for those over a base
 mod given; // the places that bytes stand for
 mod tally; // what becomes of a case, and the count
 

@@ -6,6 +6,9 @@ use crate::cases::Head;
 use crate::cases::PLACES;
 use crate::cases::Seen;
 use crate::given::places;
+use crate::leaning::check_over;
+use crate::leaning::name_over;
+use crate::leaning::size_over;
 use answers::Numbers;
 use answers::of_checked;
 use answers::of_joined;
@@ -40,7 +43,7 @@ pub(crate) enum Ran {
 }
 
 // An answer with the sums of what was lent.
-fn seen(r: Numbers, index: u32, work: u32, output: u32) -> Seen
+pub(crate) fn seen(r: Numbers, index: u32, work: u32, output: u32) -> Seen
     ensures { λ s. ⌜ s ≡ seenSums (asPaper r) index work output ⌝ }
 {
     Seen {
@@ -55,7 +58,7 @@ fn seen(r: Numbers, index: u32, work: u32, output: u32) -> Seen
 }
 
 // An answer with no report inside and no type.
-fn plain(number: u32, p: u32) -> Numbers
+pub(crate) fn plain(number: u32, p: u32) -> Numbers
     ensures { λ r. ⌜ asPaper r ≡ plainly number p ⌝ }
 {
     Numbers {
@@ -240,7 +243,7 @@ fn member(h: Head, a: &[u8], b: &[u8]) -> Ran
 }
 
 // A case by its op.
-pub(crate) fn run(h: Head, a: &[u8], b: &[u8]) -> Ran
+pub(crate) fn run<'a>(h: Head, a: &'a [u8], b: &'a [u8]) -> Ran
     ensures { λ r. ⌜ RunOf r h (now (a .entry)) (now (b .entry)) ⌝ }
 {
     let op = h.op;
@@ -250,6 +253,9 @@ pub(crate) fn run(h: Head, a: &[u8], b: &[u8]) -> Ran
         3 => name(h, a),
         4 => join(h, a, b),
         5 => member(h, a, b),
+        9 => check_over(h, a, b),
+        10 => size_over(h, a, b),
+        11 => name_over(h, a, b),
         _ => Ran::Unknown,
     }
 }

@@ -1,6 +1,7 @@
 -- `replay::ops::run` meets its contract: what each op gives.
 -- Assumes nothing.
 use Rattle.replay.proofs.Runs.{run-check, run-size, run-name, run-join, run-member, run-unknown, ran-as}
+use Rattle.replay.proofs.Runs.{run-check-over, run-size-over, run-name-over}
 use borrow.Author.Needs.{needs}
 use Rattle.replay.proofs.ops.run.Statement.{statement}
 use Rattle.replay.proofs.ops.run.Tie as tie
@@ -20,6 +21,15 @@ join-requires c κs = search needs
 member-requires : tie.Need-member-requires
 member-requires c κs = search needs
 
+check-over-requires : tie.Need-check-over-requires
+check-over-requires c κs = search needs
+
+size-over-requires : tie.Need-size-over-requires
+size-over-requires c κs = search needs
+
+name-over-requires : tie.Need-name-over-requires
+name-over-requires c κs = search needs
+
 returns : tie.Need-returns
 returns c = run-check _ _ _ _ (c .before .match .keys1) (c .check .ensures)
 
@@ -36,7 +46,19 @@ returns-5 : tie.Need-returns-5
 returns-5 c = run-member _ _ _ _ (c .before .match .keys5) (c .member .ensures)
 
 returns-6 : tie.Need-returns-6
-returns-6 c = let r = c .match .rest in run-unknown _ _ _ (r .0 .0 .0 .0 .1) (r .0 .0 .0 .1) (r .0 .0 .1) (r .0 .1) (r .1)
+returns-6 c = run-check-over _ _ _ _ (c .before .match .keys6) (c .check-over .ensures)
+
+returns-7 : tie.Need-returns-7
+returns-7 c = run-size-over _ _ _ _ (c .before .match .keys7) (c .size-over .ensures)
+
+returns-8 : tie.Need-returns-8
+returns-8 c = run-name-over _ _ _ _ (c .before .match .keys8) (c .name-over .ensures)
+
+returns-9 : tie.Need-returns-9
+returns-9 c =
+    let r = c .match .rest in
+    let s = r .0 .0 .0 in
+    run-unknown _ _ _ (s .0 .0 .0 .0 .1) (s .0 .0 .0 .1) (s .0 .0 .1) (s .0 .1) (s .1) (r .0 .0 .1) (r .0 .1) (r .1)
 
 pub run-spec : {M : Type 1} → statement M
 run-spec =
@@ -47,9 +69,15 @@ run-spec =
     name-requires
     join-requires
     member-requires
+    check-over-requires
+    size-over-requires
+    name-over-requires
     returns
     returns-2
     returns-3
     returns-4
     returns-5
-    returns-6)
+    returns-6
+    returns-7
+    returns-8
+    returns-9)
