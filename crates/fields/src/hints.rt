@@ -8,6 +8,7 @@ use paper::Order;
 use paper::Place;
 use texts::line;
 use titles::put_many;
+use words::rest_from;
 
 // The parts of a .BTF.ext section begin with the length of their records, 8 bytes for functions and 16 for lines; its header is
 // otherwise one of a table, or has two words more.
@@ -27,6 +28,13 @@ fn is_extension(blob: &[u8]) -> bool {
     words::blob_word(blob, Place(head)) == 8 && words::blob_word(blob, Place(lines)) == 16
 }
 
+// The strings are empty, or only their first byte is not zero: so are those of a table behind a base.
+fn is_behind(blob: &[u8]) -> bool {
+    let types = words::blob_word(blob, Place(12)) as usize;
+    let s = rest_from(rest_from(blob, 24), types);
+    s.len() == 0 || s[s.len() - 1] == 0
+}
+
 // Which line of the hints; 0 for none.
 fn hint_of(blob: &[u8], number: u32) -> u32 {
     let w = words::read(Order::LowFirst, blob, Place(0));
@@ -35,6 +43,9 @@ fn hint_of(blob: &[u8], number: u32) -> u32 {
     }
     if 3 <= number && is_extension(blob) {
         return 2;
+    }
+    if number == 5 && is_behind(blob) {
+        return 3;
     }
     0
 }
@@ -74,7 +85,8 @@ fn put_sum(buf: &mut [u8; ROOM], o: Out, blob: &[u8]) -> Out {
 pub fn put_hint(buf: &mut [u8; ROOM], o: Out, blob: &[u8], number: u32) -> Out {
     let hints = b"\n\
         this is an ELF file: objcopy --dump-section .BTF=TABLE FILE takes its table out (llvm-objcopy for a BPF object)\n\
-        this is a .BTF.ext section, and no table of types: that is the section .BTF\n";
+        this is a .BTF.ext section, and no table of types: that is the section .BTF\n\
+        a table that leans on a base may have such strings: check, show, size, name and read take it with --base BASE behind them\n";
     let k = hint_of(blob, number);
     if k != 0 {
         let o = put(buf, o, b"    ");

@@ -135,7 +135,7 @@ fn is_zero(s: &[u8], at: usize) -> bool {
     s.len() != 0 && s[0] == 0
 }
 
-// The first and the last byte of the strings, as far as they are there.
+// The first and the last byte of the strings, as far as they are there. Behind a base the first may be any.
 fn put_string_ends(buf: &mut [u8; ROOM], o: Out, blob: &[u8]) -> Out {
     let from = 24 + words::blob_word(blob, Place(12)) as usize;
     let n = words::blob_word(blob, Place(20)) as usize;
@@ -143,7 +143,7 @@ fn put_string_ends(buf: &mut [u8; ROOM], o: Out, blob: &[u8]) -> Out {
         return o;
     }
     let last = from + n - 1;
-    let is_first_wrong = !is_zero(blob, from);
+    let is_first_wrong = o.strings == 0 && !is_zero(blob, from);
     let is_last_wrong = !is_zero(blob, last);
     let o = put_field(
         buf,
@@ -165,12 +165,32 @@ fn put_string_ends(buf: &mut [u8; ROOM], o: Out, blob: &[u8]) -> Out {
     )
 }
 
-fn put_length(buf: &mut [u8; ROOM], o: Out, n: usize) -> Out {
+// So many bytes; of a file that is too long no more are read than show that.
+fn put_most(buf: &mut [u8; ROOM], o: Out, n: usize) -> Out {
     if BYTE_LIMIT < n {
-        return put(buf, o, b"    the table has over 262144 bytes\n");
+        return put(buf, o, b"over 262144 bytes");
     }
+    put_many(buf, o, n as u64, b" byte", b" bytes")
+}
+
+// The bytes of a base: a header, its records and its strings.
+fn put_base_length(buf: &mut [u8; ROOM], o: Out) -> Out {
+    if o.strings == 0 {
+        return o;
+    }
+    put_with(
+        buf,
+        o,
+        b", its base ",
+        24 + (o.records as u64) + (o.strings as u64),
+    )
+}
+
+fn put_length(buf: &mut [u8; ROOM], o: Out, n: usize) -> Out {
     let o = put(buf, o, b"    the table has ");
-    put_many(buf, o, n as u64, b" byte\n", b" bytes\n")
+    let o = put_most(buf, o, n);
+    let o = put_base_length(buf, o);
+    put(buf, o, b"\n")
 }
 
 // The header, for a report from 1 to 5.

@@ -3,6 +3,7 @@ mod out; // the buffer
 
 pub use out::Out;
 pub use out::ROOM;
+pub use out::behind;
 pub use out::flush;
 pub use out::marked;
 pub use out::put;

@@ -12,34 +12,55 @@ ghost use lib.ListN.{length};
 // The bytes of the buffer. An array's length is known, so that no function need prove that it keeps it.
 pub const ROOM: usize = 65536;
 
-// Where it goes, how many bytes wait in the buffer, whether every write has taken all its bytes, and whether lines get a mark.
+// Where it goes, how many bytes wait in the buffer, whether every write has taken all its bytes, whether lines get a mark, and how many
+// bytes of records and of strings a base has before the table whose places are told: no strings where there is no base.
 pub struct Out {
     pub fd: i32,
     pub at: usize,
     pub is_whole: bool,
     pub is_marked: bool,
+    pub records: u32,
+    pub strings: u32,
 }
 
 pub fn to(fd: i32) -> Out
-    ensures { λ r. ⌜ (r .fd ≡ fd) × (r .at ≡ 0) × (r .«is_whole» ≡ true) × (r .«is_marked» ≡ false) ⌝ }
+    ensures { λ r. ⌜ (r .fd ≡ fd) × (r .at ≡ 0) × (r .«is_whole» ≡ true) × (r .«is_marked» ≡ false) × (r .records ≡ 0) × (r .strings ≡ 0) ⌝ }
 {
     Out {
         fd,
         at: 0,
         is_whole: true,
         is_marked: false,
+        records: 0,
+        strings: 0,
     }
 }
 
 // From here on every line gets a mark.
 pub fn marked(o: Out) -> Out
-    ensures { λ r. ⌜ (r .fd ≡ o .fd) × (r .at ≡ o .at) × (r .«is_whole» ≡ o .«is_whole») × (r .«is_marked» ≡ true) ⌝ }
+    ensures { λ r. ⌜ (r .fd ≡ o .fd) × (r .at ≡ o .at) × (r .«is_whole» ≡ o .«is_whole») × (r .«is_marked» ≡ true) × (r .records ≡ o .records) × (r .strings ≡ o .strings) ⌝ }
 {
     Out {
         fd: o.fd,
         at: o.at,
         is_whole: o.is_whole,
         is_marked: true,
+        records: o.records,
+        strings: o.strings,
+    }
+}
+
+// From here on places are told of a table behind a base that has so many bytes of records and of strings.
+pub fn behind(o: Out, records: u32, strings: u32) -> Out
+    ensures { λ r. ⌜ (r .fd ≡ o .fd) × (r .at ≡ o .at) × (r .«is_whole» ≡ o .«is_whole») × (r .«is_marked» ≡ o .«is_marked») × (r .records ≡ records) × (r .strings ≡ strings) ⌝ }
+{
+    Out {
+        fd: o.fd,
+        at: o.at,
+        is_whole: o.is_whole,
+        is_marked: o.is_marked,
+        records,
+        strings,
     }
 }
 
@@ -51,6 +72,8 @@ fn write(o: Out, s: &[u8]) -> Out {
             at: 0,
             is_whole: false,
             is_marked: o.is_marked,
+            records: o.records,
+            strings: o.strings,
         };
     }
     let is_whole = io::write_all(o.fd, s);
@@ -59,6 +82,8 @@ fn write(o: Out, s: &[u8]) -> Out {
         at: 0,
         is_whole,
         is_marked: o.is_marked,
+        records: o.records,
+        strings: o.strings,
     }
 }
 
@@ -86,6 +111,8 @@ pub fn put(buf: &mut [u8; ROOM], o: Out, s: &[u8]) -> Out {
                 at: at + s.len(),
                 is_whole: o.is_whole,
                 is_marked: o.is_marked,
+                records: o.records,
+                strings: o.strings,
             };
         }
     }
@@ -99,6 +126,8 @@ pub fn put(buf: &mut [u8; ROOM], o: Out, s: &[u8]) -> Out {
         at: s.len(),
         is_whole: o.is_whole,
         is_marked: o.is_marked,
+        records: o.records,
+        strings: o.strings,
     }
 }
 

@@ -1,6 +1,9 @@
 // The bytes of the record that a report names: its head, the words behind it that the rule is about, and a word on either side.
 use crate::records::types_of;
+use fields::is_in_base;
 use fields::put_bare;
+use fields::put_next;
+use fields::told_place;
 use kindrows::DECL_TAG;
 use kindrows::FUNC;
 use kindrows::STRUCT;
@@ -26,7 +29,12 @@ use words::rest_from;
 
 // How a record does not fit.
 fn put_cut(buf: &mut [u8; ROOM], o: Out, end: usize, order: Order, r: &[u8]) -> Out {
-    let o = put_with(buf, o, b"    the type section ends at byte ", end as u64);
+    let o = put_with(
+        buf,
+        o,
+        b"    the type section ends at byte ",
+        told_place(o, end) as u64,
+    );
     if r.len() < 12 {
         let o = put_with(
             buf,
@@ -56,14 +64,17 @@ fn put_end(
         7 => o,
         _ => {
             let size = 12 + 4 * (tail_words(info_of(words::order_of(blob), r)) as usize);
-            put_bare(buf, o, false, blob, (place as usize) + size)
+            put_next(buf, o, blob, end, (place as usize) + size)
         }
     }
 }
 
-// The word before the record; none before the first.
+// The word before the record; none before the first of its file.
 fn put_before(buf: &mut [u8; ROOM], o: Out, blob: &[u8], at: usize) -> Out {
     if at < 28 {
+        return o;
+    }
+    if told_place(o, at) < 28 {
         return o;
     }
     put_bare(buf, o, false, blob, at - 4)
@@ -97,6 +108,14 @@ pub(crate) fn put_marked(
     put_end(buf, o, blob, types.len(), r, place, look.number)
 }
 
+// That a record is the base's, in whose file its places count.
+fn put_holder(buf: &mut [u8; ROOM], o: Out, at: usize) -> Out {
+    if is_in_base(o, at) {
+        return put(buf, o, b" of the base");
+    }
+    o
+}
+
 // The prototype of a function, whose parameters the rule is about.
 fn put_prototype(
     buf: &mut [u8; ROOM],
@@ -113,7 +132,8 @@ fn put_prototype(
     };
     let place = place_of(index, view, TypeNo(t)).0;
     let o = put_with(buf, o, b"    its prototype, type ", t as u64);
-    let o = put_with(buf, o, b", at byte ", place as u64);
+    let o = put_holder(buf, o, place as usize);
+    let o = put_with(buf, o, b", at byte ", told_place(o, place as usize) as u64);
     let o = put(buf, o, b":\n");
     let r = record_of(&blob[..0], blob, index, view, TypeNo(t));
     let o = put_head(buf, o, blob, index, r, place, look);

@@ -8,6 +8,7 @@ use crate::records::types_of;
 use answers::Numbers;
 use fields::put_header;
 use fields::put_hint;
+use fields::told_place;
 use lines::Out;
 use lines::ROOM;
 use lines::put;
@@ -39,6 +40,23 @@ fn put_meaning(buf: &mut [u8; ROOM], o: Out, number: u32) -> Out {
     put(buf, o, line(meanings, number))
 }
 
+// What it means of a table behind a base: whose bytes count too, and which has the first zero byte of the strings.
+fn put_meaning_behind(buf: &mut [u8; ROOM], o: Out, number: u32) -> Out {
+    match number {
+        1 => put(
+            buf,
+            o,
+            b"the table has under 24 bytes, or over 262144 with its base",
+        ),
+        5 => put(
+            buf,
+            o,
+            b"the strings are not empty, and their last byte is not zero",
+        ),
+        _ => put_meaning(buf, o, number),
+    }
+}
+
 // The kind and the name of a record whose head is there.
 fn put_titled(buf: &mut [u8; ROOM], o: Out, blob: &[u8], r: &[u8]) -> Out {
     if r.len() < 12 {
@@ -57,7 +75,7 @@ fn put_named(buf: &mut [u8; ROOM], o: Out, blob: &[u8], told: Numbers) -> Out {
     let o = put_with(buf, o, b", type ", told.t as u64);
     let r = rest_from(types_of(blob), told.p as usize);
     let o = put_titled(buf, o, blob, r);
-    put_with(buf, o, b", at byte ", told.p as u64)
+    put_with(buf, o, b", at byte ", told_place(o, told.p as usize) as u64)
 }
 
 // The rule of a report from 10 to 15, and the record that breaks it, by the index of so many types.
@@ -103,11 +121,19 @@ fn put_about(buf: &mut [u8; ROOM], o: Out, blob: &[u8], told: Numbers) -> Out {
     }
 }
 
-// "report R: what it means, type T (KIND name), at byte P", and below it the rule and the bytes.
+fn put_said(buf: &mut [u8; ROOM], o: Out, number: u32) -> Out {
+    if o.strings == 0 {
+        return put_meaning(buf, o, number);
+    }
+    put_meaning_behind(buf, o, number)
+}
+
+// "report R: what it means, type T (KIND name), at byte P", and below it the rule and the bytes. Of a table behind a base from 6 on the
+// blob is the table that holds both, and the report's place counts there.
 pub fn put_report(buf: &mut [u8; ROOM], o: Out, blob: &[u8], told: Numbers) -> Out {
     let o = put_with(buf, o, b"report ", told.number as u64);
     let o = put(buf, o, b": ");
-    let o = put_meaning(buf, o, told.number);
+    let o = put_said(buf, o, told.number);
     let o = put_named(buf, o, blob, told);
     let o = put(buf, o, b"\n");
     put_about(buf, o, blob, told)
