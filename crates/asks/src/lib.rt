@@ -1,10 +1,8 @@
 // What is asked of one table, and its answer.
-use answers::Numbers;
 use answers::of_report;
 use files::READ_LIMIT;
 use files::Status;
 use files::end;
-use files::read_file;
 use libc::STDERR_FILENO;
 use libc::STDOUT_FILENO;
 use lines::Out;
@@ -16,7 +14,6 @@ use lines::put_name;
 use lines::put_whole;
 use lines::put_with;
 use listing::show_all;
-use listing::show_before;
 use listing::show_named;
 use listing::show_one;
 use paper::Checked;
@@ -24,7 +21,10 @@ use paper::FULL_PLACES;
 use paper::NameOff;
 use paper::Order;
 use paper::TypeNo;
-use reports::put_report;
+use tables::Laid;
+use tables::Lean;
+use tables::lay_table;
+use tables::refused;
 use texts::first_of;
 use titles::put_many;
 use titles::put_size;
@@ -38,6 +38,13 @@ pub enum Ask {
     Named,
     Size(u32),
     Name(u32),
+}
+
+fn is_all(ask: Ask) -> bool {
+    match ask {
+        Ask::All => true,
+        _ => false,
+    }
 }
 
 // The type or the offset that is asked of a table of so many types is there.
@@ -106,18 +113,45 @@ fn put_order(buf: &mut [u8; ROOM], o: Out, blob: &[u8]) -> Out {
     }
 }
 
-fn put_accepted(buf: &mut [u8; ROOM], o: Out, file: &[u8], blob: &[u8], n: u32) -> Out {
+// How many of the types are a base's.
+fn put_lean(buf: &mut [u8; ROOM], o: Out, lean: Lean) -> Out {
+    if !lean.is_there {
+        return o;
+    }
+    put_with(buf, o, b" with its base's ", lean.n as u64)
+}
+
+fn put_accepted(buf: &mut [u8; ROOM], o: Out, file: &[u8], blob: &[u8], n: u32, lean: Lean) -> Out {
     let o = put_file(buf, o, file);
     let o = put(buf, o, b": accepted, ");
-    let o = put_many(buf, o, n as u64, b" type, ", b" types, ");
+    let o = put_many(buf, o, n as u64, b" type", b" types");
+    let o = put_lean(buf, o, lean);
+    let o = put(buf, o, b", ");
     put_order(buf, o, blob)
 }
 
-// Every type, below a line that tells the byte order.
-fn put_table(buf: &mut [u8; ROOM], o: Out, blob: &[u8], index: &[u32], n: u32) -> Out {
+// Which types are a base's, and stand in its own table.
+fn put_base(buf: &mut [u8; ROOM], o: Out, lean: Lean) -> Out {
+    if !lean.is_there {
+        return o;
+    }
+    let n = lean.n;
+    match n {
+        0 => put(buf, o, b"of the base: no types\n"),
+        1 => put(buf, o, b"of the base: type 1\n"),
+        _ => {
+            let o = put_with(buf, o, b"of the base: types 1 to ", n as u64);
+            put(buf, o, b"\n")
+        }
+    }
+}
+
+// Every type of the table's own, below a line that tells the byte order.
+fn put_table(buf: &mut [u8; ROOM], o: Out, blob: &[u8], index: &[u32], n: u32, lean: Lean) -> Out {
     let o = put(buf, o, b"byte order: ");
     let o = put_order(buf, o, blob);
-    show_all(buf, o, blob, index, n)
+    let o = put_base(buf, o, lean);
+    show_all(buf, o, blob, index, lean.n, n)
 }
 
 fn put_sized(buf: &mut [u8; ROOM], o: Out, blob: &[u8], index: &[u32], t: u32) -> Out {
@@ -140,10 +174,11 @@ fn put_answer(
     blob: &[u8],
     index: &[u32],
     n: u32,
+    lean: Lean,
 ) -> Out {
     match ask {
-        Ask::Check => put_accepted(buf, o, file, blob, n),
-        Ask::All => put_table(buf, o, blob, index, n),
+        Ask::Check => put_accepted(buf, o, file, blob, n, lean),
+        Ask::All => put_table(buf, o, blob, index, n, lean),
         Ask::One(t) => show_one(buf, o, blob, index, t),
         Ask::Named => o,
         Ask::Size(t) => put_sized(buf, o, blob, index, t),
@@ -151,37 +186,16 @@ fn put_answer(
     }
 }
 
-fn put_refused(buf: &mut [u8; ROOM], o: Out, file: &[u8], blob: &[u8], told: Numbers) -> Out {
-    let o = put_file(buf, o, file);
-    let o = put(buf, o, b": refused, ");
-    put_report(buf, o, blob, told)
-}
-
-// Where all types of a refused table are asked for, those before the one that the report names, unchecked.
-fn put_before(
-    buf: &mut [u8; ROOM],
-    o: Out,
-    ask: Ask,
-    blob: &[u8],
-    index: &mut [u32],
-    t: u32,
-) -> Out {
-    if let Ask::All = ask {
-        return show_before(buf, o, blob, index, t);
-    }
-    o
-}
-
-// A table that is refused.
-pub fn refused(ask: Ask, file: &[u8], blob: &[u8], index: &mut [u32], told: Numbers) -> Status {
-    let mut buf = [0u8; ROOM];
-    let o = put_refused(&mut buf, lines::to(STDOUT_FILENO), file, blob, told);
-    let o = put_before(&mut buf, o, ask, blob, index, told.t);
-    end(&mut buf, o, Status::Refused)
-}
-
 // A table that is accepted.
-fn answered(ask: Ask, file: &[u8], blob: &[u8], index: &[u32], n: u32, name: &[u8]) -> Status {
+fn answered(
+    ask: Ask,
+    file: &[u8],
+    blob: &[u8],
+    index: &[u32],
+    n: u32,
+    name: &[u8],
+    lean: Lean,
+) -> Status {
     if let Ask::Named = ask {
         return named(file, blob, index, n, name);
     }
@@ -197,6 +211,7 @@ fn answered(ask: Ask, file: &[u8], blob: &[u8], index: &[u32], n: u32, name: &[u
         blob,
         index,
         n,
+        lean,
     );
     end(&mut buf, o, Status::Done)
 }
@@ -209,28 +224,37 @@ fn answer(
     index: &mut [u32],
     work: &mut [u32],
     name: &[u8],
+    lean: Lean,
 ) -> Status {
     match gate::check(blob, index, work) {
-        Checked::Refused(r) => refused(ask, file, blob, index, of_report(r)),
-        Checked::Accepted(n) => answered(ask, file, blob, index, n, name),
+        Checked::Refused(r) => refused(is_all(ask), file, blob, index, of_report(r)),
+        Checked::Accepted(n) => answered(ask, file, blob, index, n, name, lean),
     }
 }
 
-// The file is read, and asked of in slices of full size.
-pub fn ask_file(ask: Ask, file: &[u8], name: &[u8]) -> Status {
+// The table in the first bytes of what is lent. A function of its own: an array that was changed is not cut behind a match.
+fn answer_first(
+    ask: Ask,
+    file: &[u8],
+    blob: &[u8; READ_LIMIT],
+    n: usize,
+    index: &mut [u32; FULL_PLACES],
+    work: &mut [u32; FULL_PLACES],
+    name: &[u8],
+    lean: Lean,
+) -> Status {
+    answer(ask, file, first_of(blob, n), index, work, name, lean)
+}
+
+// The file is read, and asked of in slices of full size; where it leans on a base, with that base's file.
+pub fn ask_file(ask: Ask, file: &[u8], base: &[u8], name: &[u8]) -> Status {
     let mut blob = [0u8; READ_LIMIT];
     let mut index = [0u32; FULL_PLACES];
     let mut work = [0u32; FULL_PLACES];
-    let read = read_file(file, &mut blob);
-    if !read.is_read {
-        return Status::Failed;
+    match lay_table(is_all(ask), file, base, &mut blob, &mut index, &mut work) {
+        Laid::Ended(status) => status,
+        Laid::Table(n, lean) => {
+            answer_first(ask, file, &blob, n, &mut index, &mut work, name, lean)
+        }
     }
-    answer(
-        ask,
-        file,
-        first_of(&blob, read.n),
-        &mut index,
-        &mut work,
-        name,
-    )
 }

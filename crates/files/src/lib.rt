@@ -13,4 +13,5 @@ pub use reads::fail_text;
 pub use reads::open_input;
 pub use reads::read_file;
 pub use reads::read_input;
+pub use saves::append;
 pub use saves::save;

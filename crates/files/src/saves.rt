@@ -14,7 +14,7 @@ fn random() -> u32 {
 }
 
 // A piece behind the first bytes, where there is room for it; where it ends is answered.
-fn append(to: &mut [u8], at: usize, s: &[u8]) -> usize {
+pub fn append(to: &mut [u8], at: usize, s: &[u8]) -> usize {
     if to.len() < at {
         return at;
     }

@@ -44,20 +44,34 @@ fn first_places(index: &[u32], n: u32) -> &[u32] {
 }
 
 // A table ends for its lines before the type at fault.
-fn put_unchecked(buf: &mut [u8; ROOM], o: Out, blob: &[u8], index: &[u32], n: u32) -> Out {
-    if n == 0 {
+fn put_unchecked(
+    buf: &mut [u8; ROOM],
+    o: Out,
+    blob: &[u8],
+    index: &[u32],
+    first: u32,
+    n: u32,
+) -> Out {
+    if n <= first {
         return o;
     }
     let o = put(buf, o, b"not checked, as it stands before that: ");
-    let o = put_many(buf, o, n as u64, b" type\n", b" types\n");
-    show_all(buf, marked(o), blob, first_places(index, n), n)
+    let o = put_many(buf, o, (n - first) as u64, b" type\n", b" types\n");
+    show_all(buf, marked(o), blob, first_places(index, n), first, n)
 }
 
-// The types before the one that a report names; nothing where it names none.
-pub fn show_before(buf: &mut [u8; ROOM], o: Out, blob: &[u8], index: &mut [u32], t: u32) -> Out {
+// The types before the one that a report names, but the first ones, which are a base's; nothing where it names none.
+pub fn show_before(
+    buf: &mut [u8; ROOM],
+    o: Out,
+    blob: &[u8],
+    index: &mut [u32],
+    first: u32,
+    t: u32,
+) -> Out {
     if t == 0 {
         return o;
     }
     let n = walk(blob, index, t - 1);
-    put_unchecked(buf, o, blob, index, n)
+    put_unchecked(buf, o, blob, index, first, n)
 }

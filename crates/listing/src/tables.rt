@@ -82,10 +82,17 @@ pub fn show_one(buf: &mut [u8; ROOM], o: Out, blob: &[u8], index: &[u32], t: u32
     ended(buf, c)
 }
 
-// Every type of a table of so many.
-pub fn show_all(buf: &mut [u8; ROOM], o: Out, blob: &[u8], index: &[u32], n: u32) -> Out {
+// Every type of a table of so many behind the first ones, which are a base's.
+pub fn show_all(
+    buf: &mut [u8; ROOM],
+    o: Out,
+    blob: &[u8],
+    index: &[u32],
+    first: u32,
+    n: u32,
+) -> Out {
     let mut c = started(o);
-    let mut t: u32 = 0;
+    let mut t = first;
     while t < n {
         t += 1;
         c = shown(buf, c, blob, index, t);

@@ -5,12 +5,10 @@ use crate::types::unclear;
 use answers::of_report;
 use asks::Ask;
 use asks::missing;
-use asks::refused;
 use bases::record_of;
 use files::READ_LIMIT;
 use files::Status;
 use files::end;
-use files::read_file;
 use libc::STDERR_FILENO;
 use libc::STDOUT_FILENO;
 use lines::ROOM;
@@ -28,6 +26,9 @@ use paper::Checked;
 use paper::FULL_PLACES;
 use paper::Order;
 use rows::third_of;
+use tables::Laid;
+use tables::lay_table;
+use tables::refused;
 use texts::Number;
 use texts::first_of;
 use texts::parse;
@@ -166,27 +167,34 @@ fn read_checked(
     given: &[u8],
 ) -> Status {
     match gate::check(blob, index, work) {
-        Checked::Refused(r) => refused(Ask::Check, file, blob, index, of_report(r)),
+        Checked::Refused(r) => refused(false, file, blob, index, of_report(r)),
         Checked::Accepted(n) => read_accepted(file, blob, index, n, word, source, given),
     }
 }
 
-// The table in a file, the word that asks for a type of it, and where records come from.
-pub fn read_records(file: &[u8], word: &[u8], source: Source, given: &[u8]) -> Status {
+// The table in the first bytes of what is lent. A function of its own: an array that was changed is not cut behind a match.
+fn read_first(
+    file: &[u8],
+    blob: &[u8; READ_LIMIT],
+    n: usize,
+    index: &mut [u32; FULL_PLACES],
+    work: &mut [u32; FULL_PLACES],
+    word: &[u8],
+    source: Source,
+    given: &[u8],
+) -> Status {
+    read_checked(file, first_of(blob, n), index, work, word, source, given)
+}
+
+// The table in a file, and in its base's where it leans on one; the word that asks for a type of it; and where records come from.
+pub fn read_records(file: &[u8], base: &[u8], word: &[u8], source: Source, given: &[u8]) -> Status {
     let mut blob = [0u8; READ_LIMIT];
     let mut index = [0u32; FULL_PLACES];
     let mut work = [0u32; FULL_PLACES];
-    let read = read_file(file, &mut blob);
-    if !read.is_read {
-        return Status::Failed;
+    match lay_table(false, file, base, &mut blob, &mut index, &mut work) {
+        Laid::Ended(status) => status,
+        Laid::Table(n, _) => {
+            read_first(file, &blob, n, &mut index, &mut work, word, source, given)
+        }
     }
-    read_checked(
-        file,
-        first_of(&blob, read.n),
-        &mut index,
-        &mut work,
-        word,
-        source,
-        given,
-    )
 }

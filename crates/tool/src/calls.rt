@@ -1,5 +1,14 @@
 // The arguments: which verb, of which files and numbers; and how the status is told.
+use crate::based::base_word;
+use crate::based::flag_from;
+use crate::based::is_last;
+use crate::based::last;
 use crate::records::read_call;
+use crate::verbs::Verb;
+use crate::verbs::is_of_one;
+use crate::verbs::least;
+use crate::verbs::most;
+use crate::verbs::verb_at;
 use asks::Ask;
 use asks::ask_file;
 use files::Status;
@@ -8,28 +17,20 @@ use joins::join_files;
 use texts::Number;
 use texts::first_of;
 use texts::parse;
+use wrongs::NO_BASE;
 use wrongs::NO_OFFSET;
 use wrongs::NO_OUT;
 use wrongs::NO_TYPE;
 use wrongs::NO_TYPE_NAME;
+use wrongs::NOT_BASED;
 use wrongs::TOO_FEW;
 use wrongs::TOO_MANY;
+use wrongs::TWO_BASES;
 use wrongs::TWO_DASHES;
 use wrongs::UNKNOWN;
 use wrongs::help;
 use wrongs::no_words;
 use wrongs::wrong_at;
-
-enum Verb {
-    Check,
-    Show,
-    Size,
-    Name,
-    Join,
-    Read,
-    Help,
-    Unknown,
-}
 
 // An argument's length in the lent bytes, and whether it is there as a whole.
 pub(crate) struct Arg {
@@ -65,51 +66,35 @@ pub(crate) fn argument(i: usize, s: &mut [u8]) -> Arg {
     Arg { n, is_whole: true }
 }
 
-fn verb_of(s: &[u8]) -> Verb {
-    if check::same(s, b"check") {
-        return Verb::Check;
-    }
-    if check::same(s, b"show") {
-        return Verb::Show;
-    }
-    if check::same(s, b"size") {
-        return Verb::Size;
-    }
-    if check::same(s, b"name") {
-        return Verb::Name;
-    }
-    if check::same(s, b"join") {
-        return Verb::Join;
-    }
-    if check::same(s, b"read") {
-        return Verb::Read;
-    }
-    if check::same(s, b"help") || check::same(s, b"--help") || check::same(s, b"-h") {
-        return Verb::Help;
-    }
-    Verb::Unknown
-}
-
-fn verb_at(i: usize) -> Verb {
-    let mut s = [0u8; 4096];
-    let n = os::arg(i, &mut s);
-    verb_of(&s[..n])
-}
-
 fn number_at(i: usize) -> Number {
     let mut s = [0u8; 4096];
     let n = os::arg(i, &mut s);
     parse(&s[..n])
 }
 
+// A question about the table in a file, and in its base's where it has one. Standard input can be read once.
+fn ask_of_files(ask: Ask, file: &[u8], base: &[u8], name: &[u8]) -> Status {
+    if check::same(file, b"-") {
+        if check::same(base, b"-") {
+            return wrong_at(last(), TWO_BASES);
+        }
+    }
+    ask_file(ask, file, base, name)
+}
+
 // A question about the table in the file that an argument names, by a name where it has one.
 fn ask_by(ask: Ask, i: usize, name: &[u8]) -> Status {
     let mut s = [0u8; 4096];
+    let mut base = [0u8; 4096];
     let arg = argument(i, &mut s);
+    let base_arg = base_word(&mut base);
     if !arg.is_whole {
         return Status::Failed;
     }
-    ask_file(ask, first_of(&s, arg.n), name)
+    if !base_arg.is_whole {
+        return Status::Failed;
+    }
+    ask_of_files(ask, first_of(&s, arg.n), first_of(&base, base_arg.n), name)
 }
 
 fn ask_at(ask: Ask, i: usize) -> Status {
@@ -193,29 +178,6 @@ fn join_call(first: u32) -> Status {
     )
 }
 
-// How many words stand behind a verb at least.
-fn least(verb: Verb) -> usize {
-    match verb {
-        Verb::Check => 1,
-        Verb::Show => 1,
-        Verb::Size => 2,
-        Verb::Name => 2,
-        Verb::Join => 3,
-        Verb::Read => 3,
-        Verb::Help => 0,
-        Verb::Unknown => 0,
-    }
-}
-
-// How many at most.
-fn most(verb: Verb) -> usize {
-    match verb {
-        Verb::Show => 2,
-        Verb::Read => 4,
-        _ => least(verb),
-    }
-}
-
 // A verb with as many words behind it as it may have.
 fn call_by(verb: Verb, first: u32, behind: usize) -> Status {
     match verb {
@@ -249,13 +211,36 @@ fn call_with(verb: Verb, first: u32, behind: usize) -> Status {
     call_by(verb, first, behind)
 }
 
+// A verb with so many words behind it, of which the argument `flag` is the first `--base`.
+fn call_based(verb: Verb, first: u32, behind: usize, flag: usize, count: usize) -> Status {
+    if let Verb::Unknown = verb {
+        return wrong_at(place(first, 0), UNKNOWN);
+    }
+    if !is_of_one(verb) {
+        return wrong_at(flag, NOT_BASED);
+    }
+    if behind < 2 {
+        return wrong_at(flag, NO_BASE);
+    }
+    if !is_last(flag, count) {
+        return wrong_at(flag, NO_BASE);
+    }
+    call_with(verb, first, behind - 2)
+}
+
 // The call that stands from the argument `first` on.
 fn call(first: u32) -> Status {
-    let given = words_from(first, os::arg_count());
+    let count = os::arg_count();
+    let given = words_from(first, count);
     if given == 0 {
         return no_words();
     }
-    call_with(verb_at(place(first, 0)), first, given - 1)
+    let verb = verb_at(place(first, 0));
+    let flag = flag_from(place(first, 1), count);
+    if flag < count {
+        return call_based(verb, first, given - 1, flag, count);
+    }
+    call_with(verb, first, given - 1)
 }
 
 // A program of this language has no exit status: one digit on a descriptor of the launcher's stands for it.

@@ -1,5 +1,7 @@
 // The tool: what each call of it asks, and the status that is told.
+mod based; // the base behind a call
 mod calls; // the arguments: which verb, of what
 mod records; // the words behind `read`
+mod verbs; // which verbs there are
 
 pub use calls::run;

@@ -1,4 +1,6 @@
 // The words behind `read`: a table, a type, and where its records come from.
+use crate::based::base_word;
+use crate::based::last;
 use crate::calls::argument;
 use crate::calls::place;
 use files::Status;
@@ -13,15 +15,43 @@ use wrongs::NO_EACH;
 use wrongs::NO_TYPE_NAME;
 use wrongs::ODD_DIGITS;
 use wrongs::TOO_FEW;
+use wrongs::TWO_BASES;
 use wrongs::TWO_INPUTS;
 use wrongs::wrong_at;
 
 // As many bytes as one argument can have.
 const LONGEST: usize = 131072;
 
+// Standard input is already read from, as the table or as the records.
+fn is_input_taken(table: &[u8], source: Source, given: &[u8]) -> bool {
+    if check::same(table, b"-") {
+        return true;
+    }
+    match source {
+        Source::Bytes => false,
+        _ => check::same(given, b"-"),
+    }
+}
+
+// Records by a table, which leans on a base where one is named.
+fn read_by_base(table: &[u8], word: &[u8], source: Source, given: &[u8]) -> Status {
+    let mut base = [0u8; 4096];
+    let arg = base_word(&mut base);
+    if !arg.is_whole {
+        return Status::Failed;
+    }
+    let base = first_of(&base, arg.n);
+    if check::same(base, b"-") {
+        if is_input_taken(table, source, given) {
+            return wrong_at(last(), TWO_BASES);
+        }
+    }
+    read_records(table, base, word, source, given)
+}
+
 // A record of so many bytes.
 fn read_bytes(table: &[u8], word: &[u8], s: &[u8; RECORD_LIMIT], n: usize) -> Status {
-    read_records(table, word, Source::Bytes, first_of(s, n))
+    read_by_base(table, word, Source::Bytes, first_of(s, n))
 }
 
 // A record's bytes as digits, which are the argument of this number.
@@ -51,7 +81,7 @@ fn read_named(table: &[u8], word: &[u8], file: &[u8], first: u32, behind: usize)
         }
     }
     if behind < 4 {
-        return read_records(table, word, Source::One, file);
+        return read_by_base(table, word, Source::One, file);
     }
     let mut s = [0u8; 4096];
     let i = place(first, 4);
@@ -59,7 +89,7 @@ fn read_named(table: &[u8], word: &[u8], file: &[u8], first: u32, behind: usize)
     if !check::same(&s[..n], b"--each") {
         return wrong_at(i, NO_EACH);
     }
-    read_records(table, word, Source::Each, file)
+    read_by_base(table, word, Source::Each, file)
 }
 
 fn read_by(table: &[u8], word: &[u8], given: &[u8], first: u32, behind: usize) -> Status {

@@ -34,6 +34,12 @@ pub const NO_DIGITS: u32 = 10;
 
 pub const ODD_DIGITS: u32 = 11;
 
+pub const NO_BASE: u32 = 12;
+
+pub const NOT_BASED: u32 = 13;
+
+pub const TWO_BASES: u32 = 14;
+
 fn usage(fd: i32) -> bool {
     io::write_all(
         fd,
@@ -46,9 +52,11 @@ fn usage(fd: i32) -> bool {
 \x20      scrieve read TABLE TYPE --hex DIGITS\n\
 \x20                                  a record of a struct or union, by number or by name: each member's bits, bytes and value;\n\
 \x20                                  RECORD is a file, with --each of one record behind another; DIGITS are the bytes themselves\n\
+\x20      scrieve check, show, size, name or read .. --base BASE\n\
+\x20                                  the same of a table that leans on a base: its numbers and name offsets go on from those of BASE\n\
 \x20      scrieve help                this text; -h and --help too\n\
 \x20      scrieve version             the commit, the toolchain, the requests that have landed\n\
-A dash for FILE, A, B, TABLE or RECORD is standard input.\n\
+A dash for FILE, A, B, TABLE, RECORD or BASE is standard input.\n\
 Status: 0 accepted or done, 1 refused, 2 a wrong call, or a file that cannot be read or written.\n",
     )
 }
@@ -74,7 +82,10 @@ fn put_wrong(word: &[u8], why: u32) {
         TABLE and RECORD cannot both be standard input\n\
         behind RECORD there may be --each, and nothing else\n\
         DIGITS are hexadecimal digits and blanks\n\
-        DIGITS are two for each byte, and one is left\n";
+        DIGITS are two for each byte, and one is left\n\
+        behind it stands BASE, the name of one file, and nothing else\n\
+        a base is for check, show, size, name and read\n\
+        BASE and another file cannot both be standard input\n";
     let mut buf = [0u8; lines::ROOM];
     let o = put(&mut buf, lines::to(STDERR_FILENO), b"scrieve: ");
     let o = put_file(&mut buf, o, word);

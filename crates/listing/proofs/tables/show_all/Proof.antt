@@ -6,10 +6,10 @@ use Rattle.listing.proofs.tables.show_all.Statement.{statement}
 use Rattle.listing.proofs.tables.show_all.Tie as tie
 
 abbrev Inv-loop : tie.InvT-loop
-Inv-loop buf₀ blob index n c₀ t₀ buf c t = Unit {0}
+Inv-loop buf₀ blob index first n c₀ t₀ buf c t = Unit {0}
 
 abbrev μ-loop : tie.MeasureT-loop
-μ-loop buf₀ blob index n c₀ t₀ buf c t = n - t
+μ-loop buf₀ blob index first n c₀ t₀ buf c t = n - t
 
 started-requires : tie.Need-started-requires Inv-loop μ-loop
 started-requires c κs = search needs

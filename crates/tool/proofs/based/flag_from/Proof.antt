@@ -1,0 +1,47 @@
+-- `tool::based::flag_from` is safe and ends.
+-- Assumes nothing.
+use Prim.Native.Nat.{_-_}
+use borrow.Author.Needs.{needs}
+use Rattle.tool.proofs.based.flag_from.Statement.{statement}
+use Rattle.tool.proofs.based.flag_from.Tie as tie
+
+abbrev Inv-loop : tie.InvT-loop
+Inv-loop from count i₀ i = Unit {0}
+
+abbrev μ-loop : tie.MeasureT-loop
+μ-loop from count i₀ i = count - i
+
+loop-holds : tie.Need-loop-holds Inv-loop μ-loop
+loop-holds c = search needs
+
+is-flag-requires : tie.Need-is-flag-requires Inv-loop μ-loop
+is-flag-requires c κs = search needs
+
+returns : tie.Need-returns Inv-loop μ-loop
+returns c = search needs
+
+add-i : tie.Need-add-i Inv-loop μ-loop
+add-i c = search needs
+
+loop-less : tie.Need-loop-less Inv-loop μ-loop
+loop-less c = search needs
+
+loop-again : tie.Need-loop-again Inv-loop μ-loop
+loop-again c = search needs
+
+returns-2 : tie.Need-returns-2 Inv-loop μ-loop
+returns-2 c = search needs
+
+pub flag-from-spec : {M : Type 1} → statement M
+flag-from-spec =
+    tie.close
+    (tie.spec
+    Inv-loop
+    μ-loop
+    loop-holds
+    is-flag-requires
+    returns
+    add-i
+    loop-less
+    loop-again
+    returns-2)
