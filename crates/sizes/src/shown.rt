@@ -16,7 +16,7 @@ ghost use Rattle.sizes.specs.SizeStep.{stepAsPaper};
 ghost use Rattle.views.specs.Shown.{tableBy};
 
 // What the record of a type says. Only the words that its rule asks for are read.
-fn step_shown<'a>(base: &'a [u8], b: &'a [u8], index: &[u32], view: View, t: TypeNo) -> Step
+fn step_shown(base: &[u8], b: &[u8], index: &[u32], view: View, t: TypeNo) -> Step
     ensures { λ r. ⌜ stepAsPaper r ≡ stepIn (tableBy (now (base .entry)) (now (b .entry)) (now (index .entry)) view) (t .0) ⌝ }
 {
     let rule = size_rule(kind_at(base, b, index, view, t));
@@ -37,7 +37,7 @@ fn step_shown<'a>(base: &'a [u8], b: &'a [u8], index: &[u32], view: View, t: Typ
 }
 
 // The exact size of a type of the table that an index shows. No more records are read than it has types.
-pub fn size_in<'a>(base: &'a [u8], b: &'a [u8], index: &[u32], view: View, t: TypeNo) -> Sized
+pub fn size_in(base: &[u8], b: &[u8], index: &[u32], view: View, t: TypeNo) -> Sized
     ensures { λ r. ⌜ sizedAsPaper r ≡ answerOf (exactSize (tableBy (now (base .entry)) (now (b .entry)) (now (index .entry)) view) (t .0)) ⌝ }
 {
     let mut at = t.0;

@@ -1,7 +1,7 @@
 -- Laws of the table that an index shows: its records one by one, for any bytes and any index.
 -- Assumes nothing.
 use Prim.Native.Nat.{ℕ, zero, suc, _+_, _-_, _≤_, _<_}
-use mathlib.Core.Path.{_≡_, refl, sym, ap, _∙_}
+use mathlib.Core.Path.{_≡_, refl, sym, ap, _∙_, subst}
 use mathlib.Core.Bool.{Bool, true, false, cond}
 use mathlib.Core.List.{List, [], _∷_, _++_}
 use denote.Ref.{RefT, now, ptr}
@@ -19,7 +19,7 @@ use Rattle.paper.specs.rules.Table.{Table, count, nothing, recordAt, tailLength
 use Rattle.paper.specs.declared.Order.{Order}
 use Rattle.paper.specs.rules.Word.{firstWord, wordAt}
 use Rattle.views.specs.Shown.{outside, placeBy, within, holder, recordFrom, startIn, recordBy, recordsBy, tableBy, bytesBy}
-use Rattle.views.specs.Shown.{Starts, stringsStart, HeldAs, PartIn, ShownAs, WordOf, StringsAs}
+use Rattle.views.specs.Shown.{Starts, stringsStart, PartIn, ShownAs, WordOf, StringsAs}
 use Rattle.views.specs.declared.View.{View}
 
 -- no bytes are the record of no kind
@@ -201,22 +201,9 @@ shown-part {base} {b} {r} {index} {v} {t} p =
           ∙ bytesBy-record (now base) (now b) index v t;
     }
 
--- a reference that is one of the two is the one that holds it
-pub held-is : {base b s : RefT (List ℕ)} {v : View} {t : ℕ} → holder v t base b ≡ s → HeldAs base b v t s
-held-is e = record { bytes = ap now (sym e); place = ap {B = ℕ × ℕ} ptr (sym e) }
-
--- and a part of it is a part of the blob that holds the type
-pub shown-held : {base b s r : RefT (List ℕ)} {index : List ℕ} {v : View} {t : ℕ} → HeldAs base b v t s → PartIn s index v t r → ShownAs base b index v t r
-shown-held {base} {b} {s} {r} {index} {v} {t} h p =
-    shown-part
-    (record {
-      bytes = p .bytes ∙ ap (λ (x : List ℕ). drop (startIn x index v t) x) (h .bytes);
-      place = p .place ∙ (λ i. (h .place i .0, startIn (h .bytes i) index v t + h .place i .1));
-    })
-
--- its bytes are those of the blob that holds the type
-pub held-bytes : {base b s : RefT (List ℕ)} {v : View} {t : ℕ} → HeldAs base b v t s → holder v t (now base) (now b) ≡ now s
-held-bytes {base} {b} {s} {v} {t} h = sym (now-holder v t base b) ∙ sym (h .bytes)
+-- and so does a part of a blob that is the one that holds it
+pub shown-held : {base b s r : RefT (List ℕ)} {index : List ℕ} {v : View} {t : ℕ} → holder v t base b ≡ s → PartIn s index v t r → ShownAs base b index v t r
+shown-held {base} {b} {s} {r} {index} {v} {t} e p = shown-part (subst (λ (x : RefT (List ℕ)). PartIn x index v t r) (sym e) p)
 
 -- ── a word of it ──
 
@@ -239,8 +226,11 @@ module _ (base b index : List ℕ) (v : View) {t at : ℕ} where
   unfolding bytesBy
   word-outside e = word-is (start-none (holder v t base b) index v t e) (word-none (v .order) at)
 
-  pub word-void : t ≡ 0 → WordOf base b index v t at 0
-  word-void e = word-outside (outside-void v e)
+  -- by a part of the blob that holds it
+  pub word-part-of : {s p : RefT (List ℕ)} {r : ℕ} → holder v t base b ≡ now s → PartIn s index v t p → r ≡ wordAt (v .order) (now p) at
+      → WordOf base b index v t at r
+  unfolding bytesBy
+  word-part-of e p d = word-is (p .bytes ∙ ap (λ (x : List ℕ). drop (startIn x index v t) x) (sym e)) d
 
   module _ (low : t ≡ 0 → ⊥) where
     pub word-above : v .n < t → WordOf base b index v t at 0

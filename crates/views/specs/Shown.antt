@@ -65,11 +65,6 @@ pub record Starts (s index : List ℕ) (v : View) (t from : ℕ) : Type 0 where
 unfoldable pub stringsStart : List ℕ → ℕ
 stringsStart b = within b (headerLength + typeLen b)
 
--- a reference to the whole of the blob that holds a type's record
-pub record HeldAs (base b : RefT (List ℕ)) (v : View) (t : ℕ) (r : RefT (List ℕ)) : Type 0 where
-  pub bytes : now r ≡ now (holder v t base b)
-  pub place : ptr r ≡ ptr (holder v t base b)
-
 -- a reference to the bytes of one blob from a type's record on: the very place that it points to
 pub record PartIn (s : RefT (List ℕ)) (index : List ℕ) (v : View) (t : ℕ) (r : RefT (List ℕ)) : Type 0 where
   pub bytes : now r ≡ drop (startIn (now s) index v t) (now s)

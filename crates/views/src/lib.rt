@@ -8,7 +8,7 @@ ghost use mathlib.Core.Path.{_≡_};
 ghost use lib.ListN.{drop};
 ghost use Rattle.paper.specs.rules.Table.{kindAt};
 ghost use Rattle.paper.specs.rules.Word.{wordAt};
-ghost use Rattle.views.specs.Shown.{HeldAs, PartIn, ShownAs, Starts, StringsAs, WordOf, placeBy, tableBy};
+ghost use Rattle.views.specs.Shown.{PartIn, ShownAs, Starts, StringsAs, WordOf, placeBy, tableBy};
 
 // How a table is looked at: how many types its index shows, the byte order of their words, and how many of the types stand in the base.
 pub struct View {
@@ -68,21 +68,15 @@ fn part_in<'a>(s: &'a [u8], index: &[u32], view: View, t: TypeNo) -> &'a [u8]
     &s[from..]
 }
 
-// The blob that holds a type's record: a choice of two references, which costs no branch and is made once for all words of a record.
-fn held<'a>(base: &'a [u8], b: &'a [u8], view: View, t: TypeNo) -> &'a [u8]
-    ensures { λ r. ⌜ HeldAs (base .entry) (b .entry) view (t .0) r ⌝ }
-{
-    if t.0 <= view.before {
-        return base;
-    }
-    b
-}
-
 // The bytes from a type's record on; none for void and for a number above n, which read as the record of no kind.
 pub fn record_of<'a>(base: &'a [u8], b: &'a [u8], index: &[u32], view: View, t: TypeNo) -> &'a [u8]
     ensures { λ r. ⌜ ShownAs (base .entry) (b .entry) (now (index .entry)) view (t .0) r ⌝ }
 {
-    part_in(held(base, b, view, t), index, view, t)
+    if t.0 <= view.before {
+        return part_in(base, index, view, t);
+    }
+    let from = start_in(b, index, view, t);
+    &b[from..]
 }
 
 // The word at a place behind a place of a blob; 0 where it is not there.
@@ -96,21 +90,16 @@ fn word_from(s: &[u8], from: usize, order: Order, at: Place) -> u32
 }
 
 // The word at a place of a type's record; 0 where there is no such record, or no such word. By branches alone, so that in a chain of types
-// the next load need not wait for the test of a place: the walks to a base and to a size read words, not the bytes of a record.
-pub fn word_of<'a>(
-    base: &'a [u8],
-    b: &'a [u8],
-    index: &[u32],
-    view: View,
-    t: TypeNo,
-    at: Place,
-) -> u32
+// the next load need not wait for a choice: the walks to a base and to a size read words, not the bytes of a record. Void is told by the
+// test for the base, so that a table that stands alone pays for no test more.
+pub fn word_of(base: &[u8], b: &[u8], index: &[u32], view: View, t: TypeNo, at: Place) -> u32
     ensures { λ r. ⌜ WordOf (now (base .entry)) (now (b .entry)) (now (index .entry)) view (t .0) (at .0) r ⌝ }
 {
-    let k = t.0;
-    if k == 0 {
-        return 0;
+    let order = view.order;
+    if t.0 <= view.before {
+        return words::read(order, part_in(base, index, view, t), at);
     }
+    let k = t.0;
     let n = view.n;
     if n < k {
         return 0;
@@ -120,12 +109,11 @@ pub fn word_of<'a>(
         return 0;
     }
     let p = index[i] as usize;
-    let order = view.order;
-    word_from(held(base, b, view, t), p, order, at)
+    word_from(b, p, order, at)
 }
 
 // The kind of a type; 0 for void and for a number above n.
-pub fn kind_at<'a>(base: &'a [u8], b: &'a [u8], index: &[u32], view: View, t: TypeNo) -> u32
+pub fn kind_at(base: &[u8], b: &[u8], index: &[u32], view: View, t: TypeNo) -> u32
     ensures { λ r. ⌜ r ≡ kindAt (tableBy (now (base .entry)) (now (b .entry)) (now (index .entry)) view) (t .0) ⌝ }
 {
     kind_of(word_of(base, b, index, view, t, Place(4)))
