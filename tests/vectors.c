@@ -81,12 +81,28 @@ static int agrees(void) {
         scrieve_member(a, h[6], index_, h[1], work, h[2], h[4], h[5], b, h[7], answer, 5, value, sizeof value);
         part = sum_bytes(value, sizeof value);
         break;
+    case 9: scrieve_check_leaning(a, h[6], b, h[7], index_, h[1], work, h[2], answer, 4); break;
+    case 10: {
+        /* b is the module and then the index, whose places the field for an output counts; nothing is lent */
+        size_t from = h[7] < 4 * h[3] ? 0 : h[7] - 4 * h[3], n = (h[7] - from) / 4;
+        for (size_t i = 0; i < n; i++) given[i] = word(b + from + 4 * i);
+        scrieve_size_leaning(a, h[6], h[5], b, from, given, n, h[4], answer, 4);
+        h[1] = h[2] = h[3] = 0;
+        break;
+    }
+    case 11:
+        /* the archive tells which blob holds the part, and whether there is one */
+        scrieve_name_leaning(a, h[6], b, h[7], h[4], answer, 4);
+        part = sum_bytes((answer[1] ? b : a) + answer[2], answer[3]);
+        answer[0] = answer[1] = answer[2] = 0;
+        h[1] = h[2] = 0;
+        break;
     default: return 0;
     }
     memcpy(seen, answer, 4 * sizeof *answer);
     seen[4] = sum_places(index_, h[1]);
     seen[5] = sum_places(work, h[2]);
-    seen[6] = h[0] == 3 || h[0] == 5 ? part : sum_bytes(out, h[3]);
+    seen[6] = h[0] == 3 || h[0] == 5 || h[0] == 11 ? part : sum_bytes(out, h[3]);
     return memcmp(seen, must, sizeof seen) == 0;
 }
 
