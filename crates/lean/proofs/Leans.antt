@@ -120,7 +120,7 @@ module _ (base own : List ℕ) (places work : ℕ) where
   -- ── behind the base ──
 
   module _ {n : ℕ} {index : List ℕ} (a : AfterBase base own n index places work) where
-    few : n ≤ typeLimit
+    pub few : n ≤ typeLimit
     few = omega (arith, a .counted, accepted-meets base places work (a .accepted) .readable .section .few-found)
 
     -- phases 1 and 2 and the places lent, as `scan_behind` says them

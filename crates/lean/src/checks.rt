@@ -21,10 +21,11 @@ fn behind<'a>(base: &'a [u8], own: &'a [u8], n: u32, index: &mut [u32], work: &m
         Scanned::Refused(r) => Leaned::Refused(r),
         Scanned::Counted(m) => {
             let order = words::order_of(own);
+            let before = n as u16;
             let view = View {
                 n: m,
+                before,
                 order,
-                before: n,
             };
             match judge(base, own, index, view, work) {
                 Said::Nothing => Leaned::Accepted(m),

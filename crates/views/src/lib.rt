@@ -13,8 +13,8 @@ ghost use Rattle.views.specs.Shown.{PartIn, ShownAs, Starts, StringsAs, 
 // How a table is looked at: how many types its index shows, the byte order of their words, and how many of the types stand in the base.
 pub struct View {
     pub n: u32,
+    pub before: u16,
     pub order: Order,
-    pub before: u32,
 }
 
 // Where a type's record begins in a blob; the blob's end where the index or the blob has no such place.
@@ -72,7 +72,7 @@ fn part_in<'a>(s: &'a [u8], index: &[u32], view: View, t: TypeNo) -> &'a [u8]
 pub fn record_of<'a>(base: &'a [u8], b: &'a [u8], index: &[u32], view: View, t: TypeNo) -> &'a [u8]
     ensures { λ r. ⌜ ShownAs (base .entry) (b .entry) (now (index .entry)) view (t .0) r ⌝ }
 {
-    if t.0 <= view.before {
+    if t.0 <= view.before as u32 {
         return part_in(base, index, view, t);
     }
     let from = start_in(b, index, view, t);
@@ -96,7 +96,7 @@ pub fn word_of(base: &[u8], b: &[u8], index: &[u32], view: View, t: TypeNo, at: 
     ensures { λ r. ⌜ WordOf (now (base .entry)) (now (b .entry)) (now (index .entry)) view (t .0) (at .0) r ⌝ }
 {
     let order = view.order;
-    if t.0 <= view.before {
+    if t.0 <= view.before as u32 {
         return words::read(order, part_in(base, index, view, t), at);
     }
     let k = t.0;

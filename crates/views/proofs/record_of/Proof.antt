@@ -10,6 +10,9 @@ use borrow.Author.Needs.{needs}
 use Rattle.views.proofs.record_of.Statement.{statement}
 use Rattle.views.proofs.record_of.Tie as tie
 
+cast-if1 : tie.Need-cast-if1
+cast-if1 c = search needs
+
 part-in-requires : tie.Need-part-in-requires
 part-in-requires c κs = search needs
 
@@ -45,6 +48,7 @@ pub record-of-spec : {M : Type 1} → statement M
 record-of-spec =
     tie.close
     (tie.spec
+    cast-if1
     part-in-requires
     returns
     start-in-requires

@@ -6,6 +6,9 @@ use borrow.Author.Needs.{needs}
 use Rattle.views.proofs.word_of.Statement.{statement}
 use Rattle.views.proofs.word_of.Tie as tie
 
+cast-if1 : tie.Need-cast-if1
+cast-if1 c = search needs
+
 part-in-requires : tie.Need-part-in-requires
 part-in-requires c κs = search needs
 
@@ -50,6 +53,7 @@ pub word-of-spec : {M : Type 1} → statement M
 word-of-spec =
     tie.close
     (tie.spec
+    cast-if1
     part-in-requires
     read-requires
     returns

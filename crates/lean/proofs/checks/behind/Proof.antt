@@ -1,8 +1,9 @@
 -- `lean::checks::behind` meets its contract: what `scan_behind` refuses is refused, and what it counts is judged over both.
 -- Assumes nothing.
 use mathlib.Core.Path.{refl, ap, _∙_}
+use native.Mathlib.Omega.{arith}
 use denote.Ref.{now}
-use Rattle.lean.proofs.Leans.{scan-refused, pair-accepted, pair-refused}
+use Rattle.lean.proofs.Leans.{few, scan-refused, pair-accepted, pair-refused}
 use Rattle.paper.proofs.bytes.Bytes.{slice-bytes}
 use Rattle.paper.specs.rules.Gate.{zeros}
 use borrow.Author.Needs.{needs}
@@ -20,6 +21,11 @@ enum-known-m c = search needs
 
 order-of-requires : tie.Need-order-of-requires
 order-of-requires c κs = search needs
+
+cast-before : tie.Need-cast-before
+cast-before c =
+    let a = c .before .before .before .before .before .before .before .before .before .before .before .before in
+    omega (arith, few (now (a .args .base)) (now (a .args .own)) _ _ (a .pre))
 
 judge-requires : tie.Need-judge-requires
 judge-requires c κs = search needs
@@ -84,6 +90,7 @@ behind-spec =
     enum-known-r
     enum-known-m
     order-of-requires
+    cast-before
     judge-requires
     enum-told
     enum-known-r-2
