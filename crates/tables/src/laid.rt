@@ -8,6 +8,7 @@ use files::READ_LIMIT;
 use files::Status;
 use files::read_file;
 use lean::check_leaning;
+use paper::Checked;
 use paper::FULL_PLACES;
 use paper::Leaned;
 use scan::Scanned;
@@ -48,6 +49,14 @@ fn count(base: &[u8], index: &mut [u32]) -> u32 {
     }
 }
 
+// A table is accepted by itself.
+fn stands(own: &[u8], index: &mut [u32], work: &mut [u32]) -> bool {
+    match gate::check(own, index, work) {
+        Checked::Accepted(_) => true,
+        Checked::Refused(_) => false,
+    }
+}
+
 // Both are checked, and laid into one table where they are accepted.
 fn lay_both<'a>(
     is_all: bool,
@@ -63,8 +72,19 @@ fn lay_both<'a>(
         Leaned::BaseRefused(r) => { Laid::Ended(base_refused(file, base_file, base, of_report(r))) }
         Leaned::OrdersDiffer => Laid::Ended(turned(file, base)),
         Leaned::Refused(r) => {
+            let is_alone = stands(own, index, work);
             let n = count(base, index);
-            Laid::Ended(refused_behind(is_all, file, base, own, n, both, index, of_report(r)))
+            Laid::Ended(refused_behind(
+                is_all,
+                file,
+                base,
+                own,
+                n,
+                is_alone,
+                both,
+                index,
+                of_report(r),
+            ))
         }
         Leaned::Accepted(_) => {
             let n = count(base, index);

@@ -90,6 +90,18 @@ fn in_both(told: Numbers, base: &[u8]) -> Numbers {
     }
 }
 
+// That a table refused behind a base is accepted without it: the call is wrong rather than the table.
+fn put_alone(buf: &mut [u8; ROOM], o: Out, is_alone: bool) -> Out {
+    if is_alone {
+        return put(
+            buf,
+            o,
+            b"    by itself the table is accepted: it stands alone, and is asked of without --base\n",
+        );
+    }
+    o
+}
+
 // A table that is refused behind a base of so many types. Reports 1 to 5 are about its own header, all others about records that can
 // refer to both.
 pub(crate) fn refused_behind(
@@ -98,6 +110,7 @@ pub(crate) fn refused_behind(
     base: &[u8],
     own: &[u8],
     first: u32,
+    is_alone: bool,
     both: &mut [u8; READ_LIMIT],
     index: &mut [u32],
     told: Numbers,
@@ -110,11 +123,13 @@ pub(crate) fn refused_behind(
     );
     if told.number <= 5 {
         let o = put_refused(&mut buf, o, file, own, told);
+        let o = put_alone(&mut buf, o, is_alone);
         return end(&mut buf, o, Status::Refused);
     }
     let n = stand(base, own, both);
     let blob = first_of(both, n);
     let o = put_refused(&mut buf, o, file, blob, in_both(told, base));
+    let o = put_alone(&mut buf, o, is_alone);
     let o = put_before(&mut buf, o, is_all, blob, index, first, told.t);
     end(&mut buf, o, Status::Refused)
 }
