@@ -20,18 +20,21 @@ pub enum Said {
     Says(Report),
 }
 
-// What phase 3 says of one type.
-fn heads_at<'a>(base: &'a [u8], b: &'a [u8], index: &[u32], view: View, t: TypeNo) -> Said
-    ensures { λ r. ⌜ saidAsPaper r ≡ namingAt (t .0) (placeBy (now (index .entry)) view (t .0)) (firstDue (phase3By (stringsIn (now (base .entry))) (stringsIn (now (b .entry))) (tableBy (now (base .entry)) (now (b .entry)) (now (index .entry)) view) (t .0))) ⌝ }
+// What phase 3 says of one type, with both string sections.
+fn heads_at<'a>(
+    base: &'a [u8],
+    b: &'a [u8],
+    index: &[u32],
+    view: View,
+    before: &'a [u8],
+    strings: &'a [u8],
+    t: TypeNo,
+) -> Said
+    ensures { λ r. ⌜ saidAsPaper r ≡ namingAt (t .0) (placeBy (now (index .entry)) view (t .0)) (firstDue (phase3By (now (before .entry)) (now (strings .entry)) (tableBy (now (base .entry)) (now (b .entry)) (now (index .entry)) view) (t .0))) ⌝ }
 {
     let at = place_of(index, view, t);
     let order = view.order;
-    match rules::phase3(
-        order,
-        record_of(base, b, index, view, t),
-        strings_in(base),
-        strings_in(b),
-    ) {
+    match rules::phase3(order, record_of(base, b, index, view, t), before, strings) {
         Due::Nothing => Said::Nothing,
         Due::Head => Said::Says(Report::Head(t, at)),
         Due::Named => Said::Says(Report::Named(t, at)),
@@ -53,11 +56,13 @@ fn layout_at<'a>(base: &'a [u8], b: &'a [u8], index: &[u32], view: View, t: Type
 pub(crate) fn third<'a>(base: &'a [u8], b: &'a [u8], index: &[u32], view: View) -> Said
     ensures { λ r. ⌜ saidAsPaper r ≡ overShown (now (base .entry)) (now (b .entry)) (now (index .entry)) view (phase3By (stringsIn (now (base .entry))) (stringsIn (now (b .entry)))) ⌝ }
 {
+    let before = strings_in(base);
+    let strings = strings_in(b);
     let n = view.n;
     let mut t: u32 = 0;
     while t < n {
         t += 1;
-        let said = heads_at(base, b, index, view, TypeNo(t));
+        let said = heads_at(base, b, index, view, before, strings, TypeNo(t));
         match said {
             Said::Nothing => {}
             Said::Says(_) => return said,

@@ -1,12 +1,11 @@
 -- `phases::types::heads_at` meets its contract: the number that is due of the type's record.
 -- Assumes nothing.
-use mathlib.Core.Path.{_≡_, sym, ap, _∙_}
+use mathlib.Core.Path.{_≡_, refl, sym, ap, _∙_}
 use denote.Ref.{now}
 use Rattle.phases.proofs.TypeDues.{heads-due}
 use Rattle.paper.specs.rules.Answer.{reportAsPaper}
 use Rattle.paper.specs.rules.Choice.{firstDue}
 use Rattle.paper.specs.rules.Gate.{namingAt}
-use Rattle.paper.specs.rules.Header.{stringsIn}
 use Rattle.phases.specs.Said.{phase3By}
 use Rattle.views.specs.Shown.{placeBy, tableBy}
 use Rattle.rules.specs.Phase.{dueAsPaper}
@@ -16,29 +15,23 @@ use Rattle.phases.proofs.types.heads_at.Statement.{statement}
 use Rattle.phases.proofs.types.heads_at.Tie as tie
 
 -- what phase 3 said of the record is what it says of the type
-due : (c : tie.After-phase3) (d : Due) → let at = c .before .before .before .before in let a = at .before .before .before .before .args in
+due : (c : tie.After-phase3) (d : Due) → let at = c .before .before in let a = at .before .before .before .before .before .before .args in
     let T = tableBy (now (a .base)) (now (a .b)) (now (a .index)) (a .view) in
     c .phase3 .result ≡ d
     → namingAt (a .t .0) (at .place-of .result .0) (dueAsPaper d)
-    ≡ namingAt (a .t .0) (placeBy (now (a .index)) (a .view) (a .t .0)) (firstDue (phase3By (stringsIn (now (a .base))) (stringsIn (now (a .b))) T (a .t .0)))
+    ≡ namingAt (a .t .0) (placeBy (now (a .index)) (a .view) (a .t .0)) (firstDue (phase3By (now (a .before)) (now (a .strings)) T (a .t .0)))
 due c d e =
-    let at = c .before .before .before .before in
-    let a = at .before .before .before .before .args in
+    let at = c .before .before in
+    let a = at .before .before .before .before .before .before .args in
     ap (λ (d : Due). namingAt (a .t .0) (at .place-of .result .0) (dueAsPaper d)) (sym e)
     ∙ heads-due (tableBy (now (a .base)) (now (a .b)) (now (a .index)) (a .view)) (a .t .0) (c .phase3 .result) (c .phase3 .ensures)
-    (c .before .before .strings-in .ensures .bytes) (c .before .strings-in2 .ensures .bytes) (c .before .before .before .record-of .ensures .shows) (at .place-of .ensures)
+    refl refl (c .before .record-of .ensures .shows) (at .place-of .ensures)
 
 place-of-requires : tie.Need-place-of-requires
 place-of-requires c κs = search needs
 
 record-of-requires : tie.Need-record-of-requires
 record-of-requires c κs = search needs
-
-strings-in-requires : tie.Need-strings-in-requires
-strings-in-requires c κs = search needs
-
-strings-in-requires-2 : tie.Need-strings-in-requires-2
-strings-in-requires-2 c κs = search needs
 
 phase3-requires : tie.Need-phase3-requires
 phase3-requires c κs = search needs
@@ -76,8 +69,6 @@ heads-at-spec =
     (tie.spec
     place-of-requires
     record-of-requires
-    strings-in-requires
-    strings-in-requires-2
     phase3-requires
     enum-told
     enum-told-2
