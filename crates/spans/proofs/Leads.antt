@@ -1,7 +1,7 @@
 -- Laws of bases as code follows them: what is left of the way to a base.
 -- Assumes nothing.
-use Prim.Native.Nat.{ℕ, suc, _-_, _<_, _≤_}
-use mathlib.Core.Path.{_≡_, sym, ap, _∙_}
+use Prim.Native.Nat.{ℕ, zero, suc, _-_, _<_, _≤_}
+use mathlib.Core.Path.{_≡_, refl, sym, ap, _∙_}
 use mathlib.Core.Bool.{Bool, true, false, not, cond}
 use mathlib.Core.List.{List}
 use native.Mathlib.Omega.{arith}
@@ -46,3 +46,12 @@ module _ {T : Table} {n t left at : ℕ} (now : Leading T n t left at) where
 pub base-found : (T : Table) (t : ℕ) {n u : ℕ} → n ≡ count T → u ≡ baseFrom T n t → {r : Record} → r ≡ recordAt T u → r ≡ baseOf T t
 unfolding baseOf
 base-found T t counted e d = d ∙ ap (recordAt T) (e ∙ ap (λ (k : ℕ). baseFrom T k t) counted)
+
+-- what is no alias is its own base, with however many steps
+pub base-own : (T : Table) (t : ℕ) {k : ℕ} {a : Bool} → k ≡ kindAt T t → a ≡ isAlias k → not a ≡ true → {r : Record} → r ≡ recordAt T t → r ≡ baseOf T t
+unfolding baseOf
+base-own T t {k} {a} kind test e d = d ∙ ap (recordAt T) (sym (stays (count T)))
+  where
+    stays : (n : ℕ) → baseFrom T n t ≡ t
+    stays zero = refl
+    stays (suc n) = ap (λ (b : Bool). cond b (baseFrom T n (recordAt T t .third)) t) (sym (test ∙ ap isAlias kind) ∙ not-true a e)

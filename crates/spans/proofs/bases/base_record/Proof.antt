@@ -1,81 +1,37 @@
--- `spans::bases::base_record` meets its contract. The loop's invariant: what is left of the way leads to the base.
+-- `spans::bases::base_record` meets its contract: its own base, or what the aliases lead to.
 -- Assumes nothing.
-use mathlib.Core.Path.{refl, sym}
-use native.Mathlib.Omega.{arith}
-use Rattle.views.proofs.Shows.{tableBy-count}
-use Rattle.views.specs.Shown.{tableBy}
-use Rattle.spans.proofs.Leads.{Leading, leading-done, leading-stop, leading-next, base-found}
+use Rattle.rows.proofs.RecordWords.{kind-read}
+use Rattle.spans.proofs.Leads.{base-own}
 use borrow.Author.Needs.{needs}
 use Rattle.spans.proofs.bases.base_record.Statement.{statement}
 use Rattle.spans.proofs.bases.base_record.Tie as tie
 
-abbrev Inv-loop : tie.InvT-loop
-Inv-loop base b index view at₀ left₀ at left = Leading (tableBy base b index view) (view .n) at₀ left at
-
-abbrev μ-loop : tie.MeasureT-loop
-μ-loop base b index view at₀ left₀ at left = left
-
-loop-holds : tie.Need-loop-holds Inv-loop μ-loop
-loop-holds c = record { rest = refl }
-
-kind-at-requires : tie.Need-kind-at-requires Inv-loop μ-loop
-kind-at-requires c κs = search needs
-
-is-alias-requires : tie.Need-is-alias-requires Inv-loop μ-loop
-is-alias-requires c κs = search needs
-
-record-of-requires : tie.Need-record-of-requires Inv-loop μ-loop
+record-of-requires : tie.Need-record-of-requires
 record-of-requires c κs = search needs
 
-returns : tie.Need-returns Inv-loop μ-loop
+read-requires : tie.Need-read-requires
+read-requires c κs = search needs
+
+kind-of-requires : tie.Need-kind-of-requires
+kind-of-requires c κs = search needs
+
+is-alias-requires : tie.Need-is-alias-requires
+is-alias-requires c κs = search needs
+
+returns : tie.Need-returns
 returns c =
-    let a = c .before .before in
+    let a = c .before in
     let k = a .before in
-    let l = k .before .before in
-    base-found _ _ (sym (tableBy-count _ _ _ _))
-    (leading-stop (l .loop .inv) (omega (arith, k .before .loop-test .taken)) (k .kind-at .ensures) (a .is-alias .ensures) (c .before .if1 .taken))
-    (c .record-of .ensures .shows)
+    let own = k .before .before .record-of .ensures .shows in
+    base-own _ _ (kind-read _ _ own (k .before .read .ensures) (k .kind-of .ensures)) (a .is-alias .ensures) (c .if1 .taken) own
 
-word-of-requires : tie.Need-word-of-requires Inv-loop μ-loop
-word-of-requires c κs = search needs
+base-along-requires : tie.Need-base-along-requires
+base-along-requires c κs = search needs
 
-sub-left : tie.Need-sub-left Inv-loop μ-loop
-sub-left c = omega arith
-
-loop-less : tie.Need-loop-less Inv-loop μ-loop
-loop-less c = omega arith
-
-loop-again : tie.Need-loop-again Inv-loop μ-loop
-loop-again c =
-    let e = c .before in
-    let a = e .before in
-    let k = a .before in
-    let l = k .before .before in
-    leading-next (l .loop .inv) (omega (arith, k .before .loop-test .taken)) (k .kind-at .ensures) (a .is-alias .ensures) (e .if1 .left) _ _
-    (c .word-of .ensures .shows) (c .word-of .ensures .says)
-
-record-of-requires-2 : tie.Need-record-of-requires-2 Inv-loop μ-loop
-record-of-requires-2 c κs = search needs
-
-returns-2 : tie.Need-returns-2 Inv-loop μ-loop
-returns-2 c =
-    let l = c .before in
-    base-found _ _ (sym (tableBy-count _ _ _ _)) (leading-done (l .before .loop .inv) (l .loop-test .left)) (c .record-of2 .ensures .shows)
+returns-2 : tie.Need-returns-2
+returns-2 c = search needs
 
 pub base-record-spec : {M : Type 1} → statement M
 base-record-spec =
     tie.close
-    (tie.spec
-    Inv-loop
-    μ-loop
-    loop-holds
-    kind-at-requires
-    is-alias-requires
-    record-of-requires
-    returns
-    word-of-requires
-    sub-left
-    loop-less
-    loop-again
-    record-of-requires-2
-    returns-2)
+    (tie.spec record-of-requires read-requires kind-of-requires is-alias-requires returns base-along-requires returns-2)
