@@ -1,24 +1,17 @@
 //! Generated cases of ops 9 to 11 have every answer and many shapes, and their
 //! place in a file.
 
+mod common;
+
+use common::{wanted, where_names_lie};
 use second::check::judge;
 use second::generate::{cases, cases_then, Behind, Scale, Wanted};
 use second::lean::judge_leaning;
 use second::order::Order;
 use second::reference::references;
 use second::table::Kind;
-use second::vectors::{run, told_name, Case, LEANING, LEANING_NAME, LEANING_SIZE};
+use second::vectors::{run, Case, LEANING, LEANING_NAME, LEANING_SIZE};
 use std::collections::BTreeSet;
-
-fn wanted(op: u32, seed: u64, cases: usize) -> Wanted {
-    Wanted {
-        seed,
-        cases,
-        ops: vec![op],
-        scale: Scale::Small,
-        ..Wanted::default()
-    }
-}
 
 #[test]
 fn every_answer_is_common() {
@@ -44,17 +37,6 @@ fn every_answer_is_common() {
     }
     let counts = where_names_lie(&cases(&wanted(LEANING_NAME, 3, 3_000)));
     assert!(counts.iter().all(|count| *count > 500), "{counts:?}");
-}
-
-/// How many names lie in the base, in the module and nowhere.
-fn where_names_lie(found: &[Case]) -> [usize; 3] {
-    let lies = [[0, 0], [0, 1], [1, 0]];
-    lies.map(|lie| {
-        found
-            .iter()
-            .filter(|case| told_name(case)[..2] == lie)
-            .count()
-    })
 }
 
 /// Of each op as many in one order as in the other; sizes of two orders too.

@@ -1,21 +1,14 @@
 //! The fixed cases of ops 9 to 11: the answers of each part, and of the large
 //! pairs.
 
-use second::changed::changed;
-use second::generate::{cases, edges, large_leaning, Scale, Wanted};
-use second::order::Order;
-use second::vectors::{file, run, told_name, Case, LEANING, LEANING_NAME, LEANING_SIZE};
-use std::collections::{BTreeSet, HashSet};
+mod common;
 
-fn wanted(op: u32, seed: u64, cases: usize) -> Wanted {
-    Wanted {
-        seed,
-        cases,
-        ops: vec![op],
-        scale: Scale::Small,
-        ..Wanted::default()
-    }
-}
+use common::{wanted, where_names_lie};
+use second::changed::changed;
+use second::generate::{cases, edges, large_leaning, Wanted};
+use second::order::Order;
+use second::vectors::{file, run, Case, LEANING, LEANING_NAME, LEANING_SIZE};
+use std::collections::{BTreeSet, HashSet};
 
 fn numbers(found: &[Case]) -> BTreeSet<u32> {
     found.iter().map(|case| run(case).number).collect()
@@ -106,17 +99,6 @@ fn parts_of_the_questions() {
             "{name}: {counts:?}"
         );
     }
-}
-
-/// How many names lie in the base, in the module and nowhere.
-fn where_names_lie(found: &[Case]) -> [usize; 3] {
-    let lies = [[0, 0], [0, 1], [1, 0]];
-    lies.map(|lie| {
-        found
-            .iter()
-            .filter(|case| told_name(case)[..2] == lie)
-            .count()
-    })
 }
 
 /// By hand: what the limits say of the fixed large pairs.

@@ -1,6 +1,9 @@
 //! The cases of reading a member: fixed ones have every span, generated ones
 //! every answer.
 
+mod common;
+
+use common::wanted;
 use second::changed::changed;
 use second::check::judge;
 use second::generate::{cases, cases_then, edges, Behind, Scale, Wanted};
@@ -10,21 +13,11 @@ use second::table::Kind;
 use second::vectors::{file, run, Case, MEMBER};
 use std::collections::HashSet;
 
-fn wanted(seed: u64, cases: usize) -> Wanted {
-    Wanted {
-        seed,
-        cases,
-        ops: vec![MEMBER],
-        scale: Scale::Small,
-        ..Wanted::default()
-    }
-}
-
 fn fixed(thin: bool) -> Vec<Case> {
     cases(&Wanted {
         edges: true,
         thin,
-        ..wanted(0, 0)
+        ..wanted(MEMBER, 0, 0)
     })
 }
 
@@ -90,7 +83,7 @@ fn by_shifts(record: &[u8], first: u32, bits: u32, signed: bool) -> [u8; 16] {
 #[test]
 fn values_by_shifts() {
     let mut read = 0;
-    for case in fixed(false).iter().chain(&cases(&wanted(8, 8_000))) {
+    for case in fixed(false).iter().chain(&cases(&wanted(MEMBER, 8, 8_000))) {
         let seen = run(case);
         if seen.number <= 2 {
             let value = by_shifts(&case.b, seen.t, seen.p, is_signed(case));
@@ -147,7 +140,7 @@ fn every_answer_is_common() {
     ] {
         let found = cases(&Wanted {
             scale,
-            ..wanted(3, count)
+            ..wanted(MEMBER, 3, count)
         });
         assert_eq!(found.len(), count);
         for number in [0, 1, 2, 21, 30, 31, 32, 33, 34, 35] {
@@ -172,7 +165,7 @@ fn members_behind_the_others() {
             ops: vec![1, 2, 3, 4],
             edges: true,
             thin: true,
-            ..wanted(1, 50)
+            ..wanted(MEMBER, 1, 50)
         };
         match members {
             None => cases(&wanted),

@@ -1,8 +1,10 @@
 //! Short calls for the tests.
 #![allow(dead_code)]
 
+use second::generate::{Scale, Wanted};
 use second::limits::{BYTE_LIMIT, FULL_PLACES};
 use second::make::Make;
+use second::vectors::{told_name, Case};
 use second::{LeaningRefusal, Report, SizeAnswer};
 
 /// Checks with the most places a table can need.
@@ -86,4 +88,26 @@ pub fn accepted_at(base: &Make, module: &Make) -> Vec<u32> {
 pub fn refused_by(number: u32, type_number: u32, place: u32) -> Result<u32, LeaningRefusal> {
     let report = Report::new(number, type_number, place);
     Err(LeaningRefusal::Module(report))
+}
+
+/// So many small cases of one op.
+pub fn wanted(op: u32, seed: u64, cases: usize) -> Wanted {
+    Wanted {
+        seed,
+        cases,
+        ops: vec![op],
+        scale: Scale::Small,
+        ..Wanted::default()
+    }
+}
+
+/// How many names lie in the base, in the module and nowhere.
+pub fn where_names_lie(found: &[Case]) -> [usize; 3] {
+    let lies = [[0, 0], [0, 1], [1, 0]];
+    lies.map(|lie| {
+        found
+            .iter()
+            .filter(|case| told_name(case)[..2] == lie)
+            .count()
+    })
 }
