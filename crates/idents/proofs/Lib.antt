@@ -1,3 +1,4 @@
 pub mod Runs
+pub mod Passes
 pub mod Sets
 pub mod NameTests

@@ -13,9 +13,9 @@ use lib.Seq.{drop-cons}
 use Rattle.paper.proofs.basics.Choices.{or-nothing}
 use Rattle.paper.specs.rules.Choice.{every, isEmpty, isSome}
 use Rattle.paper.specs.rules.Name.{untilZero, nameIn, between, isDigit, isLetter, identifierLength, isSectionName}
-use Rattle.idents.specs.Spelling.{runs, runLength}
+use Rattle.idents.specs.Spelling.{identifierByte, runs, runLength}
 use Rattle.idents.proofs.Runs.{runLength-runs}
-use Rattle.idents.proofs.Sets.{identifierByte, between-past}
+use Rattle.idents.proofs.Sets.{between-past}
 
 and-swap : (a b : Bool) → a && b ≡ b && a
 and-swap true true = refl

@@ -2,21 +2,18 @@
 -- Assumes nothing.
 use Prim.Native.Nat.{ℕ, zero, suc, _/_, _%_, _^_, _<_, _≤_}
 use mathlib.Core.Path.{_≡_, refl, sym, ap, _∙_}
-use mathlib.Core.Bool.{Bool, true, false, not, _&&_, _||_}
+use mathlib.Core.Bool.{Bool, true, false, not, _&&_, _||_, false≢true}
 use mathlib.Core.Option.{Option}
 use mathlib.Core.List.{List}
 use native.Mathlib.Nat.{zero-div, not-suc-le-zero}
 use native.Mathlib.Omega.{arith}
-use borrow.Author.Tests.{ne-eqb, lt-leb, eqb-true, eqb-false, leb-true, leb-false}
+use borrow.Author.Tests.{ne-eqb, lt-leb, eqb-true, eqb-false, leb-true, leb-false, not-true}
+use lib.Bits.{bitOr}
 use lib.Dec.{eqb, leb}
 use lib.ListN.{length, List·getD-eq-default}
 use Rattle.paper.proofs.basics.Choices.{and-left, and-right, and-false}
 use Rattle.paper.specs.rules.Name.{between, isDigit, isLetter}
-use Rattle.idents.specs.Spelling.{among, runLength}
-
--- a byte of an identifier, as its definition says it
-abbrev pub identifierByte : ℕ → Bool
-identifierByte c = isLetter c || isDigit c
+use Rattle.idents.specs.Spelling.{Names, among, identifierByte, runLength}
 
 -- ── every byte ──
 
@@ -46,6 +43,14 @@ below-at f (suc n) e c h = go (eqb c n) refl (below-at f n (and-right (f n) (bel
 abbrev pub Bits : List ℕ → (ℕ → Bool) → Type 0
 Bits set f = leb (length set) 4 && below (λ (c : ℕ). agree (among set c) (f c)) 256 ≡ true
 
+-- what the code compares instead: the bit of 32 makes a letter small
+abbrev compared : ℕ → Bool
+compared c = (leb 97 (bitOr c 32) && leb (bitOr c 32) 122) || (leb 48 c && leb c 57) || eqb c 95
+
+pub compared-is : (c : ℕ) → c < 256 → compared c ≡ identifierByte c
+unfolding isLetter isDigit
+compared-is c h = agree-is (compared c) (identifierByte c) (below-at (λ (d : ℕ). agree (compared d) (identifierByte d)) 256 refl c h)
+
 -- ── no number above a byte ──
 
 among-past : (set : List ℕ) (c : ℕ) → length set ≤ 4 → 256 ≤ c → among set c ≡ false
@@ -68,6 +73,27 @@ word-past c h =
 
 print-past : (c : ℕ) → 256 ≤ c → between 33 126 c ≡ false
 print-past c h = between-past 33 126 c (omega arith)
+
+-- ── a set that a name may be made of ──
+
+abbrev covers : List ℕ → ℕ → Bool
+covers set c = not (identifierByte c) || among set c
+
+abbrev pub Covers : List ℕ → Type 0
+Covers set = not (among set 0) && below (covers set) 256 ≡ true
+
+pub covers-names : (set : List ℕ) → Covers set → Names set
+covers-names set e =
+    record {
+      no-zero = not-true (among set 0) (and-left (not (among set 0)) (below (covers set) 256) e);
+      words = λ c is. go c is (leb 256 c) refl;
+    }
+  where
+    go : (c : ℕ) → identifierByte c ≡ true → (t : Bool) → leb 256 c ≡ t → among set c ≡ true
+    go c is true l = absurd (false≢true (sym (word-past c (leb-true 256 c l)) ∙ is))
+    go c is false l =
+        ap (λ (b : Bool). not b || among set c) (sym is)
+        ∙ below-at (covers set) 256 (and-right (not (among set 0)) (below (covers set) 256) e) c (leb-false 256 c l)
 
 -- ── a set is a test ──
 

@@ -6,7 +6,8 @@ use denote.Ref.{now}
 use Rattle.paper.specs.rules.Name.{isDigit, isLetter}
 use Rattle.idents.specs.Spelling.{among}
 use Rattle.idents.proofs.NameTests.{identifier-outside, identifier-bad, identifier-run}
-use Rattle.idents.proofs.Sets.{runLength-word}
+use Rattle.idents.proofs.Passes.{begun-start}
+use Rattle.idents.proofs.Sets.{covers-names, runLength-word}
 use borrow.Author.Needs.{needs}
 use Rattle.idents.proofs.identifier.Statement.{statement}
 use Rattle.idents.proofs.identifier.Tie as tie
@@ -24,8 +25,8 @@ returns-2 : tie.Need-returns-2
 returns-2 c = let d = c .before .before in let a = d .before .before .before .args in identifier-bad (now (a .strings)) (a .at .0) (d .if1 .left) (omega arith)
 
 run-requires : tie.Need-run-requires
-unfolding among
-run-requires c κs = refl
+unfolding among isLetter isDigit
+run-requires c κs = begun-start (covers-names _ refl) (omega arith) (omega arith)
 
 returns-3 : tie.Need-returns-3
 returns-3 c =

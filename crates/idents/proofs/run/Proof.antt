@@ -1,81 +1,54 @@
--- `idents::run` meets its contract: so many bytes are counted, and what is left from there is the rest of the run.
+-- `idents::run` meets its contract: where the bytes stop passing, at once or by the long way, the run is what was left there.
 -- Assumes nothing.
-use Prim.Native.Nat.{_-_}
-use mathlib.Core.Path.{refl}
 use native.Mathlib.Omega.{arith}
-use lib.ListN.{length}
-use Rattle.idents.specs.Spelling.{among}
-use Rattle.idents.proofs.Runs.{Running, running-start, running-end, running-stop, running-bad, running-full, running-next}
+use Rattle.idents.proofs.Passes.{left-run, past-before}
 use borrow.Author.Needs.{needs}
 use Rattle.idents.proofs.run.Statement.{statement}
 use Rattle.idents.proofs.run.Tie as tie
 
-abbrev Inv-loop : tie.InvT-loop
-Inv-loop s from set i₀ n₀ i n = Running (among set) s from 127 i n
+add-bound : tie.Need-add-bound
+add-bound c = search needs
 
-abbrev μ-loop : tie.MeasureT-loop
-μ-loop s from set i₀ n₀ i n = length s - i
+lower-requires : tie.Need-lower-requires
+lower-requires c κs = search needs
 
-loop-holds : tie.Need-loop-holds Inv-loop μ-loop
-loop-holds c = running-start (search needs) refl
+past-requires : tie.Need-past-requires
+past-requires c κs =
+    let p = c .before .before .pre in
+    (c .lower .ensures .most _ (p .passing .ends) (omega arith), c .lower .ensures .left)
 
-shared-slice-read-c : tie.Need-shared-slice-read-c Inv-loop μ-loop
-shared-slice-read-c c = omega arith
+ended-requires : tie.Need-ended-requires
+ended-requires c κs = search needs
 
-is-among-requires : tie.Need-is-among-requires Inv-loop μ-loop
-is-among-requires c κs = search needs
-
-returns : tie.Need-returns Inv-loop μ-loop
+returns : tie.Need-returns
 returns c =
-    let a = c .before .before in
-    let k = a .before .before in
-    running-bad (k .before .loop .inv) (k .loop-test .taken) (a .is-among .ensures) (c .before .if1 .taken) (c .if2 .taken)
+    let e = c .before in
+    let l = e .before .before in
+    left-run 127
+    (past-before (e .before .past .ensures) (e .if1 .taken) (omega (arith, l .lower .ensures .right)))
+    (l .before .before .pre .names .no-zero)
+    (c .ended .ensures)
 
-returns-2 : tie.Need-returns-2 Inv-loop μ-loop
+long-requires : tie.Need-long-requires
+long-requires c κs = search needs
+
+ended-requires-2 : tie.Need-ended-requires-2
+ended-requires-2 c κs = search needs
+
+returns-2 : tie.Need-returns-2
 returns-2 c =
-    let a = c .before .before in
-    let k = a .before .before in
-    running-stop (k .before .loop .inv) (k .loop-test .taken) (a .is-among .ensures) (omega arith)
-
-returns-3 : tie.Need-returns-3 Inv-loop μ-loop
-returns-3 c =
-    let a = c .before .before in
-    let k = a .before .before in
-    running-full (k .before .loop .inv) (k .loop-test .taken) (a .is-among .ensures) (c .before .if1 .left)
-    (omega (arith, k .before .loop .inv .within))
-
-add-n : tie.Need-add-n Inv-loop μ-loop
-add-n c = omega (arith, c .before .before .before .before .before .loop .inv .within)
-
-add-i : tie.Need-add-i Inv-loop μ-loop
-add-i c = omega arith
-
-loop-less : tie.Need-loop-less Inv-loop μ-loop
-loop-less c = omega arith
-
-loop-again : tie.Need-loop-again Inv-loop μ-loop
-loop-again c =
-    let a = c .before .before in
-    let k = a .before .before in
-    running-next (k .before .loop .inv) (k .loop-test .taken) (a .is-among .ensures) (c .before .if1 .left) (λ e. omega arith)
-
-returns-4 : tie.Need-returns-4 Inv-loop μ-loop
-returns-4 c = running-end (c .before .loop .inv) (c .loop-test .left)
+    let start = c .before .before .before .before .before .before in
+    left-run 127 (c .before .long .ensures) (start .pre .names .no-zero) (c .ended2 .ensures)
 
 pub run-spec : {M : Type 1} → statement M
 run-spec =
     tie.close
     (tie.spec
-    Inv-loop
-    μ-loop
-    loop-holds
-    shared-slice-read-c
-    is-among-requires
+    add-bound
+    lower-requires
+    past-requires
+    ended-requires
     returns
-    returns-2
-    returns-3
-    add-n
-    add-i
-    loop-less
-    loop-again
-    returns-4)
+    long-requires
+    ended-requires-2
+    returns-2)

@@ -4,11 +4,12 @@ use mathlib.Core.Path.{_≡_, refl, sym, ap, _∙_}
 use denote.Ref.{now}
 use native.Mathlib.Omega.{arith}
 use Rattle.paper.specs.rules.Choice.{isSome}
-use Rattle.paper.specs.rules.Name.{nameIn, isSectionName}
+use Rattle.paper.specs.rules.Name.{nameIn, isDigit, isLetter, isSectionName}
 use Rattle.idents.specs.declared.Spelt.{Spelt}
 use Rattle.idents.specs.Spelling.{among, speltAsPaper}
 use Rattle.idents.proofs.NameTests.{section-outside, section-bad, section-run}
-use Rattle.idents.proofs.Sets.{runLength-print}
+use Rattle.idents.proofs.Passes.{begun-start, left-run}
+use Rattle.idents.proofs.Sets.{covers-names, runLength-print}
 use borrow.Author.Needs.{needs}
 use Rattle.idents.proofs.section_name.Statement.{statement}
 use Rattle.idents.proofs.section_name.Tie as tie
@@ -25,18 +26,22 @@ shared-slice-read-if2 c = search needs
 returns-2 : tie.Need-returns-2
 returns-2 c = let d = c .before .before in let a = d .before .before .before .args in section-bad (now (a .strings)) (a .at .0) (d .if1 .left) (omega arith)
 
-run-requires : tie.Need-run-requires
-unfolding among
-run-requires c κs = refl
+long-requires : tie.Need-long-requires
+unfolding among isLetter isDigit
+long-requires c κs = begun-start (covers-names _ refl) (omega arith) (omega arith)
 
-told : (c : tie.After-run) (x : Spelt) → let a = c .before .before .before .before .before .before .before .args in
-    c .run .result ≡ x → isSome (speltAsPaper x) ≡ isSectionName (nameIn (now (a .strings)) (a .at .0))
+ended-requires : tie.Need-ended-requires
+ended-requires c κs = search needs
+
+told : (c : tie.After-ended) (x : Spelt) → let a = c .before .before .before .before .before .before .before .before .args in
+    c .ended .result ≡ x → isSome (speltAsPaper x) ≡ isSectionName (nameIn (now (a .strings)) (a .at .0))
 told c x is =
-    let e = c .before .before in
+    let l = c .before in
+    let e = l .before .before in
     let d = e .before .before in
     let a = d .before .before .before .args in
     section-run (now (a .strings)) (a .at .0) (d .if1 .left) (e .if2 .left)
-    (runLength-print _ _ _ (sym (ap speltAsPaper is) ∙ c .run .ensures) (unfold among in refl))
+    (runLength-print _ _ _ (left-run 127 (l .long .ensures) (unfold among in refl) (sym (ap speltAsPaper is) ∙ c .ended .ensures)) (unfold among in refl))
 
 enum-told : tie.Need-enum-told
 enum-told c = search needs
@@ -58,7 +63,8 @@ section-name-spec =
     returns
     shared-slice-read-if2
     returns-2
-    run-requires
+    long-requires
+    ended-requires
     enum-told
     enum-told-2
     returns-3
