@@ -19,6 +19,7 @@ pub mod plain_value;
 pub mod rules;
 pub mod timing;
 pub mod vectors;
+pub mod yardstick;
 
 pub use rules::{
     chain, check, head, header, join, layout, lean, lean_questions, limits, members, name_at,

@@ -5,6 +5,7 @@
 //!     second census  --seed S --cases N [--ops 1,2,3] [--small|--long]
 //!     second check FILE [MODULE]
 //!     second changed FILE
+//!     second ordinary --seed S --cases N [--small|--long]
 //!
 //! With `--edges` the first three put the fixed cases of every rule's edges in
 //! front; without a count, those are all, and with `--part NAME` one part of
@@ -21,6 +22,9 @@
 //! module's table on its base, are had with `--ops 9,10,11`, or likewise with
 //! `--leaning N` behind those, N of the seed's for each of the three. `antt` has
 //! no op 5, and without `--ops` the edges of ops 9 to 11 behind the others.
+//!
+//! `ordinary` has checks only, and compares both ordinary checkers with this
+//! implementation; its last line is `N agreed, 0 differed`, or it is red.
 
 use second::census::Census;
 use second::changed::changed;
@@ -28,7 +32,7 @@ use second::generate::{cases_then, Behind, Scale, Wanted};
 use second::limits::FULL_PLACES;
 use second::report::meaning;
 use second::vectors::{self, run, Case, OPS};
-use second::{LeaningRefusal, Report};
+use second::{yardstick, LeaningRefusal, Report};
 use std::io::Write;
 use std::process::ExitCode;
 
@@ -38,6 +42,7 @@ second antt    --seed S --cases N [--ops 1,2,3] [--only R] [--each]
 second census  --seed S --cases N [--ops 1,2,3] [--small|--long]
 second check FILE [MODULE]
 second changed FILE
+second ordinary --seed S --cases N [--small|--long]
 (ops are 1 to 5 and 9 to 11, without --ops 1 to 4; --members N: behind all, those of op 5, with N of the seed's;
 --leaning N: behind those, ops 9 to 11, with N of the seed's of each;
 --edges: the fixed cases of every rule's edges in front, and nothing else without --cases;
@@ -68,6 +73,7 @@ fn act(arguments: &[String]) -> Result<Vec<u8>, String> {
         "census" => Ok(census(&all_cases(rest)?).into_bytes()),
         "check" => judge_files(rest),
         "changed" => changed_answers(rest.first().ok_or(USAGE)?),
+        "ordinary" => yardstick::compare_all(&wanted(rest)?).map(String::into_bytes),
         _ => Err(USAGE.to_string()),
     }
 }
