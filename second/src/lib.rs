@@ -14,6 +14,7 @@ pub mod beside;
 pub mod census;
 pub mod changed;
 pub mod generate;
+pub mod goals;
 pub mod make;
 pub mod plain_value;
 pub mod rules;

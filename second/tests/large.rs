@@ -3,7 +3,7 @@
 mod common;
 
 use common::*;
-use second::generate::heavy::{NESTED, SHAPES};
+use second::generate::heavy::{all, NESTED};
 use second::generate::large::pointers;
 use second::generate::large_fixed::*;
 use second::generate::long;
@@ -163,13 +163,15 @@ fn long_checks() {
 /// halves of both that fit together.
 #[test]
 fn tables_of_the_figures() {
-    for shape in SHAPES.iter().chain([&NESTED]) {
+    for shape in all() {
         for bytes in [262_144, 131_084, 65_536, 32_780] {
             let blob = shape.blob(bytes);
             assert_eq!(blob.len(), bytes, "{}", shape.title);
             assert!(gate(&blob).is_ok(), "{}", shape.title);
         }
     }
-    assert_eq!(gate(&NESTED.blob(262_144)), Ok(16_000));
-    assert_eq!(gate(&NESTED.blob(65_536)), Ok(4_000));
+    for shape in &NESTED {
+        assert_eq!(gate(&shape.blob(262_144)), Ok(16_000));
+        assert_eq!(gate(&shape.blob(65_536)), Ok(4_000));
+    }
 }

@@ -2,7 +2,7 @@
 //! join of the shapes of docs/SPEED.md through each, by turns in this process;
 //! the third is the old one once more, so that the noise is seen.
 
-use second::generate::heavy::{NESTED, SHAPES};
+use second::generate::heavy::{all, NESTED};
 use second::timing::{example, figure, lent, medians, shaped, Subject};
 use std::ffi::{c_char, c_int, c_void, CString};
 
@@ -34,8 +34,8 @@ const BYTES: usize = 65_536;
 
 fn subjects() -> Vec<Subject> {
     let mut found = vec![example()];
-    found.extend([BYTES, BYTES / 2, BYTES / 4].map(|bytes| shaped(&NESTED, bytes)));
-    found.extend(SHAPES.iter().map(|shape| shaped(shape, BYTES)));
+    found.extend([BYTES / 2, BYTES / 4].map(|bytes| shaped(&NESTED[0], bytes)));
+    found.extend(all().map(|shape| shaped(shape, BYTES)));
     found
 }
 

@@ -1,47 +1,65 @@
-//! The figures of docs/SPEED.md: check, join and size through the archive,
-//! beside this implementation and one pass that only sums the bytes. Prints
-//! three tables; each shape is in them at the byte limit and at a quarter of
-//! it, so that growth is seen.
+//! The figures of docs/SPEED.md: check through the archive and both ordinary
+//! checkers, join and size through the archive beside this implementation.
+//! Prints three tables, and behind the first what it says of the goals; each
+//! shape is in them at the byte limit and at a quarter of it, so that growth is
+//! seen.
 
 use second::archive;
 use second::chain::by_value;
 use second::check::judge;
-use second::generate::heavy::{NESTED, SHAPES};
+use second::generate::heavy::{Shape, NESTED, SHAPES};
+use second::generate::heavy_slow::SLOW;
+use second::goals::{ratio_to_nested, verdicts, Row, Sort};
 use second::limits::BYTE_LIMIT;
 use second::table::{Kind, Table};
 use second::timing::{
     example, figure, grouped, lent, medians, runs_in_words, shaped, Lent, Subject,
 };
+use second::yardstick::{Check, CHECKERS};
 use std::hint::black_box;
 
 const WHOLE: usize = BYTE_LIMIT as usize;
 const QUARTER: usize = WHOLE / 4;
 
-/// A table to time, as both implementations read it: they must accept it, with
-/// the same count.
+/// A table to time. All checkers must accept it, with the same count.
 struct Read {
     of: Subject,
+    sort: Sort,
     table: Table,
     index: Vec<u32>,
 }
 
 fn main() {
-    let shapes = [&NESTED].into_iter().chain(&SHAPES);
-    let lengths = shapes.flat_map(|shape| [WHOLE, QUARTER].map(|bytes| shaped(shape, bytes)));
-    let subjects: Vec<Read> = [example()].into_iter().chain(lengths).map(read).collect();
+    let mut subjects = vec![read(Sort::Other, example())];
+    for (sort, shapes) in [
+        (Sort::Nested, &NESTED[..]),
+        (Sort::Other, &SHAPES),
+        (Sort::Slow, &SLOW),
+    ] {
+        subjects.extend(shapes.iter().flat_map(|shape| both_lengths(sort, shape)));
+    }
     println!("{}\n", runs_in_words());
     print_checks(&subjects);
     print_joins(&subjects);
     print_sizes(&subjects);
 }
 
-fn read(of: Subject) -> Read {
+fn both_lengths(sort: Sort, shape: &Shape) -> [Read; 2] {
+    [WHOLE, QUARTER].map(|bytes| read(sort, shaped(shape, bytes)))
+}
+
+fn read(sort: Sort, of: Subject) -> Read {
     let mut l = lent_for(&of);
     let table = judge(&of.blob, l.index.len(), l.work.len()).expect(of.title);
+    for (name, check) in CHECKERS {
+        let answer = check(&of.blob, &mut l.index, &mut l.work);
+        assert_eq!(answer, Ok(table.count()), "{name}: {}", of.title);
+    }
     archive::check(&of.blob, &mut l.index, &mut l.work, &mut l.answer);
     assert_eq!(l.answer, [0, 0, table.count(), 0], "{}", of.title);
     Read {
         of,
+        sort,
         table,
         index: l.index,
     }
@@ -60,22 +78,51 @@ fn sum(blob: &[u8]) {
 }
 
 fn print_checks(subjects: &[Read]) {
+    let rows: Vec<Row> = subjects.iter().map(timed).collect();
     println!("### check\n");
-    println!("| Table | Types | Bytes | µs | ns a type | ns a byte | to `second`'s check | to the sum of the bytes |");
-    println!("|---|---|---|---|---|---|---|---|");
-    for s in subjects {
-        let (mut l, mut m) = (lent_for(&s.of), lent_for(&s.of));
-        let times = medians([
-            &mut || archive::check(&s.of.blob, &mut l.index, &mut l.work, &mut l.answer),
-            &mut || {
-                let answer = second::check(black_box(&s.of.blob), &mut m.index, &mut m.work);
-                black_box(answer).expect(s.of.title);
-            },
-            &mut || sum(&s.of.blob),
-        ]);
-        print_row(s.of.title, s.table.count(), s.of.blob.len(), times);
+    println!("| Table | Types | Bytes | archive, µs | ns a type | tuned, µs | ns a type | plain, µs | archive to tuned | to plain | to itself on the nested table |");
+    println!("|---|---|---|---|---|---|---|---|---|---|---|");
+    for row in &rows {
+        println!(
+            "| {} | {} | {} | {} | {} | {} | {} | {} | {} | {} | {} |",
+            row.title,
+            grouped(row.types as usize),
+            grouped(row.bytes),
+            figure(row.archive / 1_000.0),
+            figure(row.archive / f64::from(row.types)),
+            figure(row.tuned / 1_000.0),
+            figure(row.tuned / f64::from(row.types)),
+            figure(row.plain / 1_000.0),
+            figure(row.archive / row.tuned),
+            figure(row.archive / row.plain),
+            ratio_to_nested(&rows, row).map_or(String::new(), figure)
+        );
     }
-    println!();
+    println!("\n{}", verdicts(&rows));
+}
+
+/// The archive and both ordinary checkers by turns.
+fn timed(s: &Read) -> Row {
+    let [mut k, mut l, mut m] = [0; 3].map(|_| lent_for(&s.of));
+    let [(_, tuned), (_, plain)] = CHECKERS;
+    let call = |check: Check, l: &mut Lent| {
+        let answer = check(black_box(&s.of.blob), &mut l.index, &mut l.work);
+        black_box(answer).expect(s.of.title);
+    };
+    let [archive, tuned, plain] = medians([
+        &mut || archive::check(&s.of.blob, &mut k.index, &mut k.work, &mut k.answer),
+        &mut || call(tuned, &mut l),
+        &mut || call(plain, &mut m),
+    ]);
+    Row {
+        title: s.of.title,
+        sort: s.sort,
+        types: s.table.count(),
+        bytes: s.of.blob.len(),
+        archive,
+        tuned,
+        plain,
+    }
 }
 
 fn print_joins(subjects: &[Read]) {

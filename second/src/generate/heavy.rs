@@ -1,15 +1,17 @@
 //! Accepted tables for the figures: as many types, members, steps or name
 //! bytes as fit so many bytes.
 
+use crate::generate::heavy_slow::SLOW;
 use crate::generate::large::padded;
 use crate::generate::valid::reorder;
+use crate::limits::{BYTE_LIMIT, TYPE_LIMIT};
 use crate::make::Make;
 use crate::table::Kind;
 
 /// A table that can be made at any length.
 pub struct Shape {
     pub title: &'static str,
-    make: fn(usize) -> Make,
+    pub make: fn(usize) -> Make,
 }
 
 impl Shape {
@@ -19,15 +21,31 @@ impl Shape {
     }
 }
 
-pub const NESTED: Shape = Shape {
-    title: "structs in structs, each in a later one",
-    make: nested,
-};
+/// All of them, the nested ones first and those that were made to be slow last.
+pub fn all() -> impl Iterator<Item = &'static Shape> {
+    NESTED.iter().chain(&SHAPES).chain(&SLOW)
+}
 
-pub const SHAPES: [Shape; 9] = [
+/// Deep struct nesting in both directions.
+pub const NESTED: [Shape; 2] = [
+    Shape {
+        title: "structs in structs, each in a later one",
+        make: nested,
+    },
     Shape {
         title: "structs in structs, each in an earlier one",
-        make: nested_forward,
+        make: |bytes| turned(nested(bytes)),
+    },
+];
+
+pub const SHAPES: [Shape; 7] = [
+    Shape {
+        title: "structs in structs, as many as fit, each in a later one",
+        make: nested_full,
+    },
+    Shape {
+        title: "structs in structs, as many as fit, each in an earlier one",
+        make: |bytes| turned(nested_full(bytes)),
     },
     Shape {
         title: "INTs only",
@@ -38,20 +56,8 @@ pub const SHAPES: [Shape; 9] = [
         make: structs,
     },
     Shape {
-        title: "a typedef chain under many members",
-        make: typedef_chain,
-    },
-    Shape {
-        title: "the same chain, each of a later one",
-        make: typedef_chain_forward,
-    },
-    Shape {
-        title: "an array chain under many members",
-        make: array_chain,
-    },
-    Shape {
-        title: "FUNCs of one long prototype",
-        make: funcs,
+        title: "variables, and a section of them all",
+        make: variables,
     },
     Shape {
         title: "enum values with one name of 127 bytes",
@@ -63,26 +69,43 @@ pub const SHAPES: [Shape; 9] = [
     },
 ];
 
+/// As many types as a table of so many bytes may have, at the ratio of the
+/// limits.
+pub fn most_types(bytes: usize) -> usize {
+    bytes / (BYTE_LIMIT / TYPE_LIMIT) as usize
+}
+
 /// An INT, then by threes a struct of the one before through two qualifiers:
 /// 4,000 types for each 65,536 bytes.
 fn nested(bytes: usize) -> Make {
     let mut m = Make::new();
     let name = m.string("m");
-    let mut inner = m.int(4);
-    for _ in 0..(bytes * 4_000 / 65_536 - 1) / 3 {
+    let inner = m.int(4);
+    nest(&mut m, name, inner, (bytes * 4_000 / 65_536 - 1) / 3);
+    m
+}
+
+fn nest(m: &mut Make, name: u32, mut inner: u32, structs: usize) -> u32 {
+    for _ in 0..structs {
         inner = m.constant(inner);
         inner = m.bare(Kind::Volatile, 0, inner, &[]);
         inner = m.structure(4, false, &[[name, inner, 0]]);
     }
+    inner
+}
+
+/// The same until no more fit, and a qualifier in what is left.
+fn nested_full(bytes: usize) -> Make {
+    let mut m = Make::new();
+    let name = m.string("m");
+    let inner = m.int(4);
+    let outer = nest(&mut m, name, inner, (bytes - 55) / 48);
+    m.constant(outer);
     m
 }
 
-fn nested_forward(bytes: usize) -> Make {
-    turned(nested(bytes))
-}
-
 /// The same types in the opposite order.
-fn turned(mut m: Make) -> Make {
+pub fn turned(mut m: Make) -> Make {
     let order: Vec<usize> = (0..m.records.len()).rev().collect();
     reorder(&mut m, &order);
     m
@@ -108,53 +131,14 @@ fn structs(bytes: usize) -> Make {
     m
 }
 
-/// As many typedefs, each of the one before, as members of the last.
-fn typedef_chain(bytes: usize) -> Make {
+/// Of four bytes each, one behind the other.
+fn variables(bytes: usize) -> Make {
     let mut m = Make::new();
-    let name = m.string("t");
-    let mut last = m.int(4);
-    let count = (bytes - 55) as u32 / 24;
-    for _ in 0..count {
-        last = m.typedef(name, last);
-    }
-    with_members(&mut m, name, last, count);
-    m
-}
-
-fn typedef_chain_forward(bytes: usize) -> Make {
-    turned(typedef_chain(bytes))
-}
-
-/// Arrays of one element, each of the one before, and twice as many members
-/// of the last: the same bytes for both.
-fn array_chain(bytes: usize) -> Make {
-    let mut m = Make::new();
-    let name = m.string("m");
-    let index = m.int(4);
-    let mut last = index;
-    let count = (bytes - 55) as u32 / 48;
-    for _ in 0..count {
-        last = m.array(last, index, 1);
-    }
-    with_members(&mut m, name, last, 2 * count);
-    m
-}
-
-/// A struct of so many members of a type of four bytes.
-fn with_members(m: &mut Make, name: u32, of: u32, count: u32) {
-    let members: Vec<[u32; 3]> = (0..count).map(|k| [name, of, 32 * k]).collect();
-    m.structure(4 * count, false, &members);
-}
-
-/// Half of the bytes are parameters, half FUNCs.
-fn funcs(bytes: usize) -> Make {
-    let mut m = Make::new();
-    let name = m.string("f");
+    let name = m.string("v");
     let int = m.int(4);
-    let prototype = m.proto(0, &vec![[name, int]; (bytes - 55) / 16]);
-    for _ in 0..(bytes - 55) / 24 {
-        m.func(name, prototype);
-    }
+    let count = (bytes - 55) as u32 / 28;
+    let entries: Vec<[u32; 3]> = (0..count).map(|k| [m.var(name, int), 4 * k, 4]).collect();
+    m.section(name, 4 * count, &entries);
     m
 }
 

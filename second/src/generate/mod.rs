@@ -32,6 +32,7 @@ pub mod every_byte;
 pub mod grow;
 pub mod grow_members;
 pub mod heavy;
+pub mod heavy_slow;
 pub mod join_cases;
 pub mod large;
 pub mod large_fixed;
