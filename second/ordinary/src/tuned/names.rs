@@ -12,7 +12,8 @@ const LONGEST: usize = 127;
 pub fn is_identifier(strings: &[u8], offset: u32) -> bool {
     let at = offset as usize;
     let Some(four) = strings.get(at..at + 4) else {
-        return ends::<true>(eight_at(strings, at)).is_some_and(|length| length != 0);
+        let eight = eight_at(strings, at);
+        return ends(eight, outside::<true>(eight)).is_some_and(|length| length != 0);
     };
     let word = four
         .first_chunk()
@@ -25,21 +26,32 @@ pub fn is_identifier(strings: &[u8], offset: u32) -> bool {
     length != 0 && four[length] == 0
 }
 
-/// Does an identifier go on and end here, behind four of its bytes? Long ones
-/// are passed over in pieces that the compiler takes at once.
+/// Does an identifier go on here, behind four of its bytes, and end?
 #[inline(never)]
-fn goes_on(strings: &[u8], from: usize) -> bool {
-    let last = from - 4 + LONGEST;
-    let mut at = from;
+fn goes_on(strings: &[u8], at: usize) -> bool {
+    let eight = eight_at(strings, at);
+    match outside::<false>(eight) {
+        0 => goes_on_long(strings, at - 4),
+        others => ends(eight, others).is_some(),
+    }
+}
+
+/// Of a name with more than eleven bytes, which is passed over in pieces that
+/// the compiler takes at once.
+#[inline(never)]
+fn goes_on_long(strings: &[u8], name: usize) -> bool {
+    let last = name + LONGEST;
+    let mut at = name + 12;
+    while at <= last && all_inside::<16>(strings, at) {
+        at += 16;
+    }
     while at <= last {
         let eight = eight_at(strings, at);
-        if outside::<false>(eight) != 0 {
-            return ends::<false>(eight).is_some_and(|length| at + length <= last);
+        let others = outside::<false>(eight);
+        if others != 0 {
+            return ends(eight, others).is_some_and(|length| at + length <= last);
         }
         at += 8;
-        while at <= last && all_inside::<16>(strings, at) {
-            at += 16;
-        }
     }
     false
 }
@@ -74,11 +86,12 @@ fn eight_at(strings: &[u8], at: usize) -> u64 {
     last.checked_shr(8 * beyond).unwrap_or(0)
 }
 
-/// How many bytes an identifier has in front of the zero byte among these.
+/// How many bytes stand in front of the first that is outside, if that is the
+/// zero byte.
 #[inline(always)]
-fn ends<const FIRST: bool>(eight: u64) -> Option<usize> {
-    let length = outside::<FIRST>(eight).trailing_zeros() / 8;
-    (length < 8 && (eight >> (8 * length)) as u8 == 0).then_some(length as usize)
+fn ends(eight: u64, others: u64) -> Option<usize> {
+    let bits = others.trailing_zeros() & 0x38;
+    ((eight >> bits) as u8 == 0).then_some(bits as usize / 8)
 }
 
 /// The high bit of each byte that no identifier has; a digit is none of its
