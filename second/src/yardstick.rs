@@ -82,8 +82,12 @@ pub fn difference(r: &mut Random, case: &Case) -> Option<String> {
         }
         let blob: String = case.a.iter().map(|byte| format!("{byte:02x}")).collect();
         Some(format!(
-            "{name} answers {told:?} and not {asked:?}; places {:?} and not {:?}; index and work of {} and {} places\n{blob}",
-            head(&index), head(&wanted.index), case.index_places, case.work_places
+            "{name} answers {told:?} and not {asked:?}; index {:?}.. and not {:?}.., \
+             {} places; work of {} places\n{blob}",
+            head(&index),
+            head(&wanted.index),
+            case.index_places,
+            case.work_places
         ))
     })
 }

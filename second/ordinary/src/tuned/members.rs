@@ -13,10 +13,10 @@ pub struct Members<'a> {
     pub tail: &'a [u8],
 }
 
-/// Of a record without kind_flag: VALUE, or 0 where a member is open, if there
-/// is nothing to be said of any member, as there is of few. They are plain, and
-/// those that are done are INTs or whole bytes, none in front of the one before.
-/// Bit offsets that don't fall are all 0 if the last is, as a union's are.
+/// The short way, for a record without kind_flag: VALUE, or 0 where a member is
+/// open. Nothing where a member may be at fault: all are plain, and those that
+/// are done are INTs or whole bytes, none in front of the one before. Offsets
+/// that don't fall are all 0 if the last is, as they must be in a union.
 #[inline(always)]
 pub fn simple<O: Order>(members: &Members) -> Option<u32> {
     let limit = 8 * u64::from(members.size);

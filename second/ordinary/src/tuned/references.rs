@@ -50,7 +50,7 @@ impl Seen {
         Seen { found, word, fault }
     }
 
-    /// What is found and the word, where there is nothing to be said.
+    /// What is found and the word; nothing where there is a fault.
     #[inline(always)]
     pub fn without_fault(self) -> Option<(u32, u32)> {
         (self.fault == 0).then_some((self.found, self.word))

@@ -28,7 +28,8 @@ pub fn downwards<O: Order>(table: &Table) {
     }
 }
 
-/// What is found of most open records, and its word.
+/// The short way of most open records: what is found, and the word. Nothing for
+/// one that may be at fault.
 #[inline(always)]
 pub fn simply<'a, O: Order>(known: Known<'a>, record: Walked<'a>) -> Option<(u32, u32)> {
     if one_of(ALIASES, record.kind) {

@@ -223,9 +223,9 @@ fn typedef<'a>(table: &Table<'a>, record: Record<'a>) -> Rest<'a> {
     Some(record.tail)
 }
 
-/// A STRUCT or UNION of which there is nothing to be said, as there is of few;
-/// nothing for any other. Names come first and references then, since both at
-/// once want more registers than there are.
+/// The short way of most structs and unions; nothing for one that is at fault
+/// or has bit fields. Names come first and references then, since both at once
+/// want more registers than there are.
 #[inline(always)]
 fn simple_structure<'a, O: Order>(table: &Table<'a>, record: Record<'a>) -> Rest<'a> {
     let Record { info, third, .. } = record;
