@@ -109,11 +109,23 @@ abbrev pub packed : ℕ → List ℕ → ℕ
 packed n [] = n
 packed n (c ∷ cs) = packed (n * 256 + c) cs
 
--- what a head may hold: kind_flag, vlen, third word and its role, name, size
+-- a role of a by-value reference
+abbrev pub isHeld : Role → Bool
+isHeld ρ = isHeldCode (roleCode ρ)
+
+-- the place in a record of its first by-value reference: the third word, the first that stands once, or the second of the first entry; 0 for none
+abbrev pub heldPlace : Row → ℕ
+heldPlace r =
+    cond (isHeld (r .thirdRole)) 8
+    (cond (isHeld (getD (r .once) 0 number)) 12
+    (cond (isHeld (getD (r .each) 1 number)) 16 0))
+
+-- where the first by-value reference stands; what a head may hold: kind_flag, vlen, third word and its role, name, size
 unfoldable pub headCode : Row → ℕ
 headCode r =
     packed 0
-    (valuesCode (r .flag)
+    (heldPlace r
+    ∷ valuesCode (r .flag)
     ∷ valuesCode (r .vlen)
     ∷ valuesCode (r .thirdValues)
     ∷ roleCode (r .thirdRole)

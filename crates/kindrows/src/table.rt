@@ -23,32 +23,32 @@ ghost use mathlib.Core.Path.{_≡_};
 ghost use Rattle.paper.specs.rules.Kind.{rowOf};
 ghost use Rattle.kindrows.specs.Codes.{headCode, tailCode};
 
-// kind_flag, vlen, third word (0 only 0, 1 a FUNC's linkage, 2 an INT's sizes, 3 an ENUM's, 4 a FLOAT's, 5 any); the third word's role;
+// Where the first by-value reference stands (0 for none); kind_flag, vlen, third word (0 only 0, 1 a FUNC's linkage, 2 an INT's sizes, 3 an ENUM's, 4 a FLOAT's, 5 any); the third word's role;
 // name; size (0 none, 1 eight, 2 the size word, 3 count times element, 4 the referent's).
 pub fn head_row(kind: u32) -> u64
     ensures { λ r. ⌜ r ≡ headCode (rowOf kind) ⌝ }
 {
     match kind {
-        INT => 0x00_00_02_00_02_02,
-        PTR => 0x00_00_05_07_01_01,
-        ARRAY => 0x00_00_00_00_01_03,
-        STRUCT => 0x05_05_05_00_03_02,
-        UNION => 0x05_05_05_00_03_02,
-        ENUM => 0x05_05_03_00_03_02,
-        FWD => 0x05_00_00_00_04_00,
-        TYPEDEF => 0x00_00_05_0d_04_04,
-        VOLATILE => 0x00_00_05_0d_01_04,
-        CONST => 0x00_00_05_0d_01_04,
-        RESTRICT => 0x00_00_05_0d_01_04,
-        FUNC => 0x00_01_05_0a_04_00,
-        FUNC_PROTO => 0x00_05_05_07_01_00,
-        VAR => 0x00_00_05_0e_04_04,
-        DATASEC => 0x00_05_05_00_06_02,
-        FLOAT => 0x00_00_04_00_02_02,
-        DECL_TAG => 0x05_00_05_0c_05_00,
-        TYPE_TAG => 0x05_00_05_0d_05_04,
-        ENUM64 => 0x05_05_03_00_03_02,
-        _ => 0x00_00_05_00_01_00, // no kind
+        INT => 0x00_00_00_02_00_02_02,
+        PTR => 0x00_00_00_05_07_01_01,
+        ARRAY => 0x0c_00_00_00_00_01_03,
+        STRUCT => 0x10_05_05_05_00_03_02,
+        UNION => 0x10_05_05_05_00_03_02,
+        ENUM => 0x00_05_05_03_00_03_02,
+        FWD => 0x00_05_00_00_00_04_00,
+        TYPEDEF => 0x08_00_00_05_0d_04_04,
+        VOLATILE => 0x08_00_00_05_0d_01_04,
+        CONST => 0x08_00_00_05_0d_01_04,
+        RESTRICT => 0x08_00_00_05_0d_01_04,
+        FUNC => 0x00_00_01_05_0a_04_00,
+        FUNC_PROTO => 0x00_00_05_05_07_01_00,
+        VAR => 0x08_00_00_05_0e_04_04,
+        DATASEC => 0x00_00_05_05_00_06_02,
+        FLOAT => 0x00_00_00_04_00_02_02,
+        DECL_TAG => 0x00_05_00_05_0c_05_00,
+        TYPE_TAG => 0x08_05_00_05_0d_05_04,
+        ENUM64 => 0x00_05_05_03_00_03_02,
+        _ => 0x00_00_00_05_00_01_00, // no kind
     }
 }
 

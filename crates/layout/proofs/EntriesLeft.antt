@@ -11,9 +11,9 @@ use Rattle.paper.proofs.basics.Choices.{and-false}
 use Rattle.rows.proofs.RecordWords.{tail-read}
 use Rattle.paper.specs.rules.Choice.{every}
 use Rattle.paper.specs.terms.Reading.{wordsFrom, recordIn}
-use Rattle.paper.specs.rules.Section.{Entry, entriesIn, coversSize, entryCovers, placedFrom, sectionOk}
-use Rattle.paper.specs.rules.Size.{exactSize}
-use Rattle.paper.specs.rules.Table.{Record, Table, tailLength}
+use Rattle.paper.specs.rules.Section.{Entry, entriesIn, coversSize, placedFrom}
+use Rattle.layout.specs.Told.{Recalled, sized, entryTold, sectionTold}
+use Rattle.paper.specs.rules.Table.{Record, tailLength}
 use Rattle.paper.specs.declared.Order.{Order}
 use Rattle.paper.specs.rules.Word.{wordAt}
 use Rattle.rows.proofs.RoleCodes.{tailLength-few}
@@ -59,8 +59,8 @@ module _ (order : Order) (s : List ℕ) where
       λ i. record { variable = wordAt order s p; offset = wordAt order s (p + 4); size = wordAt order s (third i) } ∷ entriesFrom (behind i) n
 
 -- both rules of some entries behind an end
-abbrev set : Table → ℕ → ℕ → List Entry → Bool
-set T end free es = every (entryCovers T) es && (eqb end 0 || placedFrom end free es)
+abbrev set : Recalled → ℕ → ℕ → List Entry → Bool
+set X end free es = every (entryTold X) es && (eqb end 0 || placedFrom end free es)
 
 or-true : (z : Bool) → z || true ≡ true
 or-true true = refl
@@ -78,63 +78,63 @@ place-taken false true rest e = refl
 place-taken false false rest e = absurd (false≢true e)
 
 -- so many words of a tail are left, from a place on, behind an end
-pub record Setting (T : Table) (r : Record) (order : Order) (s : List ℕ) (p left free : ℕ) : Type 0 where
+pub record Setting (X : Recalled) (r : Record) (order : Order) (s : List ℕ) (p left free : ℕ) : Type 0 where
   pub near : p + 4 * left ≤ 786444
-  pub rest : sectionOk T r ≡ set T (r .third) free (entriesFrom order s p left)
+  pub rest : sectionTold X r ≡ set X (r .third) free (entriesFrom order s p left)
 
-pub setting-start : (T : Table) (order : Order) (s : List ℕ) {w n : ℕ} → w ≡ wordAt order s 4 → n ≡ tailLength w → Setting T (recordIn order s) order s 12 n 0
-unfolding sectionOk
-setting-start T order s {w} {n} e d =
+pub setting-start : (X : Recalled) (order : Order) (s : List ℕ) {w n : ℕ} → w ≡ wordAt order s 4 → n ≡ tailLength w → Setting X (recordIn order s) order s 12 n 0
+unfolding sectionTold
+setting-start X order s {w} {n} e d =
     record {
       near = omega (arith, d, tailLength-few w);
-      rest = ap (λ (ws : List ℕ). set T (recordIn order s .third) 0 (entriesIn ws)) (tail-read order s e d);
+      rest = ap (λ (ws : List ℕ). set X (recordIn order s .third) 0 (entriesIn ws)) (tail-read order s e d);
     }
 
-module _ {T : Table} {r : Record} {order : Order} {s : List ℕ} {p left free : ℕ} (now : Setting T r order s p left free) where
-  pub setting-done : left < 3 → true ≡ sectionOk T r
-  setting-done h = sym (now .rest ∙ ap (set T (r .third) free) (entries-few order s p left h) ∙ or-true (eqb (r .third) 0))
+module _ {X : Recalled} {r : Record} {order : Order} {s : List ℕ} {p left free : ℕ} (now : Setting X r order s p left free) where
+  pub setting-done : left < 3 → true ≡ sectionTold X r
+  setting-done h = sym (now .rest ∙ ap (set X (r .third) free) (entries-few order s p left h) ∙ or-true (eqb (r .third) 0))
 
   module _ (some : 3 ≤ left) {v from size : ℕ} (variable : v ≡ wordAt order s p) (offset : from ≡ wordAt order s (p + 4))
-      (long : size ≡ wordAt order s (p + 8)) {x : Bool} (covers : x ≡ coversSize size (exactSize T v)) where
+      (long : size ≡ wordAt order s (p + 8)) {x : Bool} (covers : x ≡ coversSize size (sized X v)) where
     abbrev behind : List Entry
     behind = entriesFrom order s (p + 12) (left - 3)
 
     abbrev others : Bool
-    others = every (entryCovers T) behind
+    others = every (entryTold X) behind
 
     abbrev place : Bool
     place = eqb (r .third) 0 || ((leb free from && leb (from + size) (r .third)) && placedFrom (r .third) (from + size) behind)
 
     -- the first of those that are left, by its two tests
-    first : sectionOk T r ≡ (x && others) && place
-    unfolding entryCovers
+    first : sectionTold X r ≡ (x && others) && place
+    unfolding entryTold
     first =
         let three : left ≡ suc (suc (suc (left - 3))) = omega arith in
         now .rest
-        ∙ ap (λ (n : ℕ). set T (r .third) free (entriesFrom order s p n)) three
-        ∙ ap (set T (r .third) free) (entries-first order s p (left - 3))
+        ∙ ap (λ (n : ℕ). set X (r .third) free (entriesFrom order s p n)) three
+        ∙ ap (set X (r .third) free) (entries-first order s p (left - 3))
         ∙ sym
-        ((λ i. (coversSize (long i) (exactSize T (variable i)) && others)
+        ((λ i. (coversSize (long i) (sized X (variable i)) && others)
         && (eqb (r .third) 0 || ((leb free (offset i) && leb (offset i + long i) (r .third)) && placedFrom (r .third) (offset i + long i) behind))))
         ∙ sym (ap (λ (t : Bool). (t && others) && place) covers)
 
-    pub setting-short : not x ≡ true → false ≡ sectionOk T r
+    pub setting-short : not x ≡ true → false ≡ sectionTold X r
     setting-short e = sym (first ∙ ap (λ (t : Bool). (t && others) && place) (not-true x e))
 
     module _ (good : not x ≡ false) {end : ℕ} (third : end ≡ r .third) {y : Bool} (test : y ≡ (eqb end 0 || (leb free from && leb (from + size) end))) where
-      second : sectionOk T r ≡ others && place
+      second : sectionTold X r ≡ others && place
       second = first ∙ ap (λ (t : Bool). (t && others) && place) (not-false x good)
 
       placed-here : eqb (r .third) 0 || (leb free from && leb (from + size) (r .third)) ≡ y
       placed-here = sym (test ∙ ap (λ (e : ℕ). eqb e 0 || (leb free from && leb (from + size) e)) third)
 
-      pub setting-out : not y ≡ true → false ≡ sectionOk T r
+      pub setting-out : not y ≡ true → false ≡ sectionTold X r
       setting-out e =
           sym (second
           ∙ ap (λ (t : Bool). others && t) (place-refused (eqb (r .third) 0) (leb free from && leb (from + size) (r .third)) _ (placed-here ∙ not-true y e))
           ∙ and-false others)
 
-      pub setting-next : not y ≡ false → Setting T r order s (p + 12) (left - 3) (from + size)
+      pub setting-next : not y ≡ false → Setting X r order s (p + 12) (left - 3) (from + size)
       setting-next e =
           record {
             near = omega (arith, now .near);

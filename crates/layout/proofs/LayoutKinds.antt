@@ -8,13 +8,12 @@ use borrow.Author.Tests.{ne-eqb}
 use Rattle.paper.proofs.basics.Choices.{and-nothing}
 use Rattle.paper.specs.rules.Choice.{differ, member}
 use Rattle.paper.specs.rules.KindNo.{ARRAY, STRUCT, UNION, FUNC, VAR, DATASEC, DECL-TAG}
-use Rattle.paper.specs.rules.Layout.{membersOk, arrayOk, functionOk, tagOk, layoutOk}
-use Rattle.paper.specs.rules.Section.{sectionOk}
-use Rattle.paper.specs.rules.Size.{hasSmallSize}
-use Rattle.paper.specs.rules.Table.{Record, Table, kindOf}
+use Rattle.layout.specs.Told.{Recalled, membersTold, arrayTold, variableTold, functionTold, sectionTold, layoutTold}
+use Rattle.paper.specs.rules.Layout.{tagOk}
+use Rattle.paper.specs.rules.Table.{Record, kindOf}
 
 -- the six rules, by what each asks of its kinds
-abbrev byKind : ℕ → Bool → Bool → Bool → Bool → Bool → Bool → Bool
+abbrev pub byKind : ℕ → Bool → Bool → Bool → Bool → Bool → Bool → Bool
 byKind k members array variable function tag section =
     (not (member k (STRUCT ∷ UNION ∷ [])) || members)
     && (differ k ARRAY || array)
@@ -24,38 +23,36 @@ byKind k members array variable function tag section =
     && (differ k DATASEC || section)
 
 -- a rule that does not speak of a kind lets it pass
-module _ (T : Table) (r : Record) {k : ℕ} (kind : k ≡ kindOf r) where
+module _ (X : Recalled) (r : Record) {k : ℕ} (kind : k ≡ kindOf r) where
   abbrev by : ℕ → Bool
-  by j = byKind j (membersOk T r) (arrayOk T r) (hasSmallSize T (r .third)) (functionOk T r) (tagOk T r) (sectionOk T r)
+  by j = byKind j (membersTold X r) (arrayTold X r) (variableTold X (r .third)) (functionTold X r) (tagOk (X .table) r) (sectionTold X r)
 
-  by-kind : by k ≡ layoutOk T r
-  unfolding layoutOk
+  by-kind : by k ≡ layoutTold X r
+  unfolding layoutTold
   by-kind = ap by kind
 
-  pub layout-struct : k ≡ STRUCT → {x : Bool} → x ≡ membersOk T r → x ≡ layoutOk T r
+  pub layout-struct : k ≡ STRUCT → {x : Bool} → x ≡ membersTold X r → x ≡ layoutTold X r
   layout-struct e d = d ∙ sym (ap by e ∙ simp and-nothing) ∙ by-kind
 
-  pub layout-union : k ≡ UNION → {x : Bool} → x ≡ membersOk T r → x ≡ layoutOk T r
+  pub layout-union : k ≡ UNION → {x : Bool} → x ≡ membersTold X r → x ≡ layoutTold X r
   layout-union e d = d ∙ sym (ap by e ∙ simp and-nothing) ∙ by-kind
 
-  pub layout-array : k ≡ ARRAY → {x : Bool} → x ≡ arrayOk T r → x ≡ layoutOk T r
+  pub layout-array : k ≡ ARRAY → {x : Bool} → x ≡ arrayTold X r → x ≡ layoutTold X r
   layout-array e d = d ∙ sym (ap by e ∙ simp and-nothing) ∙ by-kind
 
-  pub layout-var : k ≡ VAR → {x : Bool} → x ≡ hasSmallSize T (r .third) → x ≡ layoutOk T r
+  pub layout-var : k ≡ VAR → {x : Bool} → x ≡ variableTold X (r .third) → x ≡ layoutTold X r
   layout-var e d = d ∙ sym (ap by e ∙ simp and-nothing) ∙ by-kind
 
-  pub layout-func : k ≡ FUNC → {x : Bool} → x ≡ functionOk T r → x ≡ layoutOk T r
+  pub layout-func : k ≡ FUNC → {x : Bool} → x ≡ functionTold X r → x ≡ layoutTold X r
   layout-func e d = d ∙ sym (ap by e ∙ simp and-nothing) ∙ by-kind
 
-  pub layout-tag : k ≡ DECL-TAG → {x : Bool} → x ≡ tagOk T r → x ≡ layoutOk T r
+  pub layout-tag : k ≡ DECL-TAG → {x : Bool} → x ≡ tagOk (X .table) r → x ≡ layoutTold X r
   layout-tag e d = d ∙ sym (ap by e ∙ simp and-nothing) ∙ by-kind
 
-  pub layout-section : k ≡ DATASEC → {x : Bool} → x ≡ sectionOk T r → x ≡ layoutOk T r
+  pub layout-section : k ≡ DATASEC → {x : Bool} → x ≡ sectionTold X r → x ≡ layoutTold X r
   layout-section e d = d ∙ sym (ap by e) ∙ by-kind
 
   pub layout-other : (k ≡ ARRAY → ⊥) → (k ≡ STRUCT → ⊥) → (k ≡ UNION → ⊥) → (k ≡ FUNC → ⊥) → (k ≡ VAR → ⊥) → (k ≡ DATASEC → ⊥) → (k ≡ DECL-TAG → ⊥)
-      → true ≡ layoutOk T r
+      → true ≡ layoutTold X r
   layout-other a s u f v d t =
       sym (rw (ne-eqb k STRUCT s, ne-eqb k UNION u, ne-eqb k ARRAY a, ne-eqb k VAR v, ne-eqb k FUNC f, ne-eqb k DECL-TAG t, ne-eqb k DATASEC d) refl) ∙ by-kind
-
--- ── phase 6 of one type ──

@@ -1,5 +1,6 @@
 pub mod MembersLeft
-pub mod NamedLeft
 pub mod OtherTests
 pub mod EntriesLeft
 pub mod LayoutKinds
+pub mod SizesTold
+pub mod Telling

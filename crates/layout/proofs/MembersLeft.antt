@@ -4,30 +4,56 @@ use Prim.Native.Nat.{ℕ, zero, suc, _+_, _-_, _*_, _<_, _≤_}
 use mathlib.Core.Path.{_≡_, refl, sym, ap, _∙_}
 use mathlib.Core.Bool.{Bool, true, false, not, cond, _&&_}
 use mathlib.Core.List.{List, [], _∷_, map}
+use mathlib.Core.Option.{Option, none, some}
 use native.Mathlib.Omega.{arith}
 use borrow.Author.Tests.{ne-eqb, not-true, not-false}
 use lib.Dec.{eqb, leb}
 use Rattle.rows.proofs.RecordWords.{tail-read}
-use Rattle.spans.proofs.SpanTests.{span-typed}
-use Rattle.spans.specs.Spanned.{memberAt, typed, withOffset, spanAsPaper}
+use Rattle.spans.specs.Spanned.{memberAt, typed, withOffset, spanWith, spanAsPaper}
 use Rattle.spans.specs.declared.Lies.{Lies}
 use Rattle.paper.proofs.basics.Choices.{and-false}
 use Rattle.paper.specs.rules.Choice.{every}
 use Rattle.paper.specs.rules.KindNo.{UNION}
-use Rattle.paper.specs.rules.Layout.{memberOk, notFalling, offsetsOk, membersOk}
+use Rattle.layout.specs.Told.{Recalled, sized, spanSized, spanTold, memberTold, membersTold}
+use Rattle.paper.specs.rules.Layout.{notFalling, offsetsOk}
+use Rattle.paper.specs.rules.Size.{within}
+use Rattle.recall.specs.Recall.{baseTold}
 use Rattle.paper.specs.terms.Reading.{wordsFrom, recordIn}
-use Rattle.paper.specs.rules.Span.{Member, membersIn, bitOffset, spanOf, endsBy}
-use Rattle.paper.specs.rules.Table.{Record, Table, kindOf, flagOf, tailLength}
+use Rattle.paper.specs.rules.Span.{Member, Span, membersIn, bitOffset, fieldSpan, plainSpan, endsBy}
+use Rattle.paper.specs.rules.Table.{Record, recordAt, kindOf, flagOf, tailLength}
 use Rattle.paper.specs.declared.Order.{Order}
 use Rattle.paper.specs.rules.Word.{wordAt}
 use Rattle.rows.proofs.RoleCodes.{tailLength-few}
 
 -- ── one member ──
 
+module _ (X : Recalled) (flag o t : ℕ) where
+  -- a type without a size that a member may have has no span
+  pub span-none : none ≡ within (sized X t) → none ≡ spanTold X flag (typed t o)
+  unfolding spanTold
+  span-none e = ap (spanSized X flag (typed t o)) e
+
+  -- any other has the span that its base, its offset word and its size say
+  pub span-small : {z : ℕ} → some z ≡ within (sized X t) → (base : Record) {u : ℕ} → base ≡ recordAt (X .table) u → u ≡ baseTold (X .memo) (X .table) t
+      → {x : Option Span} → x ≡ spanWith flag base o z → x ≡ spanTold X flag (typed t o)
+  unfolding spanTold fieldSpan plainSpan
+  span-small {z} e base is told d =
+      d ∙ ap (λ (r : Record). spanWith flag r o z) (is ∙ ap (recordAt (X .table)) told) ∙ ap (spanSized X flag (typed t o)) e
+
+-- a name says nothing of a span
+typed-size : (X : Recalled) (flag : ℕ) (m : Member) (size : Option ℕ) → spanSized X flag (typed (m .type) (m .offset)) size ≡ spanSized X flag m size
+unfolding fieldSpan plainSpan
+typed-size X flag m none = refl
+typed-size X flag m (some z) = refl
+
+span-typed : (X : Recalled) (flag : ℕ) (m : Member) → spanTold X flag (typed (m .type) (m .offset)) ≡ spanTold X flag m
+unfolding spanTold
+span-typed X flag m = typed-size X flag m (within (sized X (m .type)))
+
 -- a member's span is that of its type and its offset word
-pub span-read : (T : Table) (flag end : ℕ) (m : Member) {t : ℕ} → t ≡ m .type → {o : ℕ} → o ≡ m .offset → (l : Lies)
-    → spanAsPaper l ≡ spanOf T flag (typed t o) → {x : Bool} → x ≡ endsBy end (spanAsPaper l) → x ≡ endsBy end (spanOf T flag m)
-span-read T flag end m type offset l says d = d ∙ ap (endsBy end) (says ∙ (λ i. spanOf T flag (typed (type i) (offset i))) ∙ span-typed T flag m)
+pub span-read : (X : Recalled) (flag end : ℕ) (m : Member) {t : ℕ} → t ≡ m .type → {o : ℕ} → o ≡ m .offset → (l : Lies)
+    → spanAsPaper l ≡ spanTold X flag (typed t o) → {x : Bool} → x ≡ endsBy end (spanAsPaper l) → x ≡ endsBy end (spanTold X flag m)
+span-read X flag end m type offset l says d = d ∙ ap (endsBy end) (says ∙ (λ i. spanTold X flag (typed (type i) (offset i))) ∙ span-typed X flag m)
 
 -- ── offsets ──
 
@@ -66,10 +92,10 @@ module _ (order : Order) (s : List ℕ) where
       let behind : p + 4 + 4 + 4 ≡ p + 12 = omega arith in
       λ i. record { name = wordAt order s p; type = wordAt order s (p + 4); offset = wordAt order s (third i) } ∷ membersFrom (behind i) n
 
-module _ (T : Table) (r : Record) where
+module _ (X : Recalled) (r : Record) where
   -- both rules of some members behind an offset
   abbrev laid : ℕ → List Member → Bool
-  laid before ms = every (memberOk T r) ms && offsetsFrom (eqb (kindOf r) UNION) before (map (bitOffset (flagOf r)) ms)
+  laid before ms = every (memberTold X r) ms && offsetsFrom (eqb (kindOf r) UNION) before (map (bitOffset (flagOf r)) ms)
 
   abbrev follows : ℕ → ℕ → Bool
   follows before o = cond (eqb (kindOf r) UNION) (eqb 0 o) (leb before o)
@@ -79,73 +105,73 @@ module _ (T : Table) (r : Record) where
 
   laid-first : (before : ℕ) (m : Member) (ms : List Member) → let o = bitOffset (flagOf r) m in
       laid before (m ∷ ms)
-      ≡ (memberOk T r m && every (memberOk T r) ms) && (follows before o && offsetsFrom (eqb (kindOf r) UNION) o (map (bitOffset (flagOf r)) ms))
+      ≡ (memberTold X r m && every (memberTold X r) ms) && (follows before o && offsetsFrom (eqb (kindOf r) UNION) o (map (bitOffset (flagOf r)) ms))
   laid-first before m ms =
-      ap (λ (t : Bool). (memberOk T r m && every (memberOk T r) ms) && t)
+      ap (λ (t : Bool). (memberTold X r m && every (memberTold X r) ms) && t)
       (offsets-first (eqb (kindOf r) UNION) before (bitOffset (flagOf r) m) (map (bitOffset (flagOf r)) ms))
 
 -- so many words of a tail are left, from a place on, behind an offset
-pub record Laying (T : Table) (r : Record) (order : Order) (s : List ℕ) (p left before : ℕ) : Type 0 where
+pub record Laying (X : Recalled) (r : Record) (order : Order) (s : List ℕ) (p left before : ℕ) : Type 0 where
   pub near : p + 4 * left ≤ 786444
-  pub rest : membersOk T r ≡ laid T r before (membersFrom order s p left)
+  pub rest : membersTold X r ≡ laid X r before (membersFrom order s p left)
 
-pub laying-start : (T : Table) (order : Order) (s : List ℕ) {w n : ℕ} → w ≡ wordAt order s 4 → n ≡ tailLength w → Laying T (recordIn order s) order s 12 n 0
-unfolding membersOk offsetsOk
-laying-start T order s {w} {n} e d =
+pub laying-start : (X : Recalled) (order : Order) (s : List ℕ) {w n : ℕ} → w ≡ wordAt order s 4 → n ≡ tailLength w → Laying X (recordIn order s) order s 12 n 0
+unfolding membersTold offsetsOk
+laying-start X order s {w} {n} e d =
     let r = recordIn order s in
     record {
       near = omega (arith, d, tailLength-few w);
-      rest = ap (λ (ws : List ℕ). laid T r 0 (membersIn ws)) (tail-read order s e d);
+      rest = ap (λ (ws : List ℕ). laid X r 0 (membersIn ws)) (tail-read order s e d);
     }
 
-module _ {T : Table} {r : Record} {order : Order} {s : List ℕ} {p left before : ℕ} (now : Laying T r order s p left before) where
-  pub laying-done : left < 3 → true ≡ membersOk T r
-  laying-done h = sym (now .rest ∙ ap (laid T r before) (members-few order s p left h) ∙ laid-none T r before)
+module _ {X : Recalled} {r : Record} {order : Order} {s : List ℕ} {p left before : ℕ} (now : Laying X r order s p left before) where
+  pub laying-done : left < 3 → true ≡ membersTold X r
+  laying-done h = sym (now .rest ∙ ap (laid X r before) (members-few order s p left h) ∙ laid-none X r before)
 
-  module _ (some : 3 ≤ left) {f z : ℕ} (flag : f ≡ flagOf r) (size : z ≡ r .third) {x : Bool} (ends : x ≡ endsBy (8 * z) (spanOf T f (memberAt order s p))) where
+  module _ (some : 3 ≤ left) {f z : ℕ} (flag : f ≡ flagOf r) (size : z ≡ r .third) {x : Bool} (ends : x ≡ endsBy (8 * z) (spanTold X f (memberAt order s p))) where
     abbrev o : ℕ
     o = bitOffset (flagOf r) (memberAt order s p)
 
     abbrev behind : Bool
-    behind = every (memberOk T r) (membersFrom order s (p + 12) (left - 3))
+    behind = every (memberTold X r) (membersFrom order s (p + 12) (left - 3))
 
     abbrev offsets : Bool
     offsets = offsetsFrom (eqb (kindOf r) UNION) o (map (bitOffset (flagOf r)) (membersFrom order s (p + 12) (left - 3)))
 
     -- the first of those that are left, by its two tests
-    first : membersOk T r ≡ (x && behind) && (follows T r before o && offsets)
-    unfolding memberOk
+    first : membersTold X r ≡ (x && behind) && (follows X r before o && offsets)
+    unfolding memberTold
     first =
         let three : left ≡ suc (suc (suc (left - 3))) = omega arith in
         now .rest
-        ∙ ap (λ (n : ℕ). laid T r before (membersFrom order s p n)) three
-        ∙ ap (laid T r before) (members-first order s p (left - 3))
-        ∙ laid-first T r before (memberAt order s p) (membersFrom order s (p + 12) (left - 3))
-        ∙ sym (ap (λ (t : Bool). (t && behind) && (follows T r before o && offsets)) (ends ∙ (λ i. endsBy (8 * size i) (spanOf T (flag i) (memberAt order s p)))))
+        ∙ ap (λ (n : ℕ). laid X r before (membersFrom order s p n)) three
+        ∙ ap (laid X r before) (members-first order s p (left - 3))
+        ∙ laid-first X r before (memberAt order s p) (membersFrom order s (p + 12) (left - 3))
+        ∙ sym (ap (λ (t : Bool). (t && behind) && (follows X r before o && offsets)) (ends ∙ (λ i. endsBy (8 * size i) (spanTold X (flag i) (memberAt order s p)))))
 
-    pub laying-bad : not x ≡ true → false ≡ membersOk T r
-    laying-bad e = sym (first ∙ ap (λ (t : Bool). (t && behind) && (follows T r before o && offsets)) (not-true x e))
+    pub laying-bad : not x ≡ true → false ≡ membersTold X r
+    laying-bad e = sym (first ∙ ap (λ (t : Bool). (t && behind) && (follows X r before o && offsets)) (not-true x e))
 
     module _ (good : not x ≡ false) {w v : ℕ} (word : w ≡ wordAt order s (p + 8)) (bit : v ≡ bitOffset f (withOffset w))
         {k : ℕ} (kind : k ≡ kindOf r) {y : Bool} (test : y ≡ cond (eqb k UNION) (eqb 0 v) (leb before v)) where
       same : v ≡ o
       same = bit ∙ (λ i. bitOffset (flag i) (withOffset (word i)))
 
-      second : membersOk T r ≡ behind && (y && offsets)
+      second : membersTold X r ≡ behind && (y && offsets)
       second =
           first
-          ∙ ap (λ (t : Bool). (t && behind) && (follows T r before o && offsets)) (not-false x good)
+          ∙ ap (λ (t : Bool). (t && behind) && (follows X r before o && offsets)) (not-false x good)
           ∙ sym (ap (λ (t : Bool). behind && (t && offsets)) (test ∙ (λ i. cond (eqb (kind i) UNION) (eqb 0 (same i)) (leb before (same i)))))
 
-      pub laying-falls : not y ≡ true → false ≡ membersOk T r
+      pub laying-falls : not y ≡ true → false ≡ membersTold X r
       laying-falls e = sym (second ∙ ap (λ (t : Bool). behind && (t && offsets)) (not-true y e) ∙ and-false behind)
 
-      pub laying-next : not y ≡ false → Laying T r order s (p + 12) (left - 3) v
+      pub laying-next : not y ≡ false → Laying X r order s (p + 12) (left - 3) v
       laying-next e =
           record {
             near = omega (arith, now .near);
             rest =
                 second
                 ∙ ap (λ (t : Bool). behind && (t && offsets)) (not-false y e)
-                ∙ sym (ap (λ (b : ℕ). laid T r b (membersFrom order s (p + 12) (left - 3))) same);
+                ∙ sym (ap (λ (b : ℕ). laid X r b (membersFrom order s (p + 12) (left - 3))) same);
           }

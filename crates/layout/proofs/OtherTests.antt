@@ -7,38 +7,49 @@ use mathlib.Core.List.{[], _∷_}
 use borrow.Author.Tests.{eq-eqb, ne-eqb, not-true, not-false}
 use lib.Dec.{eqb, ltb}
 use lib.ListN.{getD}
-use Rattle.paper.specs.rules.Choice.{member}
-use Rattle.paper.specs.rules.KindNo.{STRUCT, UNION, FUNC}
-use Rattle.paper.specs.rules.Layout.{allNamed, arrayOk, functionOk, componentsOf, tagOk}
-use Rattle.paper.specs.rules.Size.{hasSize}
+use Rattle.paper.specs.rules.Choice.{isSome, member}
+use Rattle.paper.specs.rules.KindNo.{STRUCT, UNION, FUNC, FUNC-PROTO}
+use Rattle.layout.specs.Told.{Recalled, sized, arrayTold, namedTold, functionTold}
+use Rattle.paper.specs.rules.Layout.{allNamed, componentsOf, tagOk}
 use Rattle.paper.specs.rules.Span.{isRegular}
 use Rattle.paper.specs.rules.Table.{Record, Table, recordAt, kindOf, vlenOf}
 use Rattle.paper.specs.rules.Tails.{parametersOf}
+use Rattle.recall.specs.Recall.{told}
+
+-- ── arrays ──
+
+module _ (X : Recalled) (r : Record) {w : ℕ} (element : w ≡ getD (r .tail) 0 0) {x : Bool} (has : x ≡ isSome (sized X w)) where
+  abbrev array : Bool → Bool
+  array t = t && isRegular (recordAt (X .table) (getD (r .tail) 1 0))
+
+  by-size : array x ≡ arrayTold X r
+  unfolding arrayTold
+  by-size = ap array (has ∙ ap (λ (t : ℕ). isSome (sized X t)) element)
+
+  pub array-sizeless : not x ≡ true → false ≡ arrayTold X r
+  array-sizeless e = sym (ap array (not-true x e)) ∙ by-size
+
+  pub array-index : not x ≡ false → {i : ℕ} → i ≡ getD (r .tail) 1 0 → (q : Record) → q ≡ recordAt (X .table) i → {y : Bool} → y ≡ isRegular q → y ≡ arrayTold X r
+  array-index e index q is d =
+      d ∙ ap isRegular (is ∙ ap (recordAt (X .table)) index) ∙ sym (ap array (not-false x e)) ∙ by-size
+
+-- ── functions ──
+
+module _ (X : Recalled) (r : Record) {w : ℕ} (third : w ≡ r .third) (q : Record) (is : q ≡ recordAt (X .table) w) {k : ℕ} (kind : k ≡ kindOf q) where
+  abbrev named : Bool → Bool
+  named z = cond z (eqb (told (X .memo) w) 0) (allNamed (parametersOf (recordAt (X .table) w)))
+
+  by-proto : {z : Bool} → eqb k FUNC-PROTO ≡ z → functionTold X r ≡ named z
+  unfolding functionTold
+  by-proto e = sym (ap (namedTold X) third) ∙ ap named (ap (λ (p : Record). eqb (kindOf p) FUNC-PROTO) (sym is) ∙ ap (λ (j : ℕ). eqb j FUNC-PROTO) (sym kind) ∙ e)
+
+  pub function-told : k ≡ FUNC-PROTO → {c : ℕ} → c ≡ told (X .memo) w → eqb c 0 ≡ functionTold X r
+  function-told e d = ap (λ (j : ℕ). eqb j 0) d ∙ sym (by-proto (eq-eqb k FUNC-PROTO e))
+
+  pub function-names : (k ≡ FUNC-PROTO → ⊥) → {x : Bool} → x ≡ allNamed (parametersOf q) → x ≡ functionTold X r
+  function-names n d = d ∙ ap (λ (p : Record). allNamed (parametersOf p)) is ∙ sym (by-proto (ne-eqb k FUNC-PROTO n))
 
 module _ (T : Table) (r : Record) where
-  -- ── arrays ──
-
-  module _ {w : ℕ} (element : w ≡ getD (r .tail) 0 0) {x : Bool} (sized : x ≡ hasSize T w) where
-    abbrev array : Bool → Bool
-    array t = t && isRegular (recordAt T (getD (r .tail) 1 0))
-
-    by-size : array x ≡ arrayOk T r
-    unfolding arrayOk
-    by-size = ap array (sized ∙ ap (hasSize T) element)
-
-    pub array-sizeless : not x ≡ true → false ≡ arrayOk T r
-    array-sizeless e = sym (ap array (not-true x e)) ∙ by-size
-
-    pub array-index : not x ≡ false → {i : ℕ} → i ≡ getD (r .tail) 1 0 → (q : Record) → q ≡ recordAt T i → {y : Bool} → y ≡ isRegular q → y ≡ arrayOk T r
-    array-index e index q is d =
-        d ∙ ap isRegular (is ∙ ap (recordAt T) index) ∙ sym (ap array (not-false x e)) ∙ by-size
-
-  -- ── functions ──
-
-  pub function-names : {w : ℕ} → w ≡ r .third → (q : Record) → q ≡ recordAt T w → {x : Bool} → x ≡ allNamed (parametersOf q) → x ≡ functionOk T r
-  unfolding functionOk
-  function-names third q is d = d ∙ ap (λ (q : Record). allNamed (parametersOf q)) (is ∙ ap (recordAt T) third)
-
   -- ── tags ──
 
   module _ {k : ℕ} (kind : k ≡ kindOf r) where

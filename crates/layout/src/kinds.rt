@@ -18,29 +18,37 @@ use rows::kind_of;
 use views::View;
 use views::record_of;
 ghost use mathlib.Core.Path.{_≡_};
-ghost use Rattle.paper.specs.rules.Layout.{layoutOk};
+ghost use Rattle.layout.specs.Told.{layoutTold, seen};
 ghost use Rattle.paper.specs.rules.Table.{recordAt};
 ghost use Rattle.views.specs.Shown.{tableBy};
 
 // The layout of a type keeps to the rules.
-pub fn layout_ok<'a>(base: &'a [u8], b: &'a [u8], index: &[u32], view: View, t: TypeNo) -> bool
-    ensures { λ r. ⌜ r ≡ layoutOk (tableBy (now (base .entry)) (now (b .entry)) (now (index .entry)) view) (recordAt (tableBy (now (base .entry)) (now (b .entry)) (now (index .entry)) view) (t .0)) ⌝ }
+pub fn layout_ok<'a>(
+    base: &'a [u8],
+    b: &'a [u8],
+    index: &[u32],
+    view: View,
+    memo: &[u32],
+    t: TypeNo,
+) -> bool
+    ensures { λ r. ⌜ r ≡ layoutTold (seen (now (base .entry)) (now (b .entry)) (now (index .entry)) view (now (memo .entry))) (recordAt (tableBy (now (base .entry)) (now (b .entry)) (now (index .entry)) view) (t .0)) ⌝ }
 {
     let bytes = record_of(base, b, index, view, t);
     let order = view.order;
     match kind_of(words::read(order, bytes, Place(4))) {
-        ARRAY => array_ok(base, b, index, view, bytes),
-        STRUCT => members_ok(base, b, index, view, bytes),
-        UNION => members_ok(base, b, index, view, bytes),
-        FUNC => function_ok(base, b, index, view, bytes),
+        ARRAY => array_ok(base, b, index, view, memo, bytes),
+        STRUCT => members_ok(base, b, index, view, memo, bytes),
+        UNION => members_ok(base, b, index, view, memo, bytes),
+        FUNC => function_ok(base, b, index, view, memo, bytes),
         VAR => has_small_size(
             base,
             b,
             index,
             view,
+            memo,
             TypeNo(words::read(order, bytes, Place(8))),
         ),
-        DATASEC => section_ok(base, b, index, view, bytes),
+        DATASEC => section_ok(base, b, index, view, memo, bytes),
         DECL_TAG => tag_ok(base, b, index, view, bytes),
         _ => true,
     }

@@ -1,23 +1,52 @@
 // Report 15, members: every span ends by the record's end; offsets do not fall in a struct and are 0 in a union.
 use kindrows::UNION;
 use paper::Place;
+use paper::Sized;
 use paper::TypeNo;
+use recall::base_told;
+use recall::size_at;
 use rows::flag_of;
 use rows::kind_of;
 use rows::tail_words;
+use spans::Lies;
 use spans::bit_offset;
-use spans::member_span;
 use spans::span_ends;
+use spans::span_with;
 use views::View;
+use views::record_of;
 ghost use mathlib.Core.Path.{_≡_};
 ghost use mathlib.Core.Bool.{cond};
 ghost use Prim.Native.Nat.{_*_, _<_};
 ghost use lib.Dec.{eqb, leb};
-ghost use Rattle.spans.specs.Spanned.{memberAt};
-ghost use Rattle.paper.specs.rules.Layout.{membersOk};
+ghost use Rattle.spans.specs.Spanned.{memberAt, spanAsPaper, typed};
+ghost use Rattle.layout.specs.Told.{membersTold, seen, spanTold};
 ghost use Rattle.paper.specs.terms.Reading.{recordIn};
-ghost use Rattle.paper.specs.rules.Span.{endsBy, spanOf};
-ghost use Rattle.views.specs.Shown.{tableBy};
+ghost use Rattle.paper.specs.rules.Span.{endsBy};
+
+// The span of a member: of its type's size and base, as the slice tells them, and of its offset word.
+fn span_told<'a>(
+    base: &'a [u8],
+    b: &'a [u8],
+    index: &[u32],
+    view: View,
+    memo: &[u32],
+    flag: u32,
+    t: TypeNo,
+    offset: u32,
+) -> Lies
+    ensures { λ r. ⌜ spanAsPaper r ≡ spanTold (seen (now (base .entry)) (now (b .entry)) (now (index .entry)) view (now (memo .entry))) flag (typed (t .0) offset) ⌝ }
+{
+    let order = view.order;
+    let a = base_told(base, b, index, view, memo, t);
+    let under = record_of(base, b, index, view, a);
+    match size_at(base, b, index, view, memo, under, a) {
+        Sized::Exact(s) => span_with(order, under, flag, offset, s),
+        Sized::NoSize => Lies::Nowhere,
+        Sized::Overflow => Lies::Nowhere,
+        Sized::Lost => Lies::Nowhere,
+        Sized::TooFar => Lies::Nowhere,
+    }
+}
 
 // The member whose words stand at a place ends by so many bytes.
 fn member_ok<'a>(
@@ -25,13 +54,14 @@ fn member_ok<'a>(
     b: &'a [u8],
     index: &[u32],
     view: View,
+    memo: &[u32],
     bytes: &[u8],
     at: Place,
     flag: u32,
     size: u32,
 ) -> bool
     requires { ⌜ (at .0 < 1000000) ⌝ }
-    ensures { λ r. ⌜ r ≡ endsBy (8 * size) (spanOf (tableBy (now (base .entry)) (now (b .entry)) (now (index .entry)) view) flag (memberAt (view .order) (now (bytes .entry)) (at .0))) ⌝ }
+    ensures { λ r. ⌜ r ≡ endsBy (8 * size) (spanTold (seen (now (base .entry)) (now (b .entry)) (now (index .entry)) view (now (memo .entry))) flag (memberAt (view .order) (now (bytes .entry)) (at .0))) ⌝ }
 {
     let order = view.order;
     let p = at.0;
@@ -39,7 +69,7 @@ fn member_ok<'a>(
     let t = TypeNo(words::read(order, bytes, Place(second)));
     let third = p + 8;
     let offset = words::read(order, bytes, Place(third));
-    let span = member_span(base, b, index, view, flag, t, offset);
+    let span = span_told(base, b, index, view, memo, flag, t, offset);
     span_ends(span, 8 * (size as u64))
 }
 
@@ -59,9 +89,10 @@ pub(crate) fn members_ok<'a>(
     b: &'a [u8],
     index: &[u32],
     view: View,
+    memo: &[u32],
     bytes: &[u8],
 ) -> bool
-    ensures { λ r. ⌜ r ≡ membersOk (tableBy (now (base .entry)) (now (b .entry)) (now (index .entry)) view) (recordIn (view .order) (now (bytes .entry))) ⌝ }
+    ensures { λ r. ⌜ r ≡ membersTold (seen (now (base .entry)) (now (b .entry)) (now (index .entry)) view (now (memo .entry))) (recordIn (view .order) (now (bytes .entry))) ⌝ }
 {
     let order = view.order;
     let info = words::read(order, bytes, Place(4));
@@ -72,7 +103,7 @@ pub(crate) fn members_ok<'a>(
     let mut left = tail_words(info);
     let mut before: u32 = 0;
     while 3 <= left {
-        if !member_ok(base, b, index, view, bytes, Place(p), flag, size) {
+        if !member_ok(base, b, index, view, memo, bytes, Place(p), flag, size) {
             return false;
         }
         let third = p + 8;

@@ -1,23 +1,24 @@
 // Report 15, arrays, functions and tags.
 use crate::sized::has_size;
 use kindrows::FUNC;
+use kindrows::FUNC_PROTO;
 use kindrows::STRUCT;
 use kindrows::UNION;
-use paper::Order;
 use paper::Place;
 use paper::TypeNo;
+use recall::all_named;
+use recall::told;
 use rows::kind_of;
-use rows::tail_words;
 use rows::vlen_of;
 use spans::is_regular;
 use views::View;
 use views::record_of;
 ghost use mathlib.Core.Path.{_≡_};
+ghost use Rattle.layout.specs.Told.{arrayTold, functionTold, seen};
 ghost use Rattle.paper.specs.rules.KindNo.{ARRAY, DECL-TAG};
-ghost use Rattle.paper.specs.rules.Layout.{allNamed, arrayOk, functionOk, componentsOf, tagOk};
+ghost use Rattle.paper.specs.rules.Layout.{componentsOf, tagOk};
 ghost use Rattle.paper.specs.terms.Reading.{recordIn};
 ghost use Rattle.paper.specs.rules.Table.{kindOf};
-ghost use Rattle.paper.specs.rules.Tails.{parametersOf};
 ghost use Rattle.views.specs.Shown.{tableBy};
 
 // "An array element must have a size"; "An array index INT is regular".
@@ -26,10 +27,11 @@ pub(crate) fn array_ok<'a>(
     b: &'a [u8],
     index: &[u32],
     view: View,
+    memo: &[u32],
     bytes: &[u8],
 ) -> bool
     requires { ⌜ (kindOf (recordIn (view .order) (now bytes)) ≡ ARRAY) ⌝ }
-    ensures { λ r. ⌜ r ≡ arrayOk (tableBy (now (base .entry)) (now (b .entry)) (now (index .entry)) view) (recordIn (view .order) (now (bytes .entry))) ⌝ }
+    ensures { λ r. ⌜ r ≡ arrayTold (seen (now (base .entry)) (now (b .entry)) (now (index .entry)) view (now (memo .entry))) (recordIn (view .order) (now (bytes .entry))) ⌝ }
 {
     let order = view.order;
     if !has_size(
@@ -37,6 +39,7 @@ pub(crate) fn array_ok<'a>(
         b,
         index,
         view,
+        memo,
         TypeNo(words::read(order, bytes, Place(12))),
     ) {
         return false;
@@ -51,43 +54,23 @@ pub(crate) fn array_ok<'a>(
     is_regular(order, by)
 }
 
-// Every parameter but a last 0/0 has a name. The words of the tail are counted, so that nothing is asked of its kind.
-fn all_named(order: Order, bytes: &[u8]) -> bool
-    ensures { λ r. ⌜ r ≡ allNamed (parametersOf (recordIn order (now (bytes .entry)))) ⌝ }
-{
-    let mut p: u32 = 12;
-    let mut left = tail_words(words::read(order, bytes, Place(4)));
-    while 2 <= left {
-        if words::read(order, bytes, Place(p)) == 0 {
-            if 4 <= left {
-                return false;
-            }
-            return words::read(order, bytes, Place(p + 4)) == 0;
-        }
-        p += 8;
-        left -= 2;
-    }
-    true
-}
-
-// "A FUNC's prototype names every parameter but a last 0/0".
+// "A FUNC's prototype names every parameter but a last 0/0": the slice tells of a prototype, which was judged once.
 pub(crate) fn function_ok<'a>(
     base: &'a [u8],
     b: &'a [u8],
     index: &[u32],
     view: View,
+    memo: &[u32],
     bytes: &[u8],
 ) -> bool
-    ensures { λ r. ⌜ r ≡ functionOk (tableBy (now (base .entry)) (now (b .entry)) (now (index .entry)) view) (recordIn (view .order) (now (bytes .entry))) ⌝ }
+    ensures { λ r. ⌜ r ≡ functionTold (seen (now (base .entry)) (now (b .entry)) (now (index .entry)) view (now (memo .entry))) (recordIn (view .order) (now (bytes .entry))) ⌝ }
 {
     let order = view.order;
-    let proto = record_of(
-        base,
-        b,
-        index,
-        view,
-        TypeNo(words::read(order, bytes, Place(8))),
-    );
+    let t = TypeNo(words::read(order, bytes, Place(8)));
+    let proto = record_of(base, b, index, view, t);
+    if kind_of(words::read(order, proto, Place(4))) == FUNC_PROTO {
+        return told(memo, t) == 0;
+    }
     all_named(order, proto)
 }
 

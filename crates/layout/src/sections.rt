@@ -9,8 +9,7 @@ ghost use mathlib.Core.Bool.{_&&_, _||_};
 ghost use Prim.Native.Nat.{_+_};
 ghost use lib.Dec.{eqb, leb};
 ghost use Rattle.paper.specs.terms.Reading.{recordIn};
-ghost use Rattle.paper.specs.rules.Section.{sectionOk};
-ghost use Rattle.views.specs.Shown.{tableBy};
+ghost use Rattle.layout.specs.Told.{sectionTold, seen};
 
 // Where the section's size is not 0, an entry begins where the one before ends or later, and ends inside.
 fn placed(end: u32, free: u64, from: u32, size: u32) -> bool
@@ -31,9 +30,10 @@ pub(crate) fn section_ok<'a>(
     b: &'a [u8],
     index: &[u32],
     view: View,
+    memo: &[u32],
     bytes: &[u8],
 ) -> bool
-    ensures { λ r. ⌜ r ≡ sectionOk (tableBy (now (base .entry)) (now (b .entry)) (now (index .entry)) view) (recordIn (view .order) (now (bytes .entry))) ⌝ }
+    ensures { λ r. ⌜ r ≡ sectionTold (seen (now (base .entry)) (now (b .entry)) (now (index .entry)) view (now (memo .entry))) (recordIn (view .order) (now (bytes .entry))) ⌝ }
 {
     let order = view.order;
     let end = words::read(order, bytes, Place(8));
@@ -47,7 +47,7 @@ pub(crate) fn section_ok<'a>(
         let from = words::read(order, bytes, Place(second));
         let third = p + 8;
         let size = words::read(order, bytes, Place(third));
-        if !covers(base, b, index, view, variable, size) {
+        if !covers(base, b, index, view, memo, variable, size) {
             return false;
         }
         if !placed(end, free, from, size) {

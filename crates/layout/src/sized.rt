@@ -1,24 +1,26 @@
 // Phase 6 asks for sizes: whether a type has one, and whether a section's entry is long enough for its variable.
 use paper::Sized;
 use paper::TypeNo;
+use recall::size_told;
 use views::View;
 ghost use mathlib.Core.Path.{_≡_};
 ghost use Rattle.sizes.specs.Measure.{Measures};
 ghost use Rattle.paper.specs.rules.Section.{coversSize};
-ghost use Rattle.paper.specs.rules.Size.{exactSize, hasSize, hasSmallSize};
-ghost use Rattle.views.specs.Shown.{tableBy};
+ghost use Rattle.layout.specs.Told.{seen, sized, variableTold};
+ghost use Rattle.paper.specs.rules.Choice.{isSome};
 
-// The exact size of a type. A number above n has none, as its record has no kind: no caller has to show that its number is inside.
+// The size of a type, as the slice tells it. A number above n has none, as its record has no kind: no caller has to show that its number is inside.
 pub(crate) fn size_of<'a>(
     base: &'a [u8],
     b: &'a [u8],
     index: &[u32],
     view: View,
+    memo: &[u32],
     t: TypeNo,
 ) -> Sized
-    ensures { λ r. ⌜ Measures r (exactSize (tableBy (now (base .entry)) (now (b .entry)) (now (index .entry)) view) (t .0)) ⌝ }
+    ensures { λ r. ⌜ Measures r (sized (seen (now (base .entry)) (now (b .entry)) (now (index .entry)) view (now (memo .entry))) (t .0)) ⌝ }
 {
-    sizes::size_in(base, b, index, view, t)
+    size_told(base, b, index, view, memo, t)
 }
 
 // "must have a size", which may overflow.
@@ -27,11 +29,12 @@ pub(crate) fn has_size<'a>(
     b: &'a [u8],
     index: &[u32],
     view: View,
+    memo: &[u32],
     t: TypeNo,
 ) -> bool
-    ensures { λ r. ⌜ r ≡ hasSize (tableBy (now (base .entry)) (now (b .entry)) (now (index .entry)) view) (t .0) ⌝ }
+    ensures { λ r. ⌜ r ≡ isSome (sized (seen (now (base .entry)) (now (b .entry)) (now (index .entry)) view (now (memo .entry))) (t .0)) ⌝ }
 {
-    match size_of(base, b, index, view, t) {
+    match size_of(base, b, index, view, memo, t) {
         Sized::Exact(_) => true,
         Sized::NoSize => false,
         Sized::Overflow => true,
@@ -46,11 +49,12 @@ pub(crate) fn has_small_size<'a>(
     b: &'a [u8],
     index: &[u32],
     view: View,
+    memo: &[u32],
     t: TypeNo,
 ) -> bool
-    ensures { λ r. ⌜ r ≡ hasSmallSize (tableBy (now (base .entry)) (now (b .entry)) (now (index .entry)) view) (t .0) ⌝ }
+    ensures { λ r. ⌜ r ≡ variableTold (seen (now (base .entry)) (now (b .entry)) (now (index .entry)) view (now (memo .entry))) (t .0) ⌝ }
 {
-    match size_of(base, b, index, view, t) {
+    match size_of(base, b, index, view, memo, t) {
         Sized::Exact(_) => true,
         Sized::NoSize => false,
         Sized::Overflow => false,
@@ -65,12 +69,13 @@ pub(crate) fn covers<'a>(
     b: &'a [u8],
     index: &[u32],
     view: View,
+    memo: &[u32],
     t: TypeNo,
     size: u32,
 ) -> bool
-    ensures { λ r. ⌜ r ≡ coversSize size (exactSize (tableBy (now (base .entry)) (now (b .entry)) (now (index .entry)) view) (t .0)) ⌝ }
+    ensures { λ r. ⌜ r ≡ coversSize size (sized (seen (now (base .entry)) (now (b .entry)) (now (index .entry)) view (now (memo .entry))) (t .0)) ⌝ }
 {
-    match size_of(base, b, index, view, t) {
+    match size_of(base, b, index, view, memo, t) {
         Sized::Exact(needed) => needed <= size,
         Sized::NoSize => true,
         Sized::Overflow => false,

@@ -1,7 +1,7 @@
 -- Report 14 asks walks of two sorts: the smaller of what is said by each is what is said by both.
 -- Assumes nothing.
 use Prim.Native.Nat.{ℕ, zero, suc, _≤_, _<_}
-use mathlib.Core.Path.{_≡_, refl, sym, ap, ap₂, _∙_}
+use mathlib.Core.Path.{_≡_, refl, sym, ap, ap₂, _∙_, subst}
 use mathlib.Core.Bool.{Bool, true, false, cond, _||_}
 use mathlib.Core.List.{List, [], _∷_}
 use mathlib.Core.Option.{Option, none, some}
@@ -9,7 +9,7 @@ use native.Mathlib.Omega.{arith}
 use borrow.Author.Tests.{le-ltb, lt-ltb}
 use lib.Dec.{ltb}
 use Rattle.links.proofs.Roots.{firstRing, firstRing-next}
-use Rattle.links.specs.Search.{ringsBy, smallerOf, ringAsPaper}
+use Rattle.links.specs.Search.{ringsBy, smallerOf, ringAsPaper, RingLeaves, ChainsOf, RingsOf}
 use Rattle.links.specs.declared.chains.Ring.{Ring}
 use Rattle.links.specs.declared.chains.Ring.the-variants.{Nowhere, From}
 use Rattle.paper.specs.rules.Answer.{Answer, reportAt}
@@ -128,7 +128,26 @@ module _ (T : Table) where
       go false = refl
 
   -- the first of each sort give the first of both
-  pub rings-either : (a b c : Ring) → ringAsPaper T a ≡ overTypes (ringsBy heldBy) T → ringAsPaper T b ≡ overTypes (ringsBy pointedBy) T → c ≡ smallerOf a b
+  rings-either : (a b c : Ring) → ringAsPaper T a ≡ overTypes (ringsBy heldBy) T → ringAsPaper T b ≡ overTypes (ringsBy pointedBy) T → c ≡ smallerOf a b
       → ringAsPaper T c ≡ overTypes phase5 T
   unfolding overTypes
   rings-either a b c p q e = ap (ringAsPaper T) e ∙ smallerOf-smallest a b ∙ ap₂ smallest p q ∙ sym (firstEither-smallest (count T) 1)
+
+  -- and what is left where there is none of either
+  rings-leave : (n : ℕ) (a b : Ring) (work : List ℕ) → RingLeaves T n a work → RingLeaves T n (smallerOf a b) work
+  rings-leave n Nowhere Nowhere work h = h
+  rings-leave n Nowhere (From u) work h = tt
+  rings-leave n (From t) Nowhere work h = tt
+  rings-leave n (From t) (From u) work h = go (ltb (u .0) (t .0))
+    where
+      go : (z : Bool) → RingLeaves T n (cond z (From u) (From t)) work
+      go true = tt
+      go false = tt
+
+  pub rings-both : {n : ℕ} (a b c : Ring) {work : List ℕ} → ChainsOf T n a work → ringAsPaper T b ≡ overTypes (ringsBy pointedBy) T → c ≡ smallerOf a b
+      → RingsOf T n c work
+  rings-both {n} a b c {work} p q e =
+      record {
+        says = rings-either a b c (p .says) q e;
+        leaves = subst (λ (r : Ring). RingLeaves T n r work) (sym e) (rings-leave n a b work (p .leaves));
+      }

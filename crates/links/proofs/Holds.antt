@@ -1,237 +1,246 @@
--- Laws of what a record holds: the role of a word by its number, and the types held from one word on by those held from the next.
+-- Laws of what a record holds: its slots are every third word from one place on, and the types held from a slot on by those held from the next.
 -- Assumes nothing.
-use Prim.Native.Nat.{ℕ, zero, suc, _+_, _-_, _*_, _%_, _≤_, _<_}
+use Prim.Native.Nat.{ℕ, zero, suc, _+_, _*_, _≤_, _<_}
 use mathlib.Core.Path.{_≡_, refl, sym, ap, ap₂, _∙_}
-use mathlib.Core.Bool.{Bool, true, false, not, cond}
-use mathlib.Core.Logic.{⊎-elim}
-use mathlib.Core.List.{List, [], _∷_, _++_}
-use native.Mathlib.Nat.{mod-eq-of-lt, mod-eq-sub-mod}
+use mathlib.Core.Bool.{Bool, true, false, cond}
+use mathlib.Core.List.{List, [], _∷_, _++_, map, map-append, append-nil}
 use native.Mathlib.Numerals.{add-one}
 use native.Mathlib.Omega.{arith}
-use borrow.Author.Tests.{ltb-true, ltb-false, eq-eqb, ne-eqb, not-true, not-false}
-use lib.Dec.{ltb}
-use lib.ListN.{length, getD, drop, length-append, List·getD-append, drop-of-length-le}
-use lib.Seq.{drop-cons, getD-append-add}
+use borrow.Author.Tests.{eqb-true}
+use lib.Dec.{eqb}
+use lib.ListN.{length, getD, drop, replicate, length-append, length-map, drop-of-length-le}
+use lib.Seq.{drop-cons}
+use Rattle.kindrows.proofs.Columns.{rowOf-agree}
+use Rattle.kindrows.specs.Codes.{isHeld, heldPlace}
+use Rattle.paper.proofs.bytes.Reading.{length-times}
 use Rattle.paper.specs.rules.Chain.{stepTo, heldWord, heldIn}
 use Rattle.paper.specs.rules.Choice.{times}
-use Rattle.paper.specs.rules.Kind.{Role, names, refers, holds, number, rowOf}
+use Rattle.paper.specs.rules.Kind.{Role, names, refers, holds, number, Row, rows, rowOf}
+use Rattle.paper.specs.rules.Kind.{NameRule, offset0, anyName, offset0OrIdentifier, identifier, nonEmpty, sectionName}
+use Rattle.paper.specs.rules.Kind.{RefRule, voidOrPlain, plain, anInt, aProto, aVar, taggable}
 use Rattle.paper.specs.terms.Reading.{wordsFrom, recordIn}
-use Rattle.paper.specs.rules.Table.{Record, kindIn, vlenIn, tailLength, tailRoles, rolesOf, wordsOf}
+use Rattle.paper.specs.rules.Table.{kindIn, vlenIn, tailLength, tailRoles, rolesOf}
 use Rattle.paper.specs.declared.Order.{Order}
 use Rattle.paper.specs.rules.Word.{wordAt}
-use Rattle.paper.proofs.bytes.Reading.{length-times, length-recordIn}
-use Rattle.rows.proofs.RecordWords.{getD-wordsFrom}
-use Rattle.rows.proofs.RoleCodes.{nameCode-range, refCode-range, roleCode-high, between-in, between-out}
-use Rattle.kindrows.specs.Codes.{nameCode, roleCode, roleAt, isHeldCode}
-use Rattle.links.specs.Holding.{tailRolesBy, rolesBy, heldFrom, NextHeld, WordOf}
+use Rattle.links.specs.Holding.{slotsIn, slotsOf, slotCount, typesIn, heldFrom}
 
--- ── the role of a word by its number ──
+-- ── which roles are held ──
 
--- a word of some entries has the role of its place in its entry
-getD-times : (v : ℕ) (ρs : List Role) (j : ℕ) → j < v * length ρs → getD (times v ρs) j number ≡ getD ρs (j % length ρs) number
-getD-times zero ρs j h = absurd (omega arith)
-getD-times (suc v) ρs j h = go (ltb j (length ρs)) refl (λ i l. getD-times v ρs i l)
+held-holds : (rule : RefRule) → isHeld (holds rule) ≡ true
+held-holds voidOrPlain = refl
+held-holds plain = refl
+held-holds anInt = refl
+held-holds aProto = refl
+held-holds aVar = refl
+held-holds taggable = refl
+
+held-refers : (rule : RefRule) → isHeld (refers rule) ≡ false
+held-refers voidOrPlain = refl
+held-refers plain = refl
+held-refers anInt = refl
+held-refers aProto = refl
+held-refers aVar = refl
+held-refers taggable = refl
+
+held-names : (rule : NameRule) → isHeld (names rule) ≡ false
+held-names offset0 = refl
+held-names anyName = refl
+held-names offset0OrIdentifier = refl
+held-names identifier = refl
+held-names nonEmpty = refl
+held-names sectionName = refl
+
+-- the types that are held are those among the slots
+pub heldIn-slots : (ρs : List Role) (ws : List ℕ) → heldIn ρs ws ≡ typesIn (slotsIn ρs ws)
+heldIn-slots [] ws = refl
+heldIn-slots (ρ ∷ ρs) [] = refl
+heldIn-slots (ρ ∷ ρs) (w ∷ ws) = go ρ ∙ ap (λ (us : List ℕ). heldWord ρ w us) (heldIn-slots ρs ws) ∙ by ρ
   where
-    go : (b : Bool) → ltb j (length ρs) ≡ b → ((i : ℕ) → i < v * length ρs → getD (times v ρs) i number ≡ getD ρs (i % length ρs) number)
-        → getD (ρs ++ times v ρs) j number ≡ getD ρs (j % length ρs) number
-    go true x deeper =
-        let l = ltb-true j (length ρs) x in
-        List·getD-append ρs (times v ρs) number j l ∙ ap (λ (i : ℕ). getD ρs i number) (sym (mod-eq-of-lt l))
-    go false x deeper =
-        let l = ltb-false j (length ρs) x in
-        let there : j ≡ length ρs + (j - length ρs) = omega arith in
-        ap (λ (i : ℕ). getD (ρs ++ times v ρs) i number) there
-        ∙ getD-append-add ρs (times v ρs) (j - length ρs) number
-        ∙ deeper (j - length ρs) (omega arith)
-        ∙ ap (λ (i : ℕ). getD ρs i number) (sym (mod-eq-sub-mod l))
+    go : (ρ : Role) → heldIn (ρ ∷ ρs) (w ∷ ws) ≡ heldWord ρ w (heldIn ρs ws)
+    go ρ = refl
 
--- as many roles as words
-length-tailRolesBy : (info : ℕ) → length (tailRolesBy info) ≡ length (rowOf (kindIn info) .once) + vlenIn info * length (rowOf (kindIn info) .each)
-unfolding tailRolesBy
-length-tailRolesBy info =
-    length-append (rowOf (kindIn info) .once) (times (vlenIn info) (rowOf (kindIn info) .each))
-    ∙ ap (λ (n : ℕ). length (rowOf (kindIn info) .once) + n) (length-times (vlenIn info) (rowOf (kindIn info) .each))
+    by : (ρ : Role) → heldWord ρ w (typesIn (slotsIn ρs ws)) ≡ typesIn (slotsIn (ρ ∷ ρs) (w ∷ ws))
+    by number = refl
+    by (names rule) = rw (held-names rule) refl
+    by (refers rule) = rw (held-refers rule) refl
+    by (holds rule) = rw (held-holds rule) refl
 
-pub length-rolesBy : (info : ℕ) → length (rolesBy info) ≡ 3 + tailLength info
-unfolding rolesBy tailLength
-length-rolesBy info = omega (arith, length-tailRolesBy info)
-
-module _ (info : ℕ) {i k o : ℕ} (inside : i < length (tailRolesBy info)) (kind : k ≡ kindIn info) (once : o ≡ length (rowOf k .once)) where
-  once-here : o ≡ length (rowOf (kindIn info) .once)
-  once-here = once ∙ ap (λ (j : ℕ). length (rowOf j .once)) kind
-
-  pub tail-once : i < o → {r : ℕ} → r ≡ roleAt (rowOf k .once) i → r ≡ roleAt (tailRolesBy info) i
-  unfolding tailRolesBy
-  tail-once h e =
-      let e′ = once-here in
-      e
-      ∙ ap (λ (j : ℕ). roleAt (rowOf j .once) i) kind
-      ∙ ap roleCode (sym (List·getD-append (rowOf (kindIn info) .once) (times (vlenIn info) (rowOf (kindIn info) .each)) number i (omega arith)))
-
-  module _ (past : o ≤ i) {w : ℕ} (words : w ≡ length (rowOf k .each)) where
-    words-here : w ≡ length (rowOf (kindIn info) .each)
-    words-here = words ∙ ap (λ (j : ℕ). length (rowOf j .each)) kind
-
-    -- there are entries, so they have words
-    pub tail-some : 0 < w
-    tail-some = go w refl
-      where
-        go : (n : ℕ) → w ≡ n → 0 < n
-        go zero e =
-            let none : vlenIn info * length (rowOf (kindIn info) .each) ≡ vlenIn info * 0 = ap (λ (n : ℕ). vlenIn info * n) (sym words-here ∙ e) in
-            absurd (omega (arith, none, length-tailRolesBy info, once-here))
-        go (suc n) e = omega arith
-
-    pub tail-entry : {r : ℕ} → r ≡ roleAt (rowOf k .each) ((i - o) % w) → r ≡ roleAt (tailRolesBy info) i
-    unfolding tailRolesBy
-    tail-entry e =
-        let o′ = once-here in
-        let there : length (rowOf (kindIn info) .once) + (i - o) ≡ i = omega arith in
-        e
-        ∙ (λ x. roleAt (rowOf (kind x) .each) ((i - o) % words-here x))
-        ∙ ap roleCode
-        (sym (getD-times (vlenIn info) (rowOf (kindIn info) .each) (i - o) (omega (arith, length-tailRolesBy info)))
-        ∙ sym (getD-append-add (rowOf (kindIn info) .once) (times (vlenIn info) (rowOf (kindIn info) .each)) (i - o) number)
-        ∙ ap (λ (j : ℕ). getD (rowOf (kindIn info) .once ++ times (vlenIn info) (rowOf (kindIn info) .each)) j number) there)
-
-module _ (info : ℕ) {i : ℕ} where
-  pub role-name : i ≡ 0 → {k : ℕ} → k ≡ kindIn info → {r : ℕ} → r ≡ nameCode (rowOf k .name) → r ≡ roleAt (rolesBy info) i
-  unfolding rolesBy
-  role-name z e d = d ∙ ap (λ (j : ℕ). nameCode (rowOf j .name)) e ∙ ap (roleAt (rolesBy info)) (sym z)
-
-  pub role-info : i ≡ 1 → 0 ≡ roleAt (rolesBy info) i
-  unfolding rolesBy
-  role-info z = ap (roleAt (rolesBy info)) (sym z)
-
-  pub role-third : i ≡ 2 → {k : ℕ} → k ≡ kindIn info → {r : ℕ} → r ≡ roleCode (rowOf k .thirdRole) → r ≡ roleAt (rolesBy info) i
-  unfolding rolesBy
-  role-third z e d = d ∙ ap (λ (j : ℕ). roleCode (rowOf j .thirdRole)) e ∙ ap (roleAt (rolesBy info)) (sym z)
-
-  module _ (a : i ≡ 0 → ⊥) (b : i ≡ 1 → ⊥) (c : i ≡ 2 → ⊥) where
-    pub role-behind : 3 ≤ i
-    role-behind = later i a b c
-      where
-        later : (j : ℕ) → (j ≡ 0 → ⊥) → (j ≡ 1 → ⊥) → (j ≡ 2 → ⊥) → 3 ≤ j
-        later zero a b c = absurd (a refl)
-        later (suc zero) a b c = absurd (b refl)
-        later (suc (suc zero)) a b c = absurd (c refl)
-        later (suc (suc (suc j))) a b c = omega arith
-
-    pub role-tail-inside : i < length (rolesBy info) → i - 3 < length (tailRolesBy info)
-    unfolding rolesBy
-    role-tail-inside h = omega (arith, role-behind)
-
-    pub role-tail : {r : ℕ} → r ≡ roleAt (tailRolesBy info) (i - 3) → r ≡ roleAt (rolesBy info) i
-    unfolding rolesBy
-    role-tail e =
-        let there : suc (suc (suc (i - 3))) ≡ i = omega (arith, role-behind) in
-        e ∙ ap (roleAt (rolesBy info)) there
-
--- ── one word ──
-
--- a word of another role holds nothing
-heldWord-other : (ρ : Role) (w : ℕ) (us : List ℕ) → roleCode ρ < 13 → heldWord ρ w us ≡ us
-heldWord-other number w us h = refl
-heldWord-other (names rule) w us h = refl
-heldWord-other (refers rule) w us h = refl
-heldWord-other (holds rule) w us h = absurd (omega (arith, refCode-range rule))
-
-heldWord-held : (ρ : Role) (w : ℕ) (us : List ℕ) → 13 ≤ roleCode ρ → heldWord ρ w us ≡ stepTo w us
-heldWord-held number w us h = absurd (omega arith)
-heldWord-held (names rule) w us h = absurd (omega (arith, nameCode-range rule))
-heldWord-held (refers rule) w us h = absurd (omega (arith, refCode-range rule))
-heldWord-held (holds rule) w us h = refl
-
--- ── the words of the record that some bytes begin with ──
+-- ── the slots of the record that some bytes begin with ──
 
 module _ (order : Order) (s : List ℕ) where
-  abbrev rec : Record
-  rec = recordIn order s
+  -- the words from a place on that are marked
+  abbrev picked : ℕ → List Bool → List ℕ
+  picked p [] = []
+  picked p (m ∷ ms) = let later = picked (p + 4) ms in cond m (wordAt order s p ∷ later) later
 
-  abbrev infoOf : ℕ
-  infoOf = wordAt order s 4
+  -- every third word from a place on
+  abbrev pub thirds : ℕ → ℕ → List ℕ
+  thirds p zero = []
+  thirds p (suc n) = wordAt order s p ∷ thirds (p + 12) n
 
-  words-from : wordsOf rec ≡ wordsFrom order s 0 (suc (suc (suc (tailLength infoOf))))
+  slots-picked : (p : ℕ) (ρs : List Role) → slotsIn ρs (wordsFrom order s p (length ρs)) ≡ picked p (map isHeld ρs)
+  slots-picked p [] = refl
+  slots-picked p (ρ ∷ ρs) = ap (λ (later : List ℕ). cond (isHeld ρ) (wordAt order s p ∷ later) later) (slots-picked (p + 4) ρs)
+
+  picked-append : (p : ℕ) (ms ns : List Bool) → picked p (ms ++ ns) ≡ picked p ms ++ picked (p + 4 * length ms) ns
+  picked-append p [] ns = let here : p ≡ p + 4 * 0 = omega arith in ap (λ (q : ℕ). picked q ns) here
+  picked-append p (m ∷ ms) ns =
+      let there : p + 4 + 4 * length ms ≡ p + 4 * suc (length ms) = omega arith in
+      ap (λ (later : List ℕ). cond m (wordAt order s p ∷ later) later)
+      (picked-append (p + 4) ms ns ∙ ap (λ (q : ℕ). picked (p + 4) ms ++ picked q ns) there)
+      ∙ go m
+    where
+      go : (m : Bool) → let q = p + 4 * suc (length ms) in
+          cond m (wordAt order s p ∷ (picked (p + 4) ms ++ picked q ns)) (picked (p + 4) ms ++ picked q ns)
+          ≡ cond m (wordAt order s p ∷ picked (p + 4) ms) (picked (p + 4) ms) ++ picked q ns
+      go true = refl
+      go false = refl
+
+  -- entries of which no word is marked have no slot
+  picked-none : (p n : ℕ) → picked p (replicate n false) ≡ []
+  picked-none p zero = refl
+  picked-none p (suc n) = picked-none (p + 4) n
+
+  entries-none : (v p n : ℕ) → picked p (times v (replicate n false)) ≡ []
+  entries-none zero p n = refl
+  entries-none (suc v) p n =
+      picked-append p (replicate n false) (times v (replicate n false))
+      ∙ ap₂ {C = List ℕ} _++_ (picked-none p n) (entries-none v (p + 4 * length (replicate n false)) n)
+
+  -- a member's second word is one
+  entries-members : (v p : ℕ) → picked p (times v (false ∷ true ∷ false ∷ [])) ≡ thirds (p + 4) v
+  entries-members zero p = refl
+  entries-members (suc v) p =
+      let there : p + 4 + 4 + 4 + 4 ≡ p + 4 + 12 = omega arith in
+      ap (λ (later : List ℕ). wordAt order s (p + 4) ∷ later) (entries-members v (p + 4 + 4 + 4) ∙ ap (λ (q : ℕ). thirds q v) there)
+
+  -- ── by the row of the kind ──
+
+  -- the slots of a head and of the words that stand once
+  row-first : (k : ℕ) → let r = rowOf k in
+      picked 8 (isHeld (r .thirdRole) ∷ map isHeld (r .once)) ≡ thirds (heldPlace r) (cond (eqb (heldPlace r) 16) 0 (cond (eqb (heldPlace r) 0) 0 1))
+  row-first k =
+      rowOf-agree (λ (r : Row). picked 8 (isHeld (r .thirdRole) ∷ map isHeld (r .once)))
+      (λ (r : Row). thirds (heldPlace r) (cond (eqb (heldPlace r) 16) 0 (cond (eqb (heldPlace r) 0) 0 1))) (unfold rows in refl) k
+
+  -- those of an entry
+  row-each : (k : ℕ) → let r = rowOf k in
+      map isHeld (r .each) ≡ cond (eqb (heldPlace r) 16) (false ∷ true ∷ false ∷ []) (replicate (length (r .each)) false)
+  row-each k =
+      rowOf-agree (λ (r : Row). map isHeld (r .each))
+      (λ (r : Row). cond (eqb (heldPlace r) 16) (false ∷ true ∷ false ∷ []) (replicate (length (r .each)) false)) (unfold rows in refl) k
+
+  -- nothing stands in front of members
+  row-once : (k : ℕ) → cond (eqb (heldPlace (rowOf k)) 16) (length (rowOf k .once)) 0 ≡ 0
+  row-once k = rowOf-agree (λ (r : Row). cond (eqb (heldPlace r) 16) (length (r .once)) 0) (λ (r : Row). 0) (unfold rows in refl) k
+
+  -- ── all of them ──
+
+  abbrev info : ℕ
+  info = wordAt order s 4
+
+  abbrev row : Row
+  row = rowOf (kindIn info)
+
+  -- entries are those of members, or have none
+  row-entries : (z : Bool) → eqb (heldPlace row) 16 ≡ z
+      → picked (8 + 4 * suc (length (map isHeld (row .once)))) (times (vlenIn info) (map isHeld (row .each))) ≡ cond z (thirds 16 (vlenIn info)) []
+  row-entries true e =
+      let bare : length (map isHeld (row .once)) ≡ 0 = length-map (row .once) isHeld ∙ sym (ap (λ (z : Bool). cond z (length (row .once)) 0) e) ∙ row-once (kindIn info) in
+      ap (λ (n : ℕ). picked (8 + 4 * suc n) (times (vlenIn info) (map isHeld (row .each)))) bare
+      ∙ ap (λ (ms : List Bool). picked 12 (times (vlenIn info) ms))
+      (row-each (kindIn info) ∙ ap (λ (z : Bool). cond z (false ∷ true ∷ false ∷ []) (replicate (length (row .each)) false)) e)
+      ∙ entries-members (vlenIn info) 12
+  row-entries false e =
+      let p = 8 + 4 * suc (length (map isHeld (row .once))) in
+      ap (λ (ms : List Bool). picked p (times (vlenIn info) ms))
+      (row-each (kindIn info) ∙ ap (λ (z : Bool). cond z (false ∷ true ∷ false ∷ []) (replicate (length (row .each)) false)) e)
+      ∙ entries-none (vlenIn info) p (length (row .each))
+
+  map-times : (v : ℕ) (ρs : List Role) → map isHeld (times v ρs) ≡ times v (map isHeld ρs)
+  map-times zero ρs = refl
+  map-times (suc v) ρs = map-append isHeld ρs (times v ρs) ∙ ap (λ (ms : List Bool). map isHeld ρs ++ ms) (map-times v ρs)
+
+  tail-roles : map isHeld (tailRoles (recordIn order s)) ≡ map isHeld (row .once) ++ times (vlenIn info) (map isHeld (row .each))
+  unfolding recordIn tailRoles
+  tail-roles =
+      map-append isHeld (row .once) (times (vlenIn info) (row .each))
+      ∙ ap (λ (ms : List Bool). map isHeld (row .once) ++ ms) (map-times (vlenIn info) (row .each))
+
+  length-tailRoles : length (tailRoles (recordIn order s)) ≡ tailLength info
+  unfolding recordIn tailRoles tailLength
+  length-tailRoles =
+      length-append (row .once) (times (vlenIn info) (row .each))
+      ∙ ap (λ (n : ℕ). length (row .once) + n) (length-times (vlenIn info) (row .each))
+
+  -- the first two words of a record are none
+  slots-behind : slotsOf (recordIn order s) ≡ picked 8 (isHeld (row .thirdRole) ∷ map isHeld (tailRoles (recordIn order s)))
   unfolding recordIn
-  words-from = refl
+  slots-behind =
+      ap (λ (n : ℕ). slotsIn (rolesOf (recordIn order s)) (wordsFrom order s 0 (suc (suc (suc n))))) (sym length-tailRoles)
+      ∙ slots-picked 0 (rolesOf (recordIn order s))
+      ∙ ap (λ (z : Bool). let later = picked 8 (isHeld (row .thirdRole) ∷ map isHeld (tailRoles (recordIn order s))) in cond z (wordAt order s 0 ∷ later) later)
+      (held-names (row .name))
 
-  roles-by : rolesOf rec ≡ rolesBy infoOf
-  unfolding recordIn tailRoles rolesBy tailRolesBy
-  roles-by = refl
+  -- the slots stand twelve bytes apart from one place on
+  pub slots-are : slotsOf (recordIn order s) ≡ thirds (heldPlace row) (slotCount (heldPlace row) info)
+  slots-are =
+      slots-behind
+      ∙ ap (λ (ms : List Bool). picked 8 (isHeld (row .thirdRole) ∷ ms)) tail-roles
+      ∙ picked-append 8 (isHeld (row .thirdRole) ∷ map isHeld (row .once)) (times (vlenIn info) (map isHeld (row .each)))
+      ∙ go (eqb (heldPlace row) 16) refl
+    where
+      go : (z : Bool) → eqb (heldPlace row) 16 ≡ z
+          → picked 8 (isHeld (row .thirdRole) ∷ map isHeld (row .once))
+          ++ picked (8 + 4 * suc (length (map isHeld (row .once)))) (times (vlenIn info) (map isHeld (row .each)))
+          ≡ thirds (heldPlace row) (cond z (vlenIn info) (cond (eqb (heldPlace row) 0) 0 1))
+      go true e =
+          ap₂ {C = List ℕ} _++_
+          (row-first (kindIn info) ∙ ap (λ (z : Bool). thirds (heldPlace row) (cond z 0 (cond (eqb (heldPlace row) 0) 0 1))) e) (row-entries true e)
+          ∙ ap (λ (p : ℕ). thirds p (vlenIn info)) (sym (eqb-true _ _ e))
+      go false e =
+          ap₂ {C = List ℕ} _++_
+          (row-first (kindIn info) ∙ ap (λ (z : Bool). thirds (heldPlace row) (cond z 0 (cond (eqb (heldPlace row) 0) 0 1))) e) (row-entries false e)
+          ∙ append-nil _
 
-  length-roles : length (rolesOf rec) ≡ 3 + tailLength infoOf
-  length-roles = ap length roles-by ∙ length-rolesBy infoOf
+  length-thirds : (n p : ℕ) → length (thirds p n) ≡ n
+  length-thirds zero p = refl
+  length-thirds (suc n) p = ap suc (length-thirds n (p + 12))
 
-  -- what is held from a word on, by what the word is and what is held from the next
-  heldFrom-step : (i : ℕ) → i < 3 + tailLength infoOf
-      → heldFrom rec i ≡ heldWord (getD (rolesBy infoOf) i number) (wordAt order s (4 * i)) (heldFrom rec (i + 1))
+  getD-thirds : (n p i : ℕ) → i < n → getD (thirds p n) i 0 ≡ wordAt order s (p + 12 * i)
+  getD-thirds zero p i h = absurd (omega arith)
+  getD-thirds (suc n) p zero h = let here : p ≡ p + 12 * 0 = omega arith in ap (wordAt order s) here
+  getD-thirds (suc n) p (suc i) h =
+      let there : p + 12 + 12 * i ≡ p + 12 * suc i = omega arith in
+      getD-thirds n (p + 12) i (omega arith) ∙ ap (wordAt order s) there
+
+  pub length-slots : length (slotsOf (recordIn order s)) ≡ slotCount (heldPlace row) info
+  length-slots = ap length slots-are ∙ length-thirds (slotCount (heldPlace row) info) (heldPlace row)
+
+  -- no record has more than it can have members
+  pub slots-few : length (slotsOf (recordIn order s)) ≤ 65535
+  slots-few = go (eqb (heldPlace row) 16) refl
+    where
+      go : (z : Bool) → eqb (heldPlace row) 16 ≡ z → length (slotsOf (recordIn order s)) ≤ 65535
+      go true e = let n = length-slots ∙ ap (λ (z : Bool). cond z (vlenIn info) (cond (eqb (heldPlace row) 0) 0 1)) e in omega arith
+      go false e =
+          let n = length-slots ∙ ap (λ (z : Bool). cond z (vlenIn info) (cond (eqb (heldPlace row) 0) 0 1)) e in by (eqb (heldPlace row) 0) n
+        where
+          by : (z : Bool) → length (slotsOf (recordIn order s)) ≡ cond z 0 1 → length (slotsOf (recordIn order s)) ≤ 65535
+          by true n = omega arith
+          by false n = omega arith
+
+  -- what is held from a slot on, by what it holds and what is held from the next
+  pub heldFrom-step : (i : ℕ) → i < slotCount (heldPlace row) info
+      → heldFrom (recordIn order s) i ≡ stepTo (wordAt order s (heldPlace row + 12 * i)) (heldFrom (recordIn order s) (i + 1))
   unfolding heldFrom
   heldFrom-step i h =
-      let zero-more : 0 + 4 * i ≡ 4 * i = omega arith in
+      let word : getD (slotsOf (recordIn order s)) i 0 ≡ wordAt order s (heldPlace row + 12 * i) =
+      ap (λ (ws : List ℕ). getD ws i 0) slots-are ∙ getD-thirds (slotCount (heldPlace row) info) (heldPlace row) i h in
       let next = sym (add-one i) in
-      let role : getD (rolesOf rec) i number ≡ getD (rolesBy infoOf) i number = ap (λ (ρs : List Role). getD ρs i number) roles-by in
-      let word : getD (wordsOf rec) i 0 ≡ wordAt order s (4 * i) =
-      ap (λ (ws : List ℕ). getD ws i 0) words-from
-      ∙ getD-wordsFrom order s 0 (suc (suc (suc (tailLength infoOf)))) i (omega arith)
-      ∙ ap (wordAt order s) zero-more in
-      ap₂ heldIn (drop-cons (rolesOf rec) i number (omega (arith, length-roles))) (drop-cons (wordsOf rec) i 0 (omega (arith, length-recordIn order s)))
-      ∙ (λ x. heldWord (role x) (word x) (heldIn (drop (next x) (rolesOf rec)) (drop (next x) (wordsOf rec))))
+      ap typesIn (drop-cons (slotsOf (recordIn order s)) i 0 (omega (arith, length-slots)))
+      ∙ (λ x. stepTo (word x) (typesIn (drop (next x) (slotsOf (recordIn order s)))))
 
-  heldFrom-end : (i : ℕ) → 3 + tailLength infoOf ≤ i → heldFrom rec i ≡ []
+  pub heldFrom-end : (i : ℕ) → slotCount (heldPlace row) info ≤ i → heldFrom (recordIn order s) i ≡ []
   unfolding heldFrom
-  heldFrom-end i h = ap₂ heldIn (drop-of-length-le (rolesOf rec) {i = i} (omega (arith, length-roles))) refl
-
-  module _ {info i : ℕ} (at : WordOf order s info i) where
-    within-here : i < 3 + tailLength infoOf
-    within-here = omega (arith, at .within, length-rolesBy info, ap tailLength (at .read))
-
-    step-here : heldFrom rec i ≡ heldWord (getD (rolesBy info) i number) (wordAt order s (4 * i)) (heldFrom rec (i + 1))
-    step-here =
-        heldFrom-step i within-here
-        ∙ ap (λ (w : ℕ). heldWord (getD (rolesBy w) i number) (wordAt order s (4 * i)) (heldFrom rec (i + 1))) (sym (at .read))
-
-    pub held-not : {code : ℕ} {z : Bool} → code ≡ roleAt (rolesBy info) i → z ≡ isHeldCode code → not z ≡ true
-        → heldFrom rec i ≡ stepTo 0 (heldFrom rec (i + 1))
-    held-not {code} {z} e asked n =
-        let ρ = getD (rolesBy info) i number in
-        let high = roleCode-high ρ in
-        let low : code < 13 = ⊎-elim (λ h. h) (λ h. absurd (omega arith)) (between-out 13 18 code (sym asked ∙ not-true z n)) in
-        step-here ∙ heldWord-other ρ _ _ (omega arith)
-
-    pub held-word : {code : ℕ} {z : Bool} → code ≡ roleAt (rolesBy info) i → z ≡ isHeldCode code → not z ≡ false → {w : ℕ} → w ≡ wordAt order s (4 * i)
-        → heldFrom rec i ≡ stepTo w (heldFrom rec (i + 1))
-    held-word {code} {z} e asked n d =
-        let h = between-in 13 18 code (sym asked ∙ not-false z n) in
-        step-here
-        ∙ heldWord-held (getD (rolesBy info) i number) _ _ (omega arith)
-        ∙ ap (λ (w : ℕ). stepTo w (heldFrom rec (i + 1))) (sym d)
-
--- ── a look along the words ──
-
--- nothing is held by the words from one to another
-pub record Looking (r : Record) (from i : ℕ) : Type 0 where
-  pub forward : from ≤ i
-  pub same : heldFrom r from ≡ heldFrom r i
-
-pub looking-start : (r : Record) (from : ℕ) → Looking r from from
-looking-start r from = record { forward = omega arith; same = refl }
-
-module _ {r : Record} {from i : ℕ} (look : Looking r from i) {u : ℕ} (step : heldFrom r i ≡ stepTo u (heldFrom r (i + 1))) where
-  pub looking-next : u ≡ 0 → Looking r from (i + 1)
-  looking-next e =
-      record {
-        forward = omega (arith, look .forward);
-        same = look .same ∙ step ∙ ap (λ (z : Bool). cond z (heldFrom r (i + 1)) (u ∷ heldFrom r (i + 1))) (eq-eqb u 0 e);
-      }
-
-  pub looking-found : (u ≡ 0 → ⊥) → i < length (wordsOf r) → NextHeld r from u (i + 1)
-  looking-found n h =
-      record {
-        next = look .same ∙ step ∙ ap (λ (z : Bool). cond z (heldFrom r (i + 1)) (u ∷ heldFrom r (i + 1))) (ne-eqb u 0 n);
-        later = omega (arith, look .forward);
-        inside = omega arith;
-      }
-
-pub looking-done : (order : Order) (s : List ℕ) {from i info : ℕ} → Looking (recordIn order s) from i → info ≡ wordAt order s 4 → {tail : ℕ} → tail ≡ tailLength info
-    → 3 + tail ≤ i → heldFrom (recordIn order s) from ≡ []
-looking-done order s {i = i} look read e h = look .same ∙ heldFrom-end order s i (omega (arith, ap tailLength read))
+  heldFrom-end i h = ap typesIn (drop-of-length-le (slotsOf (recordIn order s)) {i = i} (omega (arith, length-slots)))

@@ -1,4 +1,5 @@
 pub mod Holds
+pub mod Looks
 pub mod Ways
 pub mod HeldTypes
 pub mod Searches

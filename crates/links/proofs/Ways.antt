@@ -13,12 +13,13 @@ use lib.Seq.{getD-set-same, getD-set-other}
 use Rattle.paper.specs.rules.Chain.{walks, Chain}
 use Rattle.paper.specs.rules.Limits.{typeLimit}
 use Rattle.paper.proofs.walks.Endless.{any-holds, chain-walks, walks-chain}
-use Rattle.links.specs.Search.{done, asRoot, manyWords, markOf}
+use Rattle.links.specs.Search.{asRoot, manySlots, markOf}
+use Rattle.recall.specs.Recall.{settled}
 
 -- ── marks ──
 
--- the mark of a type on the way fits a place, below that of a type that is done: 1 + 16,384 * 196,612 + 196,611 is below 2^32 - 1
-pub mark-fits : {p k : ℕ} → p ≤ typeLimit → k < manyWords → markOf p k < done
+-- the mark of a type on the way is below that of any that is done: 1 + 16,384 * 65,536 + 65,535 is below 2^30 + 2^17
+pub mark-fits : {p k : ℕ} → p ≤ typeLimit → k < manySlots → markOf p k < settled
 mark-fits low small = omega arith
 
 -- ── a place set, and the others ──
@@ -62,13 +63,13 @@ module _ (held : ℕ → List ℕ) where
 
 -- ── the way ──
 
-module _ (held : ℕ → List ℕ) (rest : ℕ → ℕ → List ℕ) (n : ℕ) where
-  -- t was entered from p, whose references behind word k are left: those before are done, or are t
+module _ (held : ℕ → List ℕ) (done : ℕ → ℕ) (rest : ℕ → ℕ → List ℕ) (n : ℕ) where
+  -- t was entered from p, whose references behind slot k are left: those before are done, or are t
   pub record Entered (work : List ℕ) (p k t : ℕ) : Type 0 where
     pub marked : getD work t 0 ≡ markOf p k
-    pub small : k < manyWords
+    pub small : k < manySlots
     pub led : List·Memᴰ t (held p)
-    pub passed : (u : ℕ) → List·Memᴰ u (held p) → (getD work u 0 ≡ done) ⊎ ((u ≡ t) ⊎ List·Memᴰ u (rest p k))
+    pub passed : (u : ℕ) → List·Memᴰ u (held p) → (getD work u 0 ≡ done u) ⊎ ((u ≡ t) ⊎ List·Memᴰ u (rest p k))
 
   -- a way from the root to t, over t's parents, the nearest first; no type stands on it twice
   abbrev pub Way : List ℕ → ℕ → ℕ → List ℕ → Type 0
@@ -82,7 +83,7 @@ module _ (held : ℕ → List ℕ) (rest : ℕ → ℕ → List ℕ) (n : ℕ) w
 
   -- the mark of a type on the way is that of none that is new or done
   module _ (few : n ≤ typeLimit) where
-    pub way-marked : (work : List ℕ) (root t : ℕ) (ps : List ℕ) → Way work root t ps → (1 ≤ getD work t 0) × (getD work t 0 < done)
+    pub way-marked : (work : List ℕ) (root t : ℕ) (ps : List ℕ) → Way work root t ps → (1 ≤ getD work t 0) × (getD work t 0 < settled)
     way-marked work root t [] w = let e = w .2 in (omega arith, omega arith)
     way-marked work root t (p ∷ ps) w =
         let e = w .1 .1 .marked in
@@ -91,16 +92,17 @@ module _ (held : ℕ → List ℕ) (rest : ℕ → ℕ → List ℕ) (n : ℕ) w
         let fits = mark-fits {p = p} {k = w .1 .0} (omega arith) small in
         (omega arith, omega arith)
 
-    pub way-all-marked : (work : List ℕ) (root t : ℕ) (ps : List ℕ) → Way work root t ps → (x : ℕ) → List·Memᴰ x (t ∷ ps) → 1 ≤ getD work x 0
+    pub way-all-marked : (work : List ℕ) (root t : ℕ) (ps : List ℕ) → Way work root t ps → (x : ℕ) → List·Memᴰ x (t ∷ ps)
+        → (1 ≤ getD work x 0) × (getD work x 0 < settled)
     way-all-marked work root t [] w x h =
-        ⊎-elim (λ (e : x ≡ t). let m = way-marked work root t [] w in let same = ap (λ (y : ℕ). getD work y 0) e in omega arith)
+        ⊎-elim (λ (e : x ≡ t). let m = way-marked work root t [] w in let same = ap (λ (y : ℕ). getD work y 0) e in (omega arith, omega arith))
         (λ m. absurd (List·Memᴰ·not-nil m)) (List·Memᴰ·cases-cons h)
     way-all-marked work root t (p ∷ ps) w x h =
-        ⊎-elim (λ (e : x ≡ t). let m = way-marked work root t (p ∷ ps) w in let same = ap (λ (y : ℕ). getD work y 0) e in omega arith)
+        ⊎-elim (λ (e : x ≡ t). let m = way-marked work root t (p ∷ ps) w in let same = ap (λ (y : ℕ). getD work y 0) e in (omega arith, omega arith))
         (λ m. way-all-marked work root p ps (w .3) x m) (List·Memᴰ·cases-cons h)
 
   -- other marks, which keep those of the way and what is done, keep the way
-  pub way-kept : (work work′ : List ℕ) → ((x : ℕ) → getD work x 0 ≡ done → getD work′ x 0 ≡ done)
+  pub way-kept : (work work′ : List ℕ) → ((x : ℕ) → getD work x 0 ≡ done x → getD work′ x 0 ≡ done x)
       → (root t : ℕ) (ps : List ℕ) → ((x : ℕ) → List·Memᴰ x (t ∷ ps) → getD work′ x 0 ≡ getD work x 0) → Way work root t ps → Way work′ root t ps
   way-kept work work′ keeps root t [] same w = (w .0, w .1, same t (List·Memᴰ·head refl) ∙ w .2)
   way-kept work work′ keeps root t (p ∷ ps) same w =

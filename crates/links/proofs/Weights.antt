@@ -5,14 +5,14 @@ use mathlib.Core.Path.{_≡_, refl, ap, ap₂, _∙_}
 use mathlib.Core.Bool.{Bool, true, false, cond}
 use mathlib.Core.List.{List}
 use native.Mathlib.Omega.{arith}
-use borrow.Author.Tests.{eqb-true, eqb-false, ne-eqb}
-use lib.Dec.{eqb}
+use borrow.Author.Tests.{eqb-true, eqb-false, ne-eqb, le-leb, lt-leb}
+use lib.Dec.{eqb, leb}
 use lib.ListN.{length, getD, set}
 use lib.Seq.{getD-set-same, getD-set-other}
-use Rattle.links.specs.Search.{done}
+use Rattle.recall.specs.Recall.{settled}
 
 abbrev weight : ℕ → ℕ
-weight m = cond (eqb m 0) 2 (cond (eqb m done) 0 1)
+weight m = cond (eqb m 0) 2 (cond (leb settled m) 0 1)
 
 -- of the types 1 to n
 abbrev pub weights : List ℕ → ℕ → ℕ
@@ -22,12 +22,11 @@ weights work (suc n) = weight (getD work (suc n) 0) + weights work n
 weight-new : {m : ℕ} → m ≡ 0 → weight m ≡ 2
 weight-new {m} e = ap weight e
 
-weight-done : weight done ≡ 0
-weight-done = refl
+weight-done : (m : ℕ) → settled ≤ m → weight m ≡ 0
+weight-done m h = ap₂ (λ (a b : Bool). cond a 2 (cond b 0 1)) (ne-eqb m 0 (λ (e : m ≡ 0). omega arith)) (le-leb settled m h)
 
-weight-open : (m : ℕ) → 1 ≤ m → m < done → weight m ≡ 1
-weight-open m low high =
-    ap₂ (λ (a b : Bool). cond a 2 (cond b 0 1)) (ne-eqb m 0 (λ (e : m ≡ 0). omega arith)) (ne-eqb m done (λ (e : m ≡ done). omega arith))
+weight-open : (m : ℕ) → 1 ≤ m → m < settled → weight m ≡ 1
+weight-open m low high = ap₂ (λ (a b : Bool). cond a 2 (cond b 0 1)) (ne-eqb m 0 (λ (e : m ≡ 0). omega arith)) (lt-leb settled m high)
 
 module _ (work : List ℕ) (u v : ℕ) where
   weights-outside : (n : ℕ) → n < u → weights (set work u v) n ≡ weights work n
@@ -56,7 +55,7 @@ module _ (work : List ℕ) (u v : ℕ) where
           omega arith
 
   -- a type is entered
-  pub weights-entered : (n : ℕ) → 1 ≤ u → u ≤ n → u < length work → getD work u 0 ≡ 0 → 1 ≤ v → v < done → weights (set work u v) n < weights work n
+  pub weights-entered : (n : ℕ) → 1 ≤ u → u ≤ n → u < length work → getD work u 0 ≡ 0 → 1 ≤ v → v < settled → weights (set work u v) n < weights work n
   weights-entered n low high room new l h =
       let e = weights-set n low high room in
       let a = weight-new new in
@@ -64,9 +63,9 @@ module _ (work : List ℕ) (u v : ℕ) where
       omega arith
 
 -- a type is left
-pub weights-left : (work : List ℕ) (u n : ℕ) → 1 ≤ u → u ≤ n → u < length work → 1 ≤ getD work u 0 → getD work u 0 < done
-    → weights (set work u done) n < weights work n
-weights-left work u n low high room l h =
-    let e = weights-set work u done n low high room in
+pub weights-left : (work : List ℕ) (u v n : ℕ) → 1 ≤ u → u ≤ n → u < length work → 1 ≤ getD work u 0 → getD work u 0 < settled → settled ≤ v
+    → weights (set work u v) n < weights work n
+weights-left work u v n low high room l h done =
+    let e = weights-set work u v n low high room in
     let a = weight-open (getD work u 0) l h in
-    omega (arith, weight-done)
+    omega (arith, weight-done v done)

@@ -1,40 +1,53 @@
--- What a record holds by value from one of its words on. Its words are numbered from 0: the name, the info word, the third, then the tail.
+-- What a record holds by value from one of its slots on. Its slots are the words that are by-value references, void or not, numbered from 0 in their order.
 use Prim.Native.Nat.{ℕ, _<_, _≤_}
 use mathlib.Core.Path.{_≡_}
-use mathlib.Core.List.{List, [], _∷_, _++_}
-use lib.ListN.{length, drop}
+use mathlib.Core.Bool.{Bool, not, cond, _&&_}
+use mathlib.Core.List.{List, [], _∷_, List·Memᴰ}
+use mathlib.Core.Logic.{_⊎_}
+use lib.Dec.{eqb, ltb}
+use lib.ListN.{length, getD, drop}
 use Rattle.links.specs.declared.held.Held.{Held}
 use Rattle.links.specs.declared.held.Held.the-variants.{Found, Nothing}
-use Rattle.paper.specs.rules.Chain.{heldIn}
-use Rattle.paper.specs.rules.Choice.{times}
-use Rattle.paper.specs.rules.Kind.{Role, names, number, rowOf}
-use Rattle.paper.specs.rules.Table.{Record, kindIn, vlenIn, rolesOf, wordsOf}
-use Rattle.paper.specs.declared.Order.{Order}
-use Rattle.paper.specs.rules.Word.{wordAt}
+use Rattle.kindrows.specs.Codes.{isHeld}
+use Rattle.paper.specs.rules.Chain.{stepTo}
+use Rattle.paper.specs.rules.Kind.{Role}
+use Rattle.paper.specs.rules.Table.{Record, vlenIn, rolesOf, wordsOf}
+use Rattle.recall.specs.Recall.{settled}
 
--- the roles of a tail, and of all words, by the info word alone
-unfoldable pub tailRolesBy : ℕ → List Role
-tailRolesBy info = rowOf (kindIn info) .once ++ times (vlenIn info) (rowOf (kindIn info) .each)
+-- the slots among some words, by their roles
+abbrev pub slotsIn : List Role → List ℕ → List ℕ
+slotsIn [] ws = []
+slotsIn (ρ ∷ ρs) [] = []
+slotsIn (ρ ∷ ρs) (w ∷ ws) = let later = slotsIn ρs ws in cond (isHeld ρ) (w ∷ later) later
 
-unfoldable pub rolesBy : ℕ → List Role
-rolesBy info = names (rowOf (kindIn info) .name) ∷ number ∷ rowOf (kindIn info) .thirdRole ∷ tailRolesBy info
+abbrev pub slotsOf : Record → List ℕ
+slotsOf r = slotsIn (rolesOf r) (wordsOf r)
 
--- the types held from word j on
+-- how many there are, by where the first stands and the info word: one, or one for each member
+abbrev pub slotCount : ℕ → ℕ → ℕ
+slotCount place info = cond (eqb place 16) (vlenIn info) (cond (eqb place 0) 0 1)
+
+-- the types among some slots
+abbrev pub typesIn : List ℕ → List ℕ
+typesIn [] = []
+typesIn (w ∷ ws) = stepTo w (typesIn ws)
+
+-- the types held from slot j on
 unfoldable pub heldFrom : Record → ℕ → List ℕ
-heldFrom r j = heldIn (drop j (rolesOf r)) (drop j (wordsOf r))
+heldFrom r j = typesIn (drop j (slotsOf r))
 
--- a word of the record that some bytes begin with
-pub record WordOf (order : Order) (s : List ℕ) (info i : ℕ) : Type 0 where
-  pub read : info ≡ wordAt order s 4
-  pub within : i < length (rolesBy info)
+-- a type is not done: its mark is below those of types that are
+abbrev pub isOpen : List ℕ → ℕ → Bool
+isOpen work u = not (eqb u 0) && ltb (getD work u 0) settled
 
--- the next of them is u, and word k is the one behind it
-pub record NextHeld (r : Record) (j u k : ℕ) : Type 0 where
-  pub next : heldFrom r j ≡ u ∷ heldFrom r k
-  pub later : j < k
-  pub inside : k ≤ length (wordsOf r)
+-- the next of them that is not done is u, and slot k is the one behind it
+pub record NextOpen (r : Record) (work : List ℕ) (j u k : ℕ) : Type 0 where
+  pub held : List·Memᴰ u (heldFrom r 0)
+  pub unfinished : getD work u 0 < settled
+  pub passed : (x : ℕ) → List·Memᴰ x (heldFrom r j) → (settled ≤ getD work x 0) ⊎ ((x ≡ u) ⊎ List·Memᴰ x (heldFrom r k))
+  pub inside : k ≤ length (slotsOf r)
 
--- what is answered of the types held from word j on
-abbrev pub HeldIs : Record → ℕ → Held → Type 0
-HeldIs r j Nothing = heldFrom r j ≡ []
-HeldIs r j (Found u k) = NextHeld r j (u .0) k
+-- what is answered of the types held from slot j on
+abbrev pub HeldIs : Record → List ℕ → ℕ → Held → Type 0
+HeldIs r work j Nothing = (x : ℕ) → List·Memᴰ x (heldFrom r j) → settled ≤ getD work x 0
+HeldIs r work j (Found u k) = NextOpen r work j (u .0) k

@@ -1,10 +1,12 @@
 -- What phases 4 and 5 answer together.
 use Prim.Native.Nat.{ℕ}
 use mathlib.Core.Path.{_≡_}
-use mathlib.Core.Bool.{cond, _&&_}
+use mathlib.Core.Bool.{Bool, cond, _&&_}
 use mathlib.Core.List.{List}
 use mathlib.Core.Option.{Option, none, some}
 use lib.Dec.{leb, ltb}
+use lib.ListN.{length, getD}
+use Rattle.links.specs.Search.{markAt}
 use Rattle.links.specs.declared.whole.Linked.{Linked}
 use Rattle.links.specs.declared.whole.Linked.the-variants.{Good, Reference, Endless}
 use Rattle.paper.specs.rules.Answer.{Answer, reportAt}
@@ -20,10 +22,32 @@ linkedAsPaper T (Reference t) = some (reportAt 13 (t .0) (placeAt T (t .0)))
 linkedAsPaper T (Endless t) = some (reportAt 14 (t .0) (placeAt T (t .0)))
 
 -- of n types, no more than the limit, and a work slice with a place for each; nothing is said of others
-unfoldable pub linksSay : Table → ℕ → ℕ → Option Answer
-linksSay T n room = cond (leb n typeLimit && ltb n room) (orElse (overTypes phase4 T) (overTypes phase5 T)) none
+abbrev pub searched : ℕ → ℕ → Bool
+searched n room = leb n typeLimit && ltb n room
 
--- that, and a work slice that is all 0
+unfoldable pub linksSay : Table → ℕ → ℕ → Option Answer
+linksSay T n room = cond (searched n room) (orElse (overTypes phase4 T) (overTypes phase5 T)) none
+
+-- where nothing is wrong, the work slice has what is remembered of each type; else it is all 0
+abbrev pub leftAt : Table → ℕ → ℕ → ℕ → ℕ
+leftAt T n room x = cond (searched n room) (markAt T n x) 0
+
+abbrev pub Leaves : Table → ℕ → ℕ → Linked → List ℕ → Type 0
+Leaves T n room Good work = (x : ℕ) → getD work x 0 ≡ leftAt T n room x
+Leaves T n room (Reference t) work = work ≡ zeros room
+Leaves T n room (Endless t) work = work ≡ zeros room
+
 pub record LinksOf (T : Table) (n room : ℕ) (r : Linked) (work : List ℕ) : Type 0 where
   pub says : linkedAsPaper T r ≡ linksSay T n room
-  pub cleared : work ≡ zeros room
+  pub leaves : Leaves T n room r work
+  pub size : length work ≡ room
+
+-- the same, with a work slice that may hold anything where something is wrong
+abbrev pub LeavesGood : Table → ℕ → ℕ → Linked → List ℕ → Type 0
+LeavesGood T n room Good work = (x : ℕ) → getD work x 0 ≡ leftAt T n room x
+LeavesGood T n room (Reference t) work = Unit {0}
+LeavesGood T n room (Endless t) work = Unit {0}
+
+pub record BothOf (T : Table) (n room : ℕ) (r : Linked) (work : List ℕ) : Type 0 where
+  pub says : linkedAsPaper T r ≡ linksSay T n room
+  pub leaves : LeavesGood T n room r work

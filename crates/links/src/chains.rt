@@ -1,15 +1,16 @@
 // Phase 5, the first sort of walk: by-value references are followed depth first, each once, with a mark for each type in the work slice.
 use crate::held::Held;
-use crate::held::next_held;
+use crate::held::next_open;
 use paper::TypeNo;
+use recall::mark_of;
 use views::View;
 use views::record_of;
 ghost use mathlib.Core.Path.{_≡_};
 ghost use lib.ListN.{getD};
-ghost use Rattle.links.specs.Search.{AtRoot, Followable, Followed, OnWay, MoveOf, Unsearched, ringAsPaper, ringsBy};
+ghost use Rattle.links.specs.Search.{AtRoot, ChainsOf, Followable, Followed, OnWay, MoveOf, Unsearched, done};
 ghost use Rattle.paper.specs.rules.Chain.{heldBy};
-ghost use Rattle.paper.specs.rules.Gate.{overTypes};
 ghost use Rattle.paper.specs.rules.Table.{recordAt};
+ghost use Rattle.recall.specs.Recall.{markTold};
 ghost use Rattle.views.specs.Shown.{tableBy};
 
 // The smallest type that leads to a ring of some sort, if there is one.
@@ -18,21 +19,18 @@ pub(crate) enum Ring {
     From(TypeNo),
 }
 
-// How the search goes on: at a word of a type; or a reference leads back into the way; or the root is finished.
+// How the search goes on: at a slot of a type; or a reference leads back into the way; or the root is finished.
 enum Move {
     On(TypeNo, u32),
     Met,
     Finished,
 }
 
-// The mark of a type of which nothing is left. 0 is the mark of one not seen, 1 that of a root on its way.
-const DONE: u32 = 4294967295;
+// A type of which nothing is left has what is remembered of it for a mark, which is high. 0 is the mark of one not seen, 1 that of a root on
+// its way; any other mark is 1 + SLOTS * the type that led here + the number of the slot behind the reference. No record has so many slots.
+const SLOTS: u32 = 65536;
 
-// Any other mark is 1 + WORDS * the type that led here + the number of the word behind the reference. No record has so many words, and a
-// factor of 2^18 would be too large: the mark of type 16,384 would pass 32 bits.
-const WORDS: u32 = 196612;
-
-// One step, from word j of type t on.
+// One step, from slot j of type t on.
 fn move_from<'a>(
     base: &'a [u8],
     b: &'a [u8],
@@ -43,30 +41,28 @@ fn move_from<'a>(
     work: &mut [u32],
 ) -> Move
     requires { ⌜ Followable (tableBy (now base) (now b) (now index) view) (view .n) (now work) × OnWay (view .n) (t .0) (now work) ⌝ }
-    ensures { λ r. ⌜ MoveOf (recordAt (tableBy (now (base .entry)) (now (b .entry)) (now (index .entry)) view) (t .0)) (now (work .entry)) (t .0) j (now (work .exit)) r ⌝ }
+    ensures { λ r. ⌜ MoveOf (recordAt (tableBy (now (base .entry)) (now (b .entry)) (now (index .entry)) view) (t .0)) (now (work .entry)) (t .0) j (markTold (now (work .entry)) (tableBy (now (base .entry)) (now (b .entry)) (now (index .entry)) view) (recordAt (tableBy (now (base .entry)) (now (b .entry)) (now (index .entry)) view) (t .0))) (now (work .exit)) r ⌝ }
 {
     let from = t.0 as usize;
     let order = view.order;
-    match next_held(order, record_of(base, b, index, view, t), j) {
+    let bytes = record_of(base, b, index, view, t);
+    match next_open(order, bytes, work, j) {
         Held::Nothing => {
             let mark = work[from];
-            work[from] = DONE;
+            work[from] = mark_of(base, b, index, view, work, bytes);
             if mark == 1 {
                 return Move::Finished;
             }
             let way = mark - 1;
-            Move::On(TypeNo(way / WORDS), way % WORDS)
+            Move::On(TypeNo(way / SLOTS), way % SLOTS)
         }
         Held::Found(u, k) => {
             let to = u.0 as usize;
             let mark = work[to];
-            if mark == DONE {
-                return Move::On(t, k);
-            }
             if mark != 0 {
                 return Move::Met;
             }
-            work[to] = 1 + t.0 * WORDS + k;
+            work[to] = 1 + t.0 * SLOTS + k;
             Move::On(u, 0)
         }
     }
@@ -82,7 +78,7 @@ fn follow<'a>(
     work: &mut [u32],
 ) -> bool
     requires { ⌜ AtRoot (tableBy (now base) (now b) (now index) view) (view .n) (root .0) (now work) × (getD (now work) (root .0) 0 ≡ 0) ⌝ }
-    ensures { λ r. ⌜ Followed (heldBy (tableBy (now (base .entry)) (now (b .entry)) (now (index .entry)) view)) (view .n) (root .0) (now (work .exit)) r ⌝ }
+    ensures { λ r. ⌜ Followed (heldBy (tableBy (now (base .entry)) (now (b .entry)) (now (index .entry)) view)) (done (tableBy (now (base .entry)) (now (b .entry)) (now (index .entry)) view)) (view .n) (root .0) (now (work .exit)) r ⌝ }
 {
     let mut t = root.0;
     let mut j: u32 = 0;
@@ -109,7 +105,7 @@ fn visit<'a>(
     work: &mut [u32],
 ) -> bool
     requires { ⌜ AtRoot (tableBy (now base) (now b) (now index) view) (view .n) (root .0) (now work) ⌝ }
-    ensures { λ r. ⌜ Followed (heldBy (tableBy (now (base .entry)) (now (b .entry)) (now (index .entry)) view)) (view .n) (root .0) (now (work .exit)) r ⌝ }
+    ensures { λ r. ⌜ Followed (heldBy (tableBy (now (base .entry)) (now (b .entry)) (now (index .entry)) view)) (done (tableBy (now (base .entry)) (now (b .entry)) (now (index .entry)) view)) (view .n) (root .0) (now (work .exit)) r ⌝ }
 {
     let at = root.0 as usize;
     if work[at] != 0 {
@@ -127,7 +123,7 @@ pub(crate) fn chains<'a>(
     work: &mut [u32],
 ) -> Ring
     requires { ⌜ Unsearched (tableBy (now base) (now b) (now index) view) (view .n) (now work) ⌝ }
-    ensures { λ r. ⌜ ringAsPaper (tableBy (now (base .entry)) (now (b .entry)) (now (index .entry)) view) r ≡ overTypes (ringsBy heldBy) (tableBy (now (base .entry)) (now (b .entry)) (now (index .entry)) view) ⌝ }
+    ensures { λ r. ⌜ ChainsOf (tableBy (now (base .entry)) (now (b .entry)) (now (index .entry)) view) (view .n) r (now (work .exit)) ⌝ }
 {
     let n = view.n;
     let mut t: u32 = 0;

@@ -2,78 +2,60 @@
 use paper::Order;
 use paper::Place;
 use paper::TypeNo;
-use rows::entry_role;
-use rows::entry_words;
-use rows::is_held;
+use recall::SETTLED;
+use rows::held_place;
 use rows::kind_of;
-use rows::name_role;
-use rows::once_role;
-use rows::once_words;
-use rows::tail_words;
-use rows::third_role;
+use rows::vlen_of;
 ghost use mathlib.Core.Path.{_≡_};
-ghost use Prim.Native.Nat.{_+_, _<_};
-ghost use lib.ListN.{length};
-ghost use Rattle.links.specs.Holding.{HeldIs, WordOf, heldFrom, rolesBy, tailRolesBy};
-ghost use Rattle.paper.specs.rules.Chain.{stepTo};
+ghost use Rattle.links.specs.Holding.{HeldIs, isOpen, slotCount};
 ghost use Rattle.paper.specs.terms.Reading.{recordIn};
-ghost use Rattle.kindrows.specs.Codes.{roleAt};
 
-// A type that is held, with the number of the word behind the reference, or that no more are held.
+// A type that is held, with the number of the slot behind the reference, or that all others are done.
 pub(crate) enum Held {
     Found(TypeNo, u32),
     Nothing,
 }
 
-// The role of a tail's word by its number: once, or that of its place in its entry.
-fn tail_role(info: u32, i: u32) -> u32
-    requires { ⌜ i < length (tailRolesBy info) ⌝ }
-    ensures { λ r. ⌜ r ≡ roleAt (tailRolesBy info) i ⌝ }
+// How many slots a record has, by where the first stands.
+fn slot_count(place: u32, info: u32) -> u32
+    ensures { λ r. ⌜ r ≡ slotCount place info ⌝ }
 {
-    let kind = kind_of(info);
-    let once = once_words(kind);
-    if i < once {
-        return once_role(kind, i);
+    if place == 16 {
+        return vlen_of(info);
     }
-    entry_role(kind, (i - once) % entry_words(kind))
-}
-
-// The role of a record's word by its number.
-fn role_of(info: u32, i: u32) -> u32
-    requires { ⌜ i < length (rolesBy info) ⌝ }
-    ensures { λ r. ⌜ r ≡ roleAt (rolesBy info) i ⌝ }
-{
-    match i {
-        0 => name_role(kind_of(info)),
-        1 => 0,
-        2 => third_role(kind_of(info)),
-        _ => tail_role(info, i - 3),
-    }
-}
-
-// The type that a word holds by value: 0 for none and for a word of another role.
-fn held_at(order: Order, bytes: &[u8], info: u32, i: u32) -> u32
-    requires { ⌜ WordOf order (now bytes) info i ⌝ }
-    ensures { λ r. ⌜ heldFrom (recordIn order (now (bytes .entry))) i ≡ stepTo r (heldFrom (recordIn order (now (bytes .entry))) (i + 1)) ⌝ }
-{
-    if !is_held(role_of(info, i)) {
+    if place == 0 {
         return 0;
     }
-    let at = 4 * i;
-    words::read(order, bytes, Place(at))
+    1
 }
 
-// The first type that a record holds from a word on.
-pub(crate) fn next_held(order: Order, bytes: &[u8], from: u32) -> Held
-    ensures { λ r. ⌜ HeldIs (recordIn order (now (bytes .entry))) from r ⌝ }
+// A type is not done, and is no void.
+fn is_open(work: &[u32], u: u32) -> bool
+    ensures { λ r. ⌜ r ≡ isOpen (now (work .entry)) u ⌝ }
+{
+    if u == 0 {
+        return false;
+    }
+    let i = u as usize;
+    if work.len() <= i {
+        return true;
+    }
+    work[i] < SETTLED
+}
+
+// The first type that a record holds from a slot on and that is not done. A member has three words, so slots stand twelve bytes apart.
+pub(crate) fn next_open(order: Order, bytes: &[u8], work: &[u32], from: u32) -> Held
+    ensures { λ r. ⌜ HeldIs (recordIn order (now (bytes .entry))) (now (work .entry)) from r ⌝ }
 {
     let info = words::read(order, bytes, Place(4));
-    let end = 3 + tail_words(info);
+    let place = held_place(kind_of(info));
+    let end = slot_count(place, info);
     let mut i = from;
     while i < end {
-        let u = held_at(order, bytes, info, i);
+        let at = place + 12 * i;
+        let u = words::read(order, bytes, Place(at));
         i += 1;
-        if u != 0 {
+        if is_open(work, u) {
             return Held::Found(TypeNo(u), i);
         }
     }

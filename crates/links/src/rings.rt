@@ -6,8 +6,7 @@ use paper::TypeNo;
 use scan::clear;
 use views::View;
 ghost use mathlib.Core.Path.{_≡_};
-ghost use Rattle.links.specs.Search.{Unsearched, ringAsPaper, smallerOf};
-ghost use Rattle.paper.specs.rules.Gate.{overTypes, phase5};
+ghost use Rattle.links.specs.Search.{RingsOf, Unsearched, smallerOf};
 ghost use Rattle.views.specs.Shown.{tableBy};
 
 // The smaller of two, where there are two.
@@ -28,8 +27,7 @@ fn smaller(a: Ring, b: Ring) -> Ring
     }
 }
 
-// What phase 5 says: the first of both sorts, each followed by itself over the whole table, so that the marks of one are nothing to
-// the other.
+// What phase 5 says: the first of both sorts, each followed by itself over the whole table. By value is the last, since its marks stay.
 pub(crate) fn rings<'a>(
     base: &'a [u8],
     b: &'a [u8],
@@ -38,9 +36,9 @@ pub(crate) fn rings<'a>(
     work: &mut [u32],
 ) -> Ring
     requires { ⌜ Unsearched (tableBy (now base) (now b) (now index) view) (view .n) (now work) ⌝ }
-    ensures { λ r. ⌜ ringAsPaper (tableBy (now (base .entry)) (now (b .entry)) (now (index .entry)) view) r ≡ overTypes phase5 (tableBy (now (base .entry)) (now (b .entry)) (now (index .entry)) view) ⌝ }
+    ensures { λ r. ⌜ RingsOf (tableBy (now (base .entry)) (now (b .entry)) (now (index .entry)) view) (view .n) r (now (work .exit)) ⌝ }
 {
-    let held = chains(base, b, index, view, work);
+    let pointed = pointers(base, b, index, view, work);
     clear(work);
-    smaller(held, pointers(base, b, index, view, work))
+    smaller(chains(base, b, index, view, work), pointed)
 }

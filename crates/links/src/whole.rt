@@ -9,7 +9,7 @@ use views::View;
 use views::record_of;
 ghost use mathlib.Core.Path.{_≡_};
 ghost use lib.ListN.{length};
-ghost use Rattle.links.specs.Links.{LinksOf, linkedAsPaper, linksSay};
+ghost use Rattle.links.specs.Links.{BothOf, LinksOf, linkedAsPaper};
 ghost use Rattle.paper.specs.rules.Gate.{overTypes, phase4};
 ghost use Rattle.views.specs.Shown.{tableBy};
 
@@ -36,15 +36,17 @@ fn bad<'a>(base: &'a [u8], b: &'a [u8], index: &[u32], view: View) -> Linked
     Linked::Good
 }
 
-// What both phases say; the work slice may hold anything.
+// What both phases say. Where that is something, the work slice may hold anything.
 fn both<'a>(base: &'a [u8], b: &'a [u8], index: &[u32], view: View, work: &mut [u32]) -> Linked
-    ensures { λ r. ⌜ linkedAsPaper (tableBy (now (base .entry)) (now (b .entry)) (now (index .entry)) view) r ≡ linksSay (tableBy (now (base .entry)) (now (b .entry)) (now (index .entry)) view) (view .n) (length (now (work .entry))) ⌝ }
+    ensures { λ r. ⌜ BothOf (tableBy (now (base .entry)) (now (b .entry)) (now (index .entry)) view) (view .n) (length (now (work .entry))) r (now (work .exit)) ⌝ }
 {
     let n = view.n;
     if TYPE_LIMIT < n {
+        clear(work);
         return Linked::Good;
     }
     if work.len() <= n as usize {
+        clear(work);
         return Linked::Good;
     }
     let first = bad(base, b, index, view);
@@ -62,11 +64,15 @@ fn both<'a>(base: &'a [u8], b: &'a [u8], index: &[u32], view: View, work: &mut [
 }
 
 // What both phases say of a table of no more types than the paper allows, where the work slice has a place for each; nothing of
-// another. The work slice ends all 0.
+// another. Where nothing is wrong, the work slice has what is remembered of each type; else it is all 0.
 pub fn links<'a>(base: &'a [u8], b: &'a [u8], index: &[u32], view: View, work: &mut [u32]) -> Linked
     ensures { λ r. ⌜ LinksOf (tableBy (now (base .entry)) (now (b .entry)) (now (index .entry)) view) (view .n) (length (now (work .entry))) r (now (work .exit)) ⌝ }
 {
-    let told = both(base, b, index, view, work);
-    clear(work); // phase 5 leaves its marks
-    told
+    let said = both(base, b, index, view, work);
+    match said {
+        Linked::Good => {}
+        Linked::Reference(_) => clear(work), // phase 4 leaves it as it was lent
+        Linked::Endless(_) => clear(work), // phase 5 leaves its marks
+    }
+    said
 }

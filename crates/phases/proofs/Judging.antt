@@ -1,14 +1,14 @@
 -- Laws of phases 3 to 6 one after the other, over the table that an index shows.
 -- Assumes nothing.
 use Prim.Native.Nat.{ℕ, _-_, _≤_, _<_}
-use mathlib.Core.Path.{_≡_, refl, sym, ap, _∙_}
-use mathlib.Core.Bool.{Bool, true, false, not, cond, _&&_}
+use mathlib.Core.Path.{_≡_, refl, sym, ap, ap₂, _∙_, subst}
+use mathlib.Core.Bool.{Bool, false, not, cond, _&&_}
 use mathlib.Core.List.{List, [], _∷_}
 use mathlib.Core.Option.{Option, none, some}
-use borrow.Author.Tests.{le-leb, lt-ltb}
+use borrow.Author.Tests.{le-leb, lt-leb, le-ltb, lt-ltb}
 use lib.Dec.{leb, ltb}
 use lib.ListN.{length, getD}
-use Rattle.links.specs.Links.{linkedAsPaper, linksSay}
+use Rattle.links.specs.Links.{linkedAsPaper, linksSay, LinksOf}
 use Rattle.links.specs.declared.whole.Linked.{Linked}
 use Rattle.links.specs.declared.whole.Linked.the-variants.{Good, Reference, Endless}
 use Rattle.paper.proofs.basics.Answers.{report-one}
@@ -27,9 +27,11 @@ use Rattle.paper.specs.rules.Table.{Table, count, recordAt}
 use Rattle.paper.specs.rules.Walk.{placeAt}
 use Rattle.paper.specs.declared.Report.{Report}
 use Rattle.paper.specs.declared.TypeNo.{TypeNo}
-use Rattle.phases.specs.Said.{saidAsPaper, phase3By, overShown, linkedShown, judged, JudgeOf}
+use Rattle.phases.specs.Said.{saidAsPaper, phase3By, phase6Told, overShown, behindThird, judged, JudgeOf}
+use Rattle.phases.proofs.Recalls.{sixth-same}
 use Rattle.phases.specs.declared.types.Said.{Said}
 use Rattle.phases.specs.declared.types.Said.the-variants.{Nothing, Says}
+use Rattle.paper.specs.terms.Fit.{Bytes}
 use Rattle.views.proofs.Shows.{tableBy-count}
 use Rattle.views.specs.Shown.{placeBy, tableBy}
 use Rattle.views.specs.declared.View.{View}
@@ -44,20 +46,6 @@ module _ (base b index : List ℕ) (v : View) (room : ℕ) where
   shown-over phase =
       ap (λ (n : ℕ). firstOf (placeBy index v) (phase T) n 1) (sym (tableBy-count base b index v))
       ∙ replaced-firstOf (placeAt T) (placeBy index v) (phase T) (count T) 1
-
-  linked-shown : linkedShown base b index v room ≡ replaced (placeBy index v) (linksSay T (v .n) room)
-  unfolding linkedShown linksSay
-  linked-shown =
-      (λ i. cond test (orElse (shown-over phase4 i) (shown-over phase5 i)) none)
-      ∙ ap (λ (o : Option Answer). cond test o none) (replaced-orElse (placeBy index v) (overTypes phase4 T) (overTypes phase5 T))
-      ∙ go test (orElse (overTypes phase4 T) (overTypes phase5 T))
-    where
-      test : Bool
-      test = leb (v .n) typeLimit && ltb (v .n) room
-
-      go : (z : Bool) (o : Option Answer) → cond z (replaced (placeBy index v) o) none ≡ replaced (placeBy index v) (cond z o none)
-      go true o = refl
-      go false o = refl
 
   -- ── what is said of a table that is the one that is shown, at its own places ──
 
@@ -80,45 +68,79 @@ module _ (base b index : List ℕ) (v : View) (room : ℕ) where
 
     pub judged-over : getD (stringsIn base) (length (stringsIn base) - 1) 0 ≡ 0 → v .n ≤ typeLimit → v .n < room
         → judged base b index v room ≡ orElse (over phase3) (orElse (over phase4) (orElse (over phase5) (over phase6)))
-    unfolding judged linkedShown overShown
+    unfolding judged behindThird overShown
     judged-over last few enough =
-        (λ i. orElse (firstOf (placeBy index v) (λ t. phase3-one last t i) (v .n) 1) (orElse (linkedShown base b index v room) (overShown base b index v phase6)))
+        (λ i. orElse (firstOf (placeBy index v) (λ t. phase3-one last t i) (v .n) 1)
+        (cond (leb (v .n) typeLimit && ltb (v .n) room) (behindThird base b index v) none))
         ∙ rw (le-leb (v .n) typeLimit few, lt-ltb (v .n) room enough)
-        ((λ i. orElse (shown-phase phase3 i) (orElse (orElse (shown-phase phase4 i) (shown-phase phase5 i)) (shown-phase phase6 i)))
-        ∙ ap (orElse (over phase3)) (grouped (over phase4) (over phase5) (over phase6)))
-      where
-        grouped : (x y z : Option Answer) → orElse (orElse x y) z ≡ orElse x (orElse y z)
-        grouped none y z = refl
-        grouped (some a) y z = refl
+        (λ i. orElse (shown-phase phase3 i) (orElse (shown-phase phase4 i) (orElse (shown-phase phase5 i) (shown-phase phase6 i))))
 
-  -- ── what is said where the phases before are silent ──
+  -- ── phases 4 to 6 ──
+
+  module _ (few : v .n ≤ typeLimit) (enough : v .n < room) (w : Linked) {memo : List ℕ} (linked : LinksOf T (v .n) room w memo) where
+    -- what phases 4 and 5 say, at the index's places
+    links-shown : replaced (placeBy index v) (linkedAsPaper T w) ≡ orElse (overShown base b index v phase4) (overShown base b index v phase5)
+    unfolding linksSay
+    links-shown =
+        ap (replaced (placeBy index v))
+        (linked .says
+        ∙ ap (λ (z : Bool). cond z (orElse (overTypes phase4 T) (overTypes phase5 T)) none)
+        (ap₂ (λ (x y : Bool). x && y) (le-leb (v .n) typeLimit few) (lt-ltb (v .n) room enough)))
+        ∙ sym (replaced-orElse (placeBy index v) (overTypes phase4 T) (overTypes phase5 T))
+        ∙ sym (λ i. orElse (shown-over phase4 i) (shown-over phase5 i))
+
+    grouped : (x y z : Option Answer) → orElse (orElse x y) z ≡ orElse x (orElse y z)
+    grouped none y z = refl
+    grouped (some a) y z = refl
+
+    behind-links : {x : Linked} → w ≡ x → orElse (replaced (placeBy index v) (linkedAsPaper T x)) (overShown base b index v phase6) ≡ behindThird base b index v
+    unfolding behindThird
+    behind-links {x} q =
+        ap (λ (o : Option Answer). orElse o (overShown base b index v phase6))
+        (ap (λ (y : Linked). replaced (placeBy index v) (linkedAsPaper T y)) (sym q) ∙ links-shown)
+        ∙ grouped (overShown base b index v phase4) (overShown base b index v phase5) (overShown base b index v phase6)
+
+    pub behind-reference : {t : TypeNo} {p : ℕ} → w ≡ Reference t → p ≡ placeBy index v (t .0) → some (reportAt 13 (t .0) p) ≡ behindThird base b index v
+    behind-reference {t} q at = ap (λ (p : ℕ). some (reportAt 13 (t .0) p)) at ∙ behind-links q
+
+    pub behind-endless : {t : TypeNo} {p : ℕ} → w ≡ Endless t → p ≡ placeBy index v (t .0) → some (reportAt 14 (t .0) p) ≡ behindThird base b index v
+    behind-endless {t} q at = ap (λ (p : ℕ). some (reportAt 14 (t .0) p)) at ∙ behind-links q
+
+    pub behind-sixth : Bytes base → Bytes b → w ≡ Good → {o : Option Answer} → o ≡ overShown base b index v (phase6Told memo) → o ≡ behindThird base b index v
+    behind-sixth low high q e =
+        e ∙ sixth-same base b index v low high few enough (subst (λ (y : Linked). LinksOf T (v .n) room y memo) q linked) ∙ behind-links q
+
+  -- ── all of them ──
 
   module _ (s₃ : Said) (e₃ : saidAsPaper s₃ ≡ overShown base b index v (phase3By (stringsIn base) (stringsIn b))) where
-    behind-third : {o : Option Answer} → saidAsPaper s₃ ≡ o → orElse o (orElse (linkedShown base b index v room) (overShown base b index v phase6))
-        ≡ judged base b index v room
+    abbrev test : Bool
+    test = leb (v .n) typeLimit && ltb (v .n) room
+
+    by-third : {o : Option Answer} → saidAsPaper s₃ ≡ o → orElse o (cond test (behindThird base b index v) none) ≡ judged base b index v room
     unfolding judged
-    behind-third {o} e =
-        ap (λ (x : Option Answer). orElse x (orElse (linkedShown base b index v room) (overShown base b index v phase6))) (sym e ∙ e₃)
+    by-third {o} e = ap (λ (x : Option Answer). orElse x (cond test (behindThird base b index v) none)) (sym e ∙ e₃)
 
     pub judge-third : {r : Report} → s₃ ≡ Says r → saidAsPaper s₃ ≡ judged base b index v room
-    judge-third p = ap saidAsPaper p ∙ behind-third (ap saidAsPaper p)
+    judge-third p = ap saidAsPaper p ∙ by-third (ap saidAsPaper p)
 
-    module _ (n₃ : s₃ ≡ Nothing) (w : Linked) (e₄ : linkedAsPaper T w ≡ linksSay T (v .n) room) where
-      behind-links : {x : Linked} → w ≡ x → orElse (replaced (placeBy index v) (linkedAsPaper T x)) (overShown base b index v phase6)
-          ≡ judged base b index v room
-      behind-links {x} q =
-          ap (λ (o : Option Answer). orElse o (overShown base b index v phase6))
-          (ap (λ (y : Linked). replaced (placeBy index v) (linkedAsPaper T y)) (sym q) ∙ ap (replaced (placeBy index v)) e₄ ∙ sym linked-shown)
-          ∙ behind-third (ap saidAsPaper n₃)
+    module _ (n₃ : s₃ ≡ Nothing) where
+      unasked : test ≡ false → saidAsPaper s₃ ≡ judged base b index v room
+      unasked off =
+          ap saidAsPaper n₃ ∙ sym (ap (λ (z : Bool). cond z (behindThird base b index v) none) off) ∙ by-third (ap saidAsPaper n₃)
 
-      pub judge-reference : {t : TypeNo} {p : ℕ} → w ≡ Reference t → p ≡ placeBy index v (t .0) → some (reportAt 13 (t .0) p) ≡ judged base b index v room
-      judge-reference {t} q at = ap (λ (p : ℕ). some (reportAt 13 (t .0) p)) at ∙ behind-links q
+      pub judge-many : typeLimit < v .n → saidAsPaper s₃ ≡ judged base b index v room
+      judge-many h = unasked (ap (λ (z : Bool). z && ltb (v .n) room) (lt-leb (v .n) typeLimit h))
 
-      pub judge-endless : {t : TypeNo} {p : ℕ} → w ≡ Endless t → p ≡ placeBy index v (t .0) → some (reportAt 14 (t .0) p) ≡ judged base b index v room
-      judge-endless {t} q at = ap (λ (p : ℕ). some (reportAt 14 (t .0) p)) at ∙ behind-links q
+      module _ (few : v .n ≤ typeLimit) where
+        pub judge-short : room ≤ v .n → saidAsPaper s₃ ≡ judged base b index v room
+        judge-short h = unasked (ap₂ (λ (x y : Bool). x && y) (le-leb (v .n) typeLimit few) (le-ltb (v .n) room h))
 
-      pub judge-sixth : w ≡ Good → {o : Option Answer} → o ≡ overShown base b index v phase6 → o ≡ judged base b index v room
-      judge-sixth q e = e ∙ behind-links q
+        pub judge-behind : v .n < room → {o : Option Answer} → o ≡ behindThird base b index v → o ≡ judged base b index v room
+        judge-behind enough e =
+            e
+            ∙ sym (ap (λ (z : Bool). cond z (behindThird base b index v) none)
+            (ap₂ (λ (x y : Bool). x && y) (le-leb (v .n) typeLimit few) (lt-ltb (v .n) room enough)))
+            ∙ by-third (ap saidAsPaper n₃)
 
 -- ── any two results that the contract allows are the same ──
 

@@ -1,2 +1,3 @@
 pub mod TypeDues
+pub mod Recalls
 pub mod Judging

@@ -5,13 +5,30 @@ use crate::types::third;
 use links::Linked;
 use links::links;
 use paper::Report;
+use paper::TYPE_LIMIT;
 use scan::clear;
 use views::View;
 use views::place_of;
 ghost use lib.ListN.{length};
-ghost use Rattle.phases.specs.Said.{JudgeOf};
+ghost use mathlib.Core.Path.{_≡_};
+ghost use Prim.Native.Nat.{_<_, _≤_};
+ghost use Rattle.paper.specs.rules.Limits.{typeLimit};
+ghost use Rattle.phases.specs.Said.{JudgeOf, behindThird, saidAsPaper};
 
-// What phases 3 to 6 say: the earliest speaks. The work slice ends all 0.
+// What phases 4 to 6 say; the work slice may hold anything. Phase 6 asks of it what phase 5 has left there.
+fn behind<'a>(base: &'a [u8], b: &'a [u8], index: &[u32], view: View, work: &mut [u32]) -> Said
+    requires { ⌜ (view .n ≤ typeLimit) × (view .n < length (now work)) ⌝ }
+    ensures { λ r. ⌜ saidAsPaper r ≡ behindThird (now (base .entry)) (now (b .entry)) (now (index .entry)) view ⌝ }
+{
+    match links(base, b, index, view, work) {
+        Linked::Good => sixth(base, b, index, view, work),
+        Linked::Reference(t) => Said::Says(Report::Reference(t, place_of(index, view, t))),
+        Linked::Endless(t) => Said::Says(Report::Endless(t, place_of(index, view, t))),
+    }
+}
+
+// What phases 3 to 6 say: the earliest speaks. Of more types than the limit, or than the work slice has places for, phase 3 alone speaks.
+// The work slice ends all 0.
 pub fn judge<'a>(base: &'a [u8], b: &'a [u8], index: &[u32], view: View, work: &mut [u32]) -> Said
     ensures { λ r. ⌜ JudgeOf (now (base .entry)) (now (b .entry)) (now (index .entry)) view (length (now (work .entry))) r (now (work .exit)) ⌝ }
 {
@@ -23,9 +40,16 @@ pub fn judge<'a>(base: &'a [u8], b: &'a [u8], index: &[u32], view: View, work: &
             return heads;
         }
     }
-    match links(base, b, index, view, work) {
-        Linked::Good => sixth(base, b, index, view),
-        Linked::Reference(t) => Said::Says(Report::Reference(t, place_of(index, view, t))),
-        Linked::Endless(t) => Said::Says(Report::Endless(t, place_of(index, view, t))),
+    let n = view.n;
+    if TYPE_LIMIT < n {
+        clear(work);
+        return heads;
     }
+    if work.len() <= n as usize {
+        clear(work);
+        return heads;
+    }
+    let said = behind(base, b, index, view, work);
+    clear(work); // what is remembered ends with phase 6
+    said
 }

@@ -8,9 +8,9 @@ use views::place_of;
 use views::record_of;
 use views::strings_in;
 ghost use mathlib.Core.Path.{_≡_};
-ghost use Rattle.phases.specs.Said.{overShown, phase3By, saidAsPaper};
+ghost use Rattle.phases.specs.Said.{overShown, phase3By, phase6Told, saidAsPaper};
 ghost use Rattle.paper.specs.rules.Choice.{firstDue};
-ghost use Rattle.paper.specs.rules.Gate.{namingAt, phase6};
+ghost use Rattle.paper.specs.rules.Gate.{namingAt};
 ghost use Rattle.paper.specs.rules.Header.{stringsIn};
 ghost use Rattle.views.specs.Shown.{placeBy, tableBy};
 
@@ -42,11 +42,18 @@ fn heads_at<'a>(
     }
 }
 
-// What phase 6 says of one type.
-fn layout_at<'a>(base: &'a [u8], b: &'a [u8], index: &[u32], view: View, t: TypeNo) -> Said
-    ensures { λ r. ⌜ saidAsPaper r ≡ namingAt (t .0) (placeBy (now (index .entry)) view (t .0)) (firstDue (phase6 (tableBy (now (base .entry)) (now (b .entry)) (now (index .entry)) view) (t .0))) ⌝ }
+// What phase 6 says of one type, by what the slice tells.
+fn layout_at<'a>(
+    base: &'a [u8],
+    b: &'a [u8],
+    index: &[u32],
+    view: View,
+    memo: &[u32],
+    t: TypeNo,
+) -> Said
+    ensures { λ r. ⌜ saidAsPaper r ≡ namingAt (t .0) (placeBy (now (index .entry)) view (t .0)) (firstDue (phase6Told (now (memo .entry)) (tableBy (now (base .entry)) (now (b .entry)) (now (index .entry)) view) (t .0))) ⌝ }
 {
-    if layout_ok(base, b, index, view, t) {
+    if layout_ok(base, b, index, view, memo, t) {
         return Said::Nothing;
     }
     Said::Says(Report::Layout(t, place_of(index, view, t)))
@@ -71,15 +78,21 @@ pub(crate) fn third<'a>(base: &'a [u8], b: &'a [u8], index: &[u32], view: View) 
     Said::Nothing
 }
 
-// Phase 6.
-pub(crate) fn sixth<'a>(base: &'a [u8], b: &'a [u8], index: &[u32], view: View) -> Said
-    ensures { λ r. ⌜ saidAsPaper r ≡ overShown (now (base .entry)) (now (b .entry)) (now (index .entry)) view phase6 ⌝ }
+// Phase 6, by what the slice tells.
+pub(crate) fn sixth<'a>(
+    base: &'a [u8],
+    b: &'a [u8],
+    index: &[u32],
+    view: View,
+    memo: &[u32],
+) -> Said
+    ensures { λ r. ⌜ saidAsPaper r ≡ overShown (now (base .entry)) (now (b .entry)) (now (index .entry)) view (phase6Told (now (memo .entry))) ⌝ }
 {
     let n = view.n;
     let mut t: u32 = 0;
     while t < n {
         t += 1;
-        let said = layout_at(base, b, index, view, TypeNo(t));
+        let said = layout_at(base, b, index, view, memo, TypeNo(t));
         match said {
             Said::Nothing => {}
             Said::Says(_) => return said,

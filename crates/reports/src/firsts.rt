@@ -1,5 +1,6 @@
 // Which entry of a record is the first that breaks the rule of a report: the record is cut to its first entries, and what judges it
 // is asked again. A rule that some entries break is broken by more of them too, so halving finds the entry.
+use layout::layout_ok;
 use links::Linked;
 use links::links;
 use paper::BYTE_LIMIT;
@@ -29,6 +30,22 @@ fn is_endless(said: Linked, t: u32) -> bool {
     }
 }
 
+// The type breaks a rule of the layout: what phase 6 asks of other types, phases 4 and 5 leave in the work slice.
+fn is_misplaced<'a>(
+    none: &'a [u8],
+    b: &'a [u8],
+    index: &[u32],
+    view: View,
+    work: &mut [u32],
+    t: TypeNo,
+) -> bool {
+    match links(none, b, index, view, work) {
+        Linked::Good => !layout_ok(none, b, index, view, work, t),
+        Linked::Reference(_) => false,
+        Linked::Endless(_) => false,
+    }
+}
+
 // The type breaks the rule of the report.
 fn is_broken(
     b: &[u8],
@@ -51,7 +68,7 @@ fn is_broken(
         12 => !tails::tail_ok(order, r),
         13 => !refs::refs_ok(none, b, index, view, r),
         14 => is_endless(links(none, b, index, view, work), t),
-        _ => !layout::layout_ok(none, b, index, view, TypeNo(t)),
+        _ => is_misplaced(none, b, index, view, work, TypeNo(t)),
     }
 }
 

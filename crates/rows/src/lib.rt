@@ -19,6 +19,7 @@ pub use info::kind_of;
 pub use info::vlen_of;
 pub use roles::entry_role;
 pub use roles::entry_words;
+pub use roles::held_place;
 pub use roles::is_held;
 pub use roles::is_name;
 pub use roles::is_reference;

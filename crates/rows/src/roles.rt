@@ -9,7 +9,7 @@ ghost use lib.ListN.{length};
 ghost use Rattle.paper.specs.rules.Kind.{rowOf};
 ghost use Rattle.paper.specs.rules.Table.{tailLength};
 ghost use Rattle.rows.specs.Numbers.{onlyNumbers};
-ghost use Rattle.kindrows.specs.Codes.{isHeldCode, isNameCode, isRefCode, nameCode, roleAt, roleCode, ruleCode, sizeCode};
+ghost use Rattle.kindrows.specs.Codes.{heldPlace, isHeldCode, isNameCode, isRefCode, nameCode, roleAt, roleCode, ruleCode, sizeCode};
 
 // The role of a head's third word.
 pub fn third_role(kind: u32) -> u32
@@ -61,6 +61,13 @@ pub fn entry_role(kind: u32, i: u32) -> u32
         2 => column(tail_row(kind), 1),
         _ => 0,
     }
+}
+
+// The place in a record of its first by-value reference; 0 where the kind has none.
+pub fn held_place(kind: u32) -> u32
+    ensures { λ r. ⌜ r ≡ heldPlace (rowOf kind) ⌝ }
+{
+    column(head_row(kind), 0x1_00_00_00_00_00_00)
 }
 
 // Where a kind's size comes from.

@@ -75,7 +75,7 @@ reaches size Overflow = false
 reaches size Lost = false
 reaches size TooFar = false
 
-told-sized : (r : Sized) (x : Option ℕ) → Measures r x → isSized r ≡ isSome x
+pub told-sized : (r : Sized) (x : Option ℕ) → Measures r x → isSized r ≡ isSome x
 told-sized (Exact s) x m = sym (ap isSome (m .0))
 told-sized NoSize x m = sym (ap isSome m)
 told-sized Overflow none m = absurd (false≢true m)
@@ -83,7 +83,7 @@ told-sized Overflow (some s) m = refl
 told-sized Lost x m = absurd m
 told-sized TooFar x m = absurd m
 
-told-small : (r : Sized) (x : Option ℕ) → Measures r x → smallIn r ≡ within x
+pub told-small : (r : Sized) (x : Option ℕ) → Measures r x → smallIn r ≡ within x
 told-small (Exact s) x m = sym (m .1)
 told-small NoSize x m = sym (ap within m)
 told-small Overflow none m = refl
@@ -91,7 +91,7 @@ told-small Overflow (some s) m = rw (lt-leb s sizeLimit (ltb-true sizeLimit s m)
 told-small Lost x m = absurd m
 told-small TooFar x m = absurd m
 
-told-reaches : (size : ℕ) → size ≤ sizeLimit → (r : Sized) (x : Option ℕ) → Measures r x → reaches size r ≡ coversSize size x
+pub told-reaches : (size : ℕ) → size ≤ sizeLimit → (r : Sized) (x : Option ℕ) → Measures r x → reaches size r ≡ coversSize size x
 told-reaches size h (Exact s) x m = sym (ap (coversSize size) (m .0))
 told-reaches size h NoSize x m = sym (ap (coversSize size) m)
 told-reaches size h Overflow none m = absurd (false≢true m)

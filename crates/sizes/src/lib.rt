@@ -10,6 +10,7 @@ use rows::is_known;
 use rows::kind_of;
 use rows::size_rule;
 pub use shown::size_in;
+pub use shown::step_in;
 ghost use mathlib.Core.Path.{_≡_};
 ghost use Prim.Native.Nat.{_*_, _≤_};
 ghost use mathlib.Core.Bool.{not};
@@ -21,7 +22,7 @@ ghost use Rattle.paper.specs.rules.Word.{wordAt};
 ghost use Rattle.kindrows.specs.Codes.{sizeRuleOf};
 
 // What one record says of a size: it, so many times another type's, none, or that it cannot be read.
-pub(crate) enum Step {
+pub enum Step {
     Is(u32),
     ManyOf(u32, TypeNo),
     Sizeless,
@@ -58,7 +59,7 @@ fn unreadable(kind: u32, len: usize) -> bool
 }
 
 // What a record says, by the words that its bytes begin with: any bytes are some record's.
-fn step_words(order: Order, s: &[u8]) -> Step
+pub fn step_words(order: Order, s: &[u8]) -> Step
     ensures { λ r. ⌜ stepAsPaper r ≡ stepWords order (now (s .entry)) ⌝ }
 {
     let kind = kind_of(words::read(order, s, Place(4)));

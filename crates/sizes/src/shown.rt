@@ -16,7 +16,7 @@ ghost use Rattle.sizes.specs.SizeStep.{stepAsPaper};
 ghost use Rattle.views.specs.Shown.{tableBy};
 
 // What the record of a type says. Only the words that its rule asks for are read.
-fn step_shown(base: &[u8], b: &[u8], index: &[u32], view: View, t: TypeNo) -> Step
+pub fn step_in(base: &[u8], b: &[u8], index: &[u32], view: View, t: TypeNo) -> Step
     ensures { λ r. ⌜ stepAsPaper r ≡ stepIn (tableBy (now (base .entry)) (now (b .entry)) (now (index .entry)) view) (t .0) ⌝ }
 {
     let rule = size_rule(kind_at(base, b, index, view, t));
@@ -48,7 +48,7 @@ pub fn size_in(base: &[u8], b: &[u8], index: &[u32], view: View, t: TypeNo) -> S
             return Sized::NoSize;
         }
         reads -= 1;
-        match step_shown(base, b, index, view, TypeNo(at)) {
+        match step_in(base, b, index, view, TypeNo(at)) {
             Step::Is(s) => return many(count, s),
             Step::ManyOf(n, u) => {
                 count = times(count, n);

@@ -136,7 +136,7 @@ fn field_span(order: Order, bytes: &[u8], offset: u32, size: u32) -> Lies
 }
 
 // By kind_flag.
-pub(crate) fn span_with(order: Order, bytes: &[u8], flag: u32, offset: u32, size: u32) -> Lies
+pub fn span_with(order: Order, bytes: &[u8], flag: u32, offset: u32, size: u32) -> Lies
     ensures { λ r. ⌜ spanAsPaper r ≡ spanWith flag (recordIn order (now (bytes .entry))) offset size ⌝ }
 {
     if flag == 1 {

@@ -2,29 +2,28 @@
 -- Assumes nothing.
 use mathlib.Core.Path.{_≡_, refl, sym, ap, _∙_}
 use denote.Ref.{now}
-use Rattle.paper.specs.rules.Layout.{layoutOk}
+use Rattle.layout.specs.Told.{seen, variableTold, layoutTold}
 use Rattle.paper.specs.terms.Reading.{recordIn}
 use Rattle.paper.specs.rules.Table.{recordAt, kindOf}
-use Rattle.views.specs.Shown.{tableBy}
 use Rattle.rows.proofs.RecordWords.{kind-read, third-read}
 use Rattle.layout.proofs.LayoutKinds.{layout-struct, layout-union, layout-array, layout-var, layout-func, layout-tag, layout-section, layout-other}
-use Rattle.paper.specs.rules.Size.{hasSmallSize}
 use borrow.Author.Needs.{needs}
 use Rattle.layout.proofs.kinds.layout_ok.Statement.{statement}
 use Rattle.layout.proofs.kinds.layout_ok.Tie as tie
 
 -- the kind that was read is that of the type's record
-kind : (c : tie.After-kind-of) → c .kind-of .result ≡ kindOf (recordIn (c .before .before .before .before .before .before .args .view .order) (now (c .before .before .record-of .result)))
+kind : (c : tie.After-kind-of)
+    → c .kind-of .result ≡ kindOf (recordIn (c .before .before .before .before .before .before .before .args .view .order) (now (c .before .before .record-of .result)))
 kind c = kind-read _ _ refl (c .before .read .ensures) (c .kind-of .ensures)
 
 -- what the rules say of the record in the bytes, they say of the type
-of-type : (c : tie.After-kind-of) → let r = c .before .before in let a = r .before .before .before .before .args in
-    let T = tableBy (now (a .base)) (now (a .b)) (now (a .index)) (a .view) in
-    layoutOk T (recordIn (a .view .order) (now (r .record-of .result))) ≡ layoutOk T (recordAt T (a .t .0))
+of-type : (c : tie.After-kind-of) → let r = c .before .before in let a = r .before .before .before .before .before .args in
+    let X = seen (now (a .base)) (now (a .b)) (now (a .index)) (a .view) (now (a .memo)) in
+    layoutTold X (recordIn (a .view .order) (now (r .record-of .result))) ≡ layoutTold X (recordAt (X .table) (a .t .0))
 of-type c =
     let r = c .before .before in
-    let a = r .before .before .before .before .args in
-    ap (layoutOk (tableBy (now (a .base)) (now (a .b)) (now (a .index)) (a .view))) (r .record-of .ensures .shows)
+    let a = r .before .before .before .before .before .args in
+    ap (layoutTold (seen (now (a .base)) (now (a .b)) (now (a .index)) (a .view) (now (a .memo)))) (r .record-of .ensures .shows)
 
 record-of-requires : tie.Need-record-of-requires
 record-of-requires c κs = search needs
@@ -88,10 +87,10 @@ returns-5 c =
     let m = c .before .before in
     let k = m .before in
     let r = k .before .before in
-    let a = r .before .before .before .before .args in
-    let T = tableBy (now (a .base)) (now (a .b)) (now (a .index)) (a .view) in
+    let a = r .before .before .before .before .before .args in
+    let X = seen (now (a .base)) (now (a .b)) (now (a .index)) (a .view) (now (a .memo)) in
     let third = third-read _ (now (r .record-of .result)) refl (c .before .read2 .ensures) in
-    layout-var T _ (kind k) (m .match .keys5) (c .has-small-size .ensures ∙ ap (hasSmallSize T) third) ∙ of-type k
+    layout-var X _ (kind k) (m .match .keys5) (c .has-small-size .ensures ∙ ap (variableTold X) third) ∙ of-type k
 
 returns-6 : tie.Need-returns-6
 returns-6 c =

@@ -3,7 +3,7 @@
 use Prim.Native.Nat.{_*_}
 use native.Mathlib.Omega.{arith}
 use denote.Ref.{now}
-use Rattle.views.specs.Shown.{tableBy}
+use Rattle.layout.specs.Told.{seen}
 use Rattle.spans.specs.Spanned.{memberAt}
 use Rattle.layout.proofs.MembersLeft.{span-read}
 use borrow.Author.Needs.{needs}
@@ -11,19 +11,19 @@ use Rattle.layout.proofs.members.member_ok.Statement.{statement}
 use Rattle.layout.proofs.members.member_ok.Tie as tie
 
 add-second : tie.Need-add-second
-add-second c = omega (arith, c .before .before .before .before .pre)
+add-second c = omega (arith, c .before .before .before .before .before .pre)
 
 read-requires : tie.Need-read-requires
 read-requires c κs = search needs
 
 add-third : tie.Need-add-third
-add-third c = omega (arith, c .before .before .before .before .before .pre)
+add-third c = omega (arith, c .before .before .before .before .before .before .pre)
 
 read-requires-2 : tie.Need-read-requires-2
 read-requires-2 c κs = search needs
 
-member-span-requires : tie.Need-member-span-requires
-member-span-requires c κs = search needs
+span-told-requires : tie.Need-span-told-requires
+span-told-requires c κs = search needs
 
 mul-span-ends : tie.Need-mul-span-ends
 mul-span-ends c = search needs
@@ -34,12 +34,12 @@ span-ends-requires c κs = search needs
 returns : tie.Need-returns
 returns c =
     let s = c .before in
-    let start = s .before .before .before .before .before .before .before in
-    span-read (tableBy (now (start .args .base)) (now (start .args .b)) (now (start .args .index)) (start .args .view)) (start .args .flag) (8 * start .args .size)
+    let start = s .before .before .before .before .before .before .before .before in
+    span-read (seen (now (start .args .base)) (now (start .args .b)) (now (start .args .index)) (start .args .view) (now (start .args .memo))) (start .args .flag) (8 * start .args .size)
     (memberAt (start .args .view .order) (now (start .args .bytes)) (start .args .at .0)) (s .before .before .read .ensures) (s .before .read2 .ensures)
-    (s .member-span .result) (s .member-span .ensures) (c .span-ends .ensures)
+    (s .span-told .result) (s .span-told .ensures) (c .span-ends .ensures)
 
 pub member-ok-spec : {M : Type 1} → statement M
 member-ok-spec =
     tie.close
-    (tie.spec add-second read-requires add-third read-requires-2 member-span-requires mul-span-ends span-ends-requires returns)
+    (tie.spec add-second read-requires add-third read-requires-2 span-told-requires mul-span-ends span-ends-requires returns)

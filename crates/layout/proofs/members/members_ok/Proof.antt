@@ -4,7 +4,7 @@ use mathlib.Core.Path.{refl}
 use native.Mathlib.Omega.{arith}
 use denote.Ref.{now}
 use Rattle.paper.specs.terms.Reading.{recordIn}
-use Rattle.views.specs.Shown.{tableBy}
+use Rattle.layout.specs.Told.{seen}
 use Rattle.rows.proofs.RecordWords.{kind-read, flag-read, third-read}
 use Rattle.layout.proofs.MembersLeft.{Laying, laying-start, laying-done, laying-bad, laying-falls, laying-next}
 use borrow.Author.Needs.{needs}
@@ -12,11 +12,11 @@ use Rattle.layout.proofs.members.members_ok.Statement.{statement}
 use Rattle.layout.proofs.members.members_ok.Tie as tie
 
 abbrev Inv-loop : tie.InvT-loop
-Inv-loop base b index view bytes info size flag kind p₀ left₀ before₀ p left before =
-    Laying (tableBy base b index view) (recordIn (view .order) bytes) (view .order) bytes p left before
+Inv-loop base b index view memo bytes info size flag kind p₀ left₀ before₀ p left before =
+    Laying (seen base b index view memo) (recordIn (view .order) bytes) (view .order) bytes p left before
 
 abbrev μ-loop : tie.MeasureT-loop
-μ-loop base b index view bytes info size flag kind p₀ left₀ before₀ p left before = left
+μ-loop base b index view memo bytes info size flag kind p₀ left₀ before₀ p left before = left
 
 read-requires : tie.Need-read-requires Inv-loop μ-loop
 read-requires c κs = search needs
@@ -36,8 +36,8 @@ tail-words-requires c κs = search needs
 loop-holds : tie.Need-loop-holds Inv-loop μ-loop
 loop-holds c =
     let r = c .before .before .before .before in
-    let start = r .before .before .before .before .before in
-    laying-start (tableBy (now (start .args .base)) (now (start .args .b)) (now (start .args .index)) (start .args .view)) (start .args .view .order) (now (start .args .bytes))
+    let start = r .before .before .before .before .before .before in
+    laying-start (seen (now (start .args .base)) (now (start .args .b)) (now (start .args .index)) (start .args .view) (now (start .args .memo))) (start .args .view .order) (now (start .args .bytes))
     (r .read .ensures) (c .tail-words .ensures)
 
 member-ok-requires : tie.Need-member-ok-requires Inv-loop μ-loop
@@ -51,7 +51,7 @@ returns c =
     let k = l .before .before in
     let f = k .before in
     let r = f .before .before in
-    let bytes = now (r .before .before .before .before .before .args .bytes) in
+    let bytes = now (r .before .before .before .before .before .before .args .bytes) in
     let flag = flag-read _ bytes refl (r .read .ensures) (f .flag-of .ensures) in
     let size = third-read _ bytes refl (f .before .read2 .ensures) in
     laying-bad (l .loop .inv) (c .before .before .loop-test .taken) flag size (c .before .member-ok .ensures) (c .if1 .taken)
@@ -76,7 +76,7 @@ returns-2 c =
     let k = l .before .before in
     let f = k .before in
     let r = f .before .before in
-    let bytes = now (r .before .before .before .before .before .args .bytes) in
+    let bytes = now (r .before .before .before .before .before .before .args .bytes) in
     let flag = flag-read _ bytes refl (r .read .ensures) (f .flag-of .ensures) in
     let size = third-read _ bytes refl (f .before .read2 .ensures) in
     let kind = kind-read _ bytes refl (r .read .ensures) (k .kind-of .ensures) in
@@ -97,7 +97,7 @@ loop-again c =
     let k = l .before .before in
     let f = k .before in
     let r = f .before .before in
-    let bytes = now (r .before .before .before .before .before .args .bytes) in
+    let bytes = now (r .before .before .before .before .before .before .args .bytes) in
     let flag = flag-read _ bytes refl (r .read .ensures) (f .flag-of .ensures) in
     let size = third-read _ bytes refl (f .before .read2 .ensures) in
     let kind = kind-read _ bytes refl (r .read .ensures) (k .kind-of .ensures) in

@@ -1,11 +1,11 @@
--- `layout::others::function_ok` meets its contract: the names of its prototype's parameters.
+-- `layout::others::function_ok` meets its contract.
 -- Assumes nothing.
 use mathlib.Core.Path.{refl}
 use denote.Ref.{now}
-use Rattle.views.specs.Shown.{tableBy}
+use Rattle.layout.proofs.OtherTests.{function-told, function-names}
+use Rattle.layout.specs.Told.{seen}
 use Rattle.paper.specs.terms.Reading.{recordIn}
-use Rattle.rows.proofs.RecordWords.{third-read}
-use Rattle.layout.proofs.OtherTests.{function-names}
+use Rattle.rows.proofs.RecordWords.{kind-read, third-read}
 use borrow.Author.Needs.{needs}
 use Rattle.layout.proofs.others.function_ok.Statement.{statement}
 use Rattle.layout.proofs.others.function_ok.Tie as tie
@@ -16,17 +16,49 @@ read-requires c κs = search needs
 record-of-requires : tie.Need-record-of-requires
 record-of-requires c κs = search needs
 
-all-named-requires : tie.Need-all-named-requires
-all-named-requires c κs = search needs
+read-requires-2 : tie.Need-read-requires-2
+read-requires-2 c κs = search needs
+
+kind-of-requires : tie.Need-kind-of-requires
+kind-of-requires c κs = search needs
+
+told-requires : tie.Need-told-requires
+told-requires c κs = search needs
 
 returns : tie.Need-returns
 returns c =
-    let q = c .before in
-    let start = q .before .before .before .before .before .before in
-    let bytes = now (start .args .bytes) in
-    function-names (tableBy (now (start .args .base)) (now (start .args .b)) (now (start .args .index)) (start .args .view)) (recordIn (start .args .view .order) bytes)
-    (third-read _ bytes refl (q .before .read .ensures))
-    (recordIn (start .args .view .order) (now (q .record-of .result))) (q .record-of .ensures .shows) (c .all-named .ensures)
+    let k = c .before .before in
+    let q = k .before .before in
+    let a = q .before .before .before .before .before .before .before .args in
+    let bytes = now (a .bytes) in
+    let proto = now (q .record-of .result) in
+    function-told (seen (now (a .base)) (now (a .b)) (now (a .index)) (a .view) (now (a .memo))) (recordIn (a .view .order) bytes) (third-read _ bytes refl (q .before .read .ensures))
+    (recordIn (a .view .order) proto) (q .record-of .ensures .shows) (kind-read _ proto refl (k .before .read2 .ensures) (k .kind-of .ensures))
+    (c .before .if1 .taken) (c .told .ensures)
+
+all-named-requires : tie.Need-all-named-requires
+all-named-requires c κs = search needs
+
+returns-2 : tie.Need-returns-2
+returns-2 c =
+    let k = c .before .before in
+    let q = k .before .before in
+    let a = q .before .before .before .before .before .before .before .args in
+    let bytes = now (a .bytes) in
+    let proto = now (q .record-of .result) in
+    function-names (seen (now (a .base)) (now (a .b)) (now (a .index)) (a .view) (now (a .memo))) (recordIn (a .view .order) bytes) (third-read _ bytes refl (q .before .read .ensures))
+    (recordIn (a .view .order) proto) (q .record-of .ensures .shows) (kind-read _ proto refl (k .before .read2 .ensures) (k .kind-of .ensures))
+    (c .before .if1 .left) (c .all-named .ensures)
 
 pub function-ok-spec : {M : Type 1} → statement M
-function-ok-spec = tie.close (tie.spec read-requires record-of-requires all-named-requires returns)
+function-ok-spec =
+    tie.close
+    (tie.spec
+    read-requires
+    record-of-requires
+    read-requires-2
+    kind-of-requires
+    told-requires
+    returns
+    all-named-requires
+    returns-2)

@@ -4,7 +4,7 @@ use mathlib.Core.Path.{refl}
 use native.Mathlib.Omega.{arith}
 use denote.Ref.{now}
 use Rattle.paper.specs.terms.Reading.{recordIn}
-use Rattle.views.specs.Shown.{tableBy}
+use Rattle.layout.specs.Told.{seen}
 use Rattle.rows.proofs.RecordWords.{third-read}
 use Rattle.layout.proofs.EntriesLeft.{Setting, setting-start, setting-done, setting-short, setting-out, setting-next}
 use borrow.Author.Needs.{needs}
@@ -12,11 +12,11 @@ use Rattle.layout.proofs.sections.section_ok.Statement.{statement}
 use Rattle.layout.proofs.sections.section_ok.Tie as tie
 
 abbrev Inv-loop : tie.InvT-loop
-Inv-loop base b index view bytes end p₀ left₀ free₀ p left free =
-    Setting (tableBy base b index view) (recordIn (view .order) bytes) (view .order) bytes p left free
+Inv-loop base b index view memo bytes end p₀ left₀ free₀ p left free =
+    Setting (seen base b index view memo) (recordIn (view .order) bytes) (view .order) bytes p left free
 
 abbrev μ-loop : tie.MeasureT-loop
-μ-loop base b index view bytes end p₀ left₀ free₀ p left free = left
+μ-loop base b index view memo bytes end p₀ left₀ free₀ p left free = left
 
 read-requires : tie.Need-read-requires Inv-loop μ-loop
 read-requires c κs = search needs
@@ -30,8 +30,8 @@ tail-words-requires c κs = search needs
 loop-holds : tie.Need-loop-holds Inv-loop μ-loop
 loop-holds c =
     let r = c .before in
-    let start = r .before .before .before .before .before .before in
-    setting-start (tableBy (now (start .args .base)) (now (start .args .b)) (now (start .args .index)) (start .args .view)) (start .args .view .order) (now (start .args .bytes))
+    let start = r .before .before .before .before .before .before .before in
+    setting-start (seen (now (start .args .base)) (now (start .args .b)) (now (start .args .index)) (start .args .view) (now (start .args .memo))) (start .args .view .order) (now (start .args .bytes))
     (r .read2 .ensures) (c .tail-words .ensures)
 
 read-requires-3 : tie.Need-read-requires-3 Inv-loop μ-loop
@@ -70,7 +70,7 @@ returns-2 c =
     let i = v .before .before .before in
     let l = i .before in
     let z = l .before .before .before in
-    let bytes = now (z .before .before .before .before .before .args .bytes) in
+    let bytes = now (z .before .before .before .before .before .before .args .bytes) in
     setting-out (l .loop .inv) (i .loop-test .taken) (v .before .before .read3 .ensures) (v .before .read4 .ensures) (v .read5 .ensures)
     (e .before .covers .ensures) (e .if1 .left) (third-read _ bytes refl (z .read .ensures)) (c .before .placed .ensures) (c .if2 .taken)
 
@@ -96,7 +96,7 @@ loop-again c =
     let i = v .before .before .before in
     let l = i .before in
     let z = l .before .before .before in
-    let bytes = now (z .before .before .before .before .before .args .bytes) in
+    let bytes = now (z .before .before .before .before .before .before .args .bytes) in
     setting-next (l .loop .inv) (i .loop-test .taken) (v .before .before .read3 .ensures) (v .before .read4 .ensures) (v .read5 .ensures)
     (e .before .covers .ensures) (e .if1 .left) (third-read _ bytes refl (z .read .ensures)) (c .before .placed .ensures) (c .if2 .left)
 

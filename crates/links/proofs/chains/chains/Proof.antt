@@ -2,14 +2,14 @@
 -- Assumes nothing.
 use Prim.Native.Nat.{_+_, _-_}
 use mathlib.Core.Bool.{Bool}
-use mathlib.Core.Path.{_≡_, _∙_, subst}
+use mathlib.Core.Path.{_≡_, refl, _∙_, subst}
 use native.Mathlib.Omega.{arith}
 use denote.Ref.{now}
 use lib.ListN.{length}
 use Rattle.paper.specs.rules.Chain.{heldBy}
 use Rattle.views.specs.Shown.{tableBy}
-use Rattle.links.specs.Search.{Followed}
-use Rattle.links.proofs.Roots.{Rooting, rooting-start, rooting-done, rooting-ring, rooting-next}
+use Rattle.links.specs.Search.{done, Followed}
+use Rattle.links.proofs.Roots.{Rooting, rooting-start, rooting-done, rooting-ring, rooting-asks, rooting-next}
 use borrow.Author.Needs.{needs}
 use Rattle.links.proofs.chains.chains.Statement.{statement}
 use Rattle.links.proofs.chains.chains.Tie as tie
@@ -24,8 +24,9 @@ abbrev μ-loop : tie.MeasureT-loop
 followed : (c : tie.After-visit Inv-loop μ-loop) {z : Bool} → let l = c .before .before .before in
     let a = l .before .before .before .before .before .args in
     c .visit .result ≡ z
-    → Followed (heldBy (tableBy (now (a .base)) (now (a .b)) (now (a .index)) (a .view))) (a .view .n) (l .loop .t + 1) (c .visit .last .1 .1 .1 .1 .1 .0) z
-followed c e = subst (Followed _ _ _ _) e (c .visit .ensures)
+    → Followed (heldBy (tableBy (now (a .base)) (now (a .b)) (now (a .index)) (a .view))) (done (tableBy (now (a .base)) (now (a .b)) (now (a .index)) (a .view)))
+    (a .view .n) (l .loop .t + 1) (c .visit .last .1 .1 .1 .1 .1 .0) z
+followed c e = subst (Followed _ _ _ _ _) e (c .visit .ensures)
 
 loop-holds : tie.Need-loop-holds Inv-loop μ-loop
 loop-holds c = rooting-start (c .before .before .before .before .pre)
@@ -34,7 +35,7 @@ add-t : tie.Need-add-t Inv-loop μ-loop
 add-t c = search needs
 
 visit-requires : tie.Need-visit-requires Inv-loop μ-loop
-visit-requires c κs = let l = c .before .before .loop in record { ready = l .inv .ready; clean = l .inv .clean; low = omega arith; high = omega arith }
+visit-requires c κs = rooting-asks (c .before .before .loop .inv) (c .before .loop-test .taken)
 
 same-length : tie.Need-same-length Inv-loop μ-loop
 same-length c = let v = c .before .before .before in v .visit .kept .1 .1 .1 .1 .1 .0 ∙ v .before .before .before .loop .inv .size-kept
@@ -42,7 +43,7 @@ same-length c = let v = c .before .before .before in v .visit .kept .1 .1 .1 .1 
 returns : tie.Need-returns Inv-loop μ-loop
 returns c =
     let v = c .before .before .before in
-    rooting-ring (v .before .before .before .loop .inv) (v .before .before .loop-test .taken) (followed v (c .if1 .taken))
+    rooting-ring (v .before .before .before .loop .inv) (v .before .before .loop-test .taken) refl (followed v (c .if1 .taken))
 
 loop-less : tie.Need-loop-less Inv-loop μ-loop
 loop-less c = omega arith

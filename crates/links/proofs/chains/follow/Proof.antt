@@ -4,6 +4,7 @@ use mathlib.Core.Path.{_≡_, _∙_, subst}
 use denote.Ref.{now}
 use lib.ListN.{length, length-set}
 use Rattle.paper.specs.rules.Table.{recordAt}
+use Rattle.recall.specs.Recall.{markTold}
 use Rattle.views.specs.Shown.{tableBy}
 use Rattle.links.specs.declared.chains.Move.{Move}
 use Rattle.links.specs.Search.{MoveOf}
@@ -22,8 +23,9 @@ abbrev μ-loop : tie.MeasureT-loop
 moved : (c : tie.After-move-from Inv-loop μ-loop) {s : Move} → let l = c .before .before in let a = l .before .before .before .before .before .args in
     c .move-from .result ≡ s
     → MoveOf (recordAt (tableBy (now (a .base)) (now (a .b)) (now (a .index)) (a .view)) (l .loop .t)) (l .loop .work) (l .loop .t) (l .loop .j)
+    (let T = tableBy (now (a .base)) (now (a .b)) (now (a .index)) (a .view) in markTold (l .loop .work) T (recordAt T (l .loop .t)))
     (c .move-from .last .1 .1 .1 .1 .1 .1 .0) s
-moved c e = subst (MoveOf _ _ _ _ _) e (c .move-from .ensures)
+moved c e = subst (MoveOf _ _ _ _ _ _) e (c .move-from .ensures)
 
 -- the work slice is as long as it was
 same-size : (c : tie.After-move-from Inv-loop μ-loop)

@@ -1,9 +1,8 @@
--- `phases::judged::judge` meets its contract: the earliest phase that says something speaks.
+-- `phases::judged::judge` meets its contract.
 -- Assumes nothing.
 use mathlib.Core.Path.{ap, _∙_}
-use Rattle.paper.specs.rules.Answer.{reportAsPaper}
 use Rattle.paper.specs.rules.Gate.{zeros}
-use Rattle.phases.proofs.Judging.{judge-third, judge-reference, judge-endless, judge-sixth}
+use Rattle.phases.proofs.Judging.{judge-third, judge-many, judge-short, judge-behind}
 use borrow.Author.Needs.{needs}
 use Rattle.phases.proofs.judged.judge.Statement.{statement}
 use Rattle.phases.proofs.judged.judge.Tie as tie
@@ -25,79 +24,52 @@ same-length c = search needs
 
 returns : tie.Need-returns
 returns c =
-    let l = c .before .before in
-    let e = l .before .before in
-    let h = e .before .before in
-    record { says = judge-third _ _ _ _ _ (h .third .result) (h .third .ensures) (e .enum-told2 .given .1); cleared = l .clear .ensures }
+    let h = c .before .before .before .before .before .before in
+    record { says = judge-third _ _ _ _ _ (h .third .result) (h .third .ensures) (c .before .before .before .before .enum-told2 .given .1); cleared = c .before .before .clear .ensures }
 
-links-requires : tie.Need-links-requires
-links-requires c κs = search needs
-
-enum-told-3 : tie.Need-enum-told-3
-enum-told-3 c = search needs
-
-sixth-requires : tie.Need-sixth-requires
-sixth-requires c κs = search needs
-
-enum-known-t : tie.Need-enum-known-t
-enum-known-t c = search needs
-
-place-of-requires : tie.Need-place-of-requires
-place-of-requires c κs = search needs
-
-enum-known-t-2 : tie.Need-enum-known-t-2
-enum-known-t-2 c = search needs
-
-place-of-requires-2 : tie.Need-place-of-requires-2
-place-of-requires-2 c κs = search needs
+clear-requires-2 : tie.Need-clear-requires-2
+clear-requires-2 c κs = search needs
 
 same-length-2 : tie.Need-same-length-2
 same-length-2 c = search needs
 
 returns-2 : tie.Need-returns-2
 returns-2 c =
-    let w = c .before .before .before .before .before in
-    let n = w .before .before in
-    let h = n .before .before in
-    record {
-      says =
-          judge-sixth _ _ _ _ _ (h .third .result) (h .third .ensures) (n .enum-told .given .1) (w .links .result) (w .links .ensures .says)
-          (c .before .enum-told3 .given .1) (c .sixth .ensures);
-      cleared = w .links .ensures .cleared;
-    }
+    let h = c .before .before .before .before .before .before .before in
+    record { says = judge-many _ _ _ _ _ (h .third .result) (h .third .ensures) (c .before .before .before .before .before .enum-told .given .1) (c .before .before .before .before .if1 .taken); cleared = c .before .before .clear2 .ensures }
+
+cast-if2 : tie.Need-cast-if2
+cast-if2 c = search needs
+
+clear-requires-3 : tie.Need-clear-requires-3
+clear-requires-3 c κs = search needs
 
 same-length-3 : tie.Need-same-length-3
 same-length-3 c = search needs
 
 returns-3 : tie.Need-returns-3
-unfolding reportAsPaper
 returns-3 c =
-    let t = c .before .before in
-    let w = t .before .before .before .before in
-    let n = w .before .before in
-    let h = n .before .before in
-    record {
-      says =
-          judge-reference _ _ _ _ _ (h .third .result) (h .third .ensures) (n .enum-told .given .1) (w .links .result) (w .links .ensures .says)
-          (t .t .given .1) (c .place-of .ensures);
-      cleared = w .links .ensures .cleared;
-    }
+    let h = c .before .before .before .before .before .before .before .before in
+    record { says = judge-short _ _ _ _ _ (h .third .result) (h .third .ensures) (c .before .before .before .before .before .before .enum-told .given .1) (c .before .before .before .before .before .if1 .left) (c .before .before .before .before .if2 .taken); cleared = c .before .before .clear3 .ensures }
+
+behind-requires : tie.Need-behind-requires
+behind-requires c κs = search needs
+
+clear-requires-4 : tie.Need-clear-requires-4
+clear-requires-4 c κs = search needs
 
 same-length-4 : tie.Need-same-length-4
 same-length-4 c = search needs
 
 returns-4 : tie.Need-returns-4
-unfolding reportAsPaper
 returns-4 c =
-    let t = c .before .before in
-    let w = t .before .before .before .before in
-    let n = w .before .before in
-    let h = n .before .before in
+    let s = c .before .before .before .before .before .before in
+    let h = s .before .before .before .before .before .before in
     record {
       says =
-          judge-endless _ _ _ _ _ (h .third .result) (h .third .ensures) (n .enum-told .given .1) (w .links .result) (w .links .ensures .says)
-          (t .t2 .given .1) (c .place-of2 .ensures);
-      cleared = w .links .ensures .cleared;
+          judge-behind _ _ _ _ _ (h .third .result) (h .third .ensures) (s .before .before .before .before .enum-told .given .1) (s .before .before .before .if1 .left)
+          (s .before .before .if2 .left) (s .behind .ensures);
+      cleared = c .before .before .clear4 .ensures ∙ ap zeros (s .behind .kept .1 .1 .1 .1 .0);
     }
 
 pub judge-spec : {M : Type 1} → statement M
@@ -110,16 +82,14 @@ judge-spec =
     clear-requires
     same-length
     returns
-    links-requires
-    enum-told-3
-    sixth-requires
-    enum-known-t
-    place-of-requires
-    enum-known-t-2
-    place-of-requires-2
+    clear-requires-2
     same-length-2
     returns-2
+    cast-if2
+    clear-requires-3
     same-length-3
     returns-3
+    behind-requires
+    clear-requires-4
     same-length-4
     returns-4)

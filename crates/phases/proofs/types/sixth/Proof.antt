@@ -4,18 +4,17 @@ use Prim.Native.Nat.{_-_}
 use mathlib.Core.Path.{ap}
 use native.Mathlib.Omega.{arith}
 use Rattle.paper.proofs.gates.Looks.{Looking, looking-start, looking-next, looking-says, looking-done}
-use Rattle.paper.specs.rules.Gate.{phase6}
-use Rattle.phases.specs.Said.{overShown, saidAsPaper}
+use Rattle.phases.specs.Said.{overShown, phase6Told, saidAsPaper}
 use Rattle.views.specs.Shown.{placeBy, tableBy}
 use borrow.Author.Needs.{needs}
 use Rattle.phases.proofs.types.sixth.Statement.{statement}
 use Rattle.phases.proofs.types.sixth.Tie as tie
 
 abbrev Inv-loop : tie.InvT-loop
-Inv-loop base b index view n t₀ t = Looking (placeBy index view) (phase6 (tableBy base b index view)) (view .n) t
+Inv-loop base b index view memo n t₀ t = Looking (placeBy index view) (phase6Told memo (tableBy base b index view)) (view .n) t
 
 abbrev μ-loop : tie.MeasureT-loop
-μ-loop base b index view n t₀ t = view .n - t
+μ-loop base b index view memo n t₀ t = view .n - t
 
 loop-holds : tie.Need-loop-holds Inv-loop μ-loop
 loop-holds c = looking-start _ _ _

@@ -32,8 +32,8 @@ returns c = left-far (c .before .before .loop .inv) (c .before .loop-test .taken
 sub-reads : tie.Need-sub-reads Inv-loop μ-loop
 sub-reads c = omega arith
 
-step-shown-requires : tie.Need-step-shown-requires Inv-loop μ-loop
-step-shown-requires c κs = search needs
+step-in-requires : tie.Need-step-in-requires Inv-loop μ-loop
+step-in-requires c κs = search needs
 
 enum-known-s : tie.Need-enum-known-s Inv-loop μ-loop
 enum-known-s c = search needs
@@ -45,7 +45,7 @@ returns-2 : tie.Need-returns-2 Inv-loop μ-loop
 returns-2 c =
     let d = c .before .before .before .before in
     left-is (d .before .before .before .loop .inv) (d .before .before .loop-test .taken) (d .before .if1 .left)
-    (d .step-shown .ensures)
+    (d .step-in .ensures)
     (ap stepAsPaper (c .before .before .s .given .1)) (c .many .ensures)
 
 enum-known-n : tie.Need-enum-known-n Inv-loop μ-loop
@@ -61,7 +61,7 @@ loop-again : tie.Need-loop-again Inv-loop μ-loop
 loop-again c =
     let d = c .before .before .before .before in
     left-many (d .before .before .before .loop .inv) (d .before .before .loop-test .taken) (d .before .if1 .left)
-    (d .step-shown .ensures) tellIn-cut
+    (d .step-in .ensures) tellIn-cut
     (ap stepAsPaper (c .before .before .n .given .1)) (c .times .ensures)
 
 enum-told : tie.Need-enum-told Inv-loop μ-loop
@@ -72,7 +72,7 @@ unfolding sizedAsPaper
 returns-3 c =
     let d = c .before .before in
     left-sizeless (d .before .before .before .loop .inv) (d .before .before .loop-test .taken) (d .before .if1 .left)
-    (d .step-shown .ensures)
+    (d .step-in .ensures)
     (ap stepAsPaper (c .enum-told .given .1))
 
 enum-told-2 : tie.Need-enum-told-2 Inv-loop μ-loop
@@ -83,7 +83,7 @@ unfolding sizedAsPaper
 returns-4 c =
     let d = c .before .before in
     left-lost (d .before .before .before .loop .inv) (d .before .before .loop-test .taken) (d .before .if1 .left)
-    (d .step-shown .ensures)
+    (d .step-in .ensures)
     (ap stepAsPaper (c .enum-told2 .given .1))
 
 returns-5 : tie.Need-returns-5 Inv-loop μ-loop
@@ -99,7 +99,7 @@ size-in-spec =
     loop-holds
     returns
     sub-reads
-    step-shown-requires
+    step-in-requires
     enum-known-s
     many-requires
     returns-2

@@ -1,0 +1,6 @@
+pub mod Lines
+pub mod Steps
+pub mod Recalling
+pub mod Everywhere
+pub mod NamedLeft
+pub mod Tellings
