@@ -1,1 +1,2 @@
 pub mod NameRoles
+pub mod StructNames

@@ -1,5 +1,7 @@
 // Report 11: "a name breaks the list". A record's words are gone over three at a time, each by its role.
 // Names stand in two string sections, one behind the other: `base` is that of the table that is leaned on, of no bytes where there is none.
+mod structs; // the names of a struct or a union, with no look at a row
+
 use idents::Spelt;
 use idents::identifier;
 use idents::section_name;
@@ -15,10 +17,12 @@ use rows::once_role;
 use rows::once_words;
 use rows::only_numbers;
 use rows::vlen_of;
+pub use structs::struct_names_ok;
 ghost use mathlib.Core.Path.{_≡_};
 ghost use mathlib.Core.Bool.{true};
 ghost use mathlib.Core.List.{[], _∷_};
-ghost use Prim.Native.Nat.{_<_, _≤_};
+ghost use Prim.Native.Nat.{_+_, _<_, _≤_};
+ghost use lib.Dec.{ltb};
 ghost use lib.ListN.{length};
 ghost use Rattle.paper.specs.rules.Choice.{times};
 ghost use Rattle.paper.specs.rules.Kind.{rowOf};
@@ -77,6 +81,18 @@ fn place_in(base: &[u8], off: u32) -> u32
         return off;
     }
     (k - n) as u32
+}
+
+// An offset through both lies in one of them.
+pub fn inside(base: &[u8], strings: &[u8], off: NameOff) -> bool
+    ensures { λ r. ⌜ r ≡ ltb (off .0) (length (now (base .entry)) + length (now (strings .entry))) ⌝ }
+{
+    let k = off.0 as usize;
+    let n = base.len();
+    if k < n {
+        return true;
+    }
+    k - n < strings.len()
 }
 
 // The word at a place, a name, is one that its rule allows. Its offset counts through both string sections.

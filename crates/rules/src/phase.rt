@@ -1,4 +1,5 @@
 // Phase 3 of one record: the smallest of reports 10, 11 and 12 that is due.
+use crate::quick::quiet;
 use heads::head_ok;
 use naming::names_ok;
 use paper::Order;
@@ -16,10 +17,13 @@ pub enum Due {
     Tail,
 }
 
-// "later, the smallest type, then the smallest number": of one type, the smallest number.
+// "later, the smallest type, then the smallest number": of one type, the smallest number. Of most records nothing is due, which few words tell.
 pub fn phase3<'a>(order: Order, bytes: &[u8], base: &'a [u8], strings: &'a [u8]) -> Due
     ensures { λ r. ⌜ dueAsPaper r ≡ firstDue (rulesOf (now (base .entry)) (now (strings .entry)) (recordIn order (now (bytes .entry)))) ⌝ }
 {
+    if quiet(order, bytes, base, strings) {
+        return Due::Nothing;
+    }
     if !head_ok(order, bytes) {
         return Due::Head;
     }

@@ -25,7 +25,7 @@ fn encoding_ok(e: u32) -> bool
 }
 
 // The word of an INT of so many bytes. The size is any word, so eight times it is taken in 64 bits.
-fn int_ok(w: u32, size: u32) -> bool
+pub fn int_ok(w: u32, size: u32) -> bool
     ensures { λ r. ⌜ r ≡ intWordOk w size ⌝ }
 {
     if w / 256 % 256 != 0 {

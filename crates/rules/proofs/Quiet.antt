@@ -1,0 +1,192 @@
+-- Laws of records of which nothing is due, by their info word: what the row of a known kind asks is computed.
+-- Assumes nothing.
+use Prim.Native.Nat.{ℕ, _+_, _*_, _/_}
+use native.Mathlib.Numerals.{add-one}
+use native.Mathlib.Omega.{arith}
+use mathlib.Core.Path.{_≡_, refl, sym, ap, _∙_}
+use mathlib.Core.Bool.{Bool, true, false, not, _&&_, false≢true}
+use mathlib.Core.List.{List, [], _∷_}
+use mathlib.Core.Logic.{_⊎_, inl, inr, ⊎-elim}
+use mathlib.Core.Option.{none}
+use borrow.Author.Tests.{eq-eqb, ne-eqb, not-false}
+use lib.Dec.{ltb}
+use lib.ListN.{length}
+use types.Run.{OneOf}
+use Rattle.heads.proofs.HeadSteps.{headBy-record}
+use Rattle.heads.specs.HeadBy.{headBy}
+use Rattle.pairs.specs.Lean.{nameOkOver, nameWordOver, namesOver}
+use Rattle.paper.proofs.basics.Choices.{Each, and-false, and-nothing, and-true, member-each}
+use Rattle.paper.proofs.bytes.Reading.{everyWord-recordIn, roled-append}
+use Rattle.paper.specs.declared.Order.{Order}
+use Rattle.paper.specs.rules.Choice.{firstDue, member, times}
+use Rattle.paper.specs.rules.Heads.{allowed, headOk, spareZero}
+use Rattle.paper.specs.rules.Kind.{Row, Role, names, number, offset0, rowOf, rows}
+use Rattle.paper.specs.rules.KindNo.{INT, FUNC-PROTO, STRUCT, UNION, VAR}
+use Rattle.paper.specs.rules.Table.{bits, kindIn, vlenIn, flagIn}
+use Rattle.paper.specs.rules.Tails.{tailOk, intWordOk}
+use Rattle.paper.specs.rules.Word.{wordAt}
+use Rattle.paper.specs.terms.Reading.{recordIn, roled, tailRoled}
+use Rattle.rows.proofs.Members.{member-key}
+use Rattle.rules.specs.Phase.{rulesOf}
+use Rattle.rules.specs.Quick.{IntGood}
+use Rattle.tails.proofs.TailKinds.{tail-int, tail-other}
+
+-- ── a record that has no name ──
+
+module _ (base strings : List ℕ) {w : ℕ} where
+  pub nameless-named : (w ≡ 0 → ⊥) → false ≡ nameOkOver base strings offset0 w
+  unfolding nameOkOver
+  nameless-named n =
+      let below = ltb w (length base + length strings) in
+      sym (ap (λ (t : Bool). below && t) (ne-eqb w 0 n) ∙ and-false below)
+
+  pub nameless-none : w ≡ 0 → {r : Bool} → r ≡ ltb 0 (length base + length strings) → r ≡ nameOkOver base strings offset0 w
+  unfolding nameOkOver
+  nameless-none e d = d ∙ sym (and-nothing (ltb 0 (length base + length strings))) ∙ ap (nameOkOver base strings offset0) (sym e)
+
+-- ── the words of an INT ──
+
+pub int-words : {order : Order} {base strings s : List ℕ} {w size off : ℕ} → w ≡ wordAt order s 12 → size ≡ wordAt order s 8 → off ≡ wordAt order s 0
+    → {a b c : Bool} → a ≡ allowed (rowOf INT .thirdValues) size → not a ≡ false → b ≡ ltb off (length base + length strings) → not b ≡ false
+    → c ≡ intWordOk w size → c ≡ true → IntGood order base strings s
+int-words {base = base} {strings = strings} word third first {a} {b} sized good named there whole e =
+    record {
+      size = ap (allowed (rowOf INT .thirdValues)) (sym third) ∙ sym sized ∙ not-false a good;
+      name = ap (λ (k : ℕ). ltb k (length base + length strings)) (sym first) ∙ sym named ∙ not-false b there;
+      word = sym (λ i. intWordOk (word i) (third i)) ∙ sym whole ∙ e;
+    }
+
+-- ── nothing is due ──
+
+-- the names of a record, by its info word
+abbrev namesBy : Order → List ℕ → List ℕ → List ℕ → ℕ → Bool
+namesBy order base strings s info =
+    let row = rowOf (kindIn info) in
+    let test = nameWordOver base strings in
+    roled order test s 0 (names (row .name) ∷ number ∷ row .thirdRole ∷ []) && tailRoled order test s info
+
+-- kinds whose tail has a rule
+abbrev ruled : ℕ → Bool
+ruled k = member k (INT ∷ FUNC-PROTO ∷ VAR ∷ [])
+
+-- an info word that asks for offset 0 and nothing more
+record Bare (order : Order) (base strings s : List ℕ) (w : ℕ) : Type 0 where
+  head : headBy w (wordAt order s 8) ≡ true
+  name : namesBy order base strings s w ≡ (nameOkOver base strings offset0 (wordAt order s 0) && true) && true
+  tail : ruled (kindIn w) ≡ false
+
+-- one of a struct or a union
+record Grouped (info : ℕ) : Type 0 where
+  spare : spareZero info ≡ true
+  row : rowOf (kindIn info) ≡ rowOf STRUCT
+  tail : ruled (kindIn info) ≡ false
+
+group : (info : ℕ) → bits 16 23 info ≡ 0 → bits 29 30 info ≡ 0 → (kindIn info ≡ STRUCT) ⊎ (kindIn info ≡ UNION) → Grouped info
+unfolding rowOf rows spareZero
+group info low high kind =
+    record {
+      spare = and-true (eq-eqb (bits 16 23 info) 0 low) (eq-eqb (bits 29 30 info) 0 high);
+      row = ⊎-elim (λ e. ap rowOf e) (λ e. ap rowOf e) kind;
+      tail = ⊎-elim (λ e. ap ruled e) (λ e. ap ruled e) kind;
+    }
+
+-- it is told by its upper half
+grouped : (info : ℕ) → OneOf (1024 ∷ 1280 ∷ 33792 ∷ 34048 ∷ []) (info / 65536) → Grouped info
+grouped info half =
+    member-each (λ (q : ℕ). info / 65536 ≡ q → Grouped info) (info / 65536) (1024 ∷ 1280 ∷ 33792 ∷ 34048 ∷ [])
+    (sym (member-key (info / 65536) 1024 (1280 ∷ 33792 ∷ 34048 ∷ []) half)) (
+      λ h. group info (omega arith) (omega arith) (inl (omega arith)),
+      (
+        λ h. group info (omega arith) (omega arith) (inr (omega arith)),
+        (
+          λ h. group info (omega arith) (omega arith) (inl (omega arith)),
+          (
+            λ h. group info (omega arith) (omega arith) (inr (omega arith)),
+            tt,
+          ),
+        ),
+      ),
+    )
+    refl
+
+module _ (order : Order) (base strings s : List ℕ) where
+  abbrev test : Role → ℕ → Bool
+  test = nameWordOver base strings
+
+  abbrev named : ℕ → Bool
+  named = namesBy order base strings s
+
+  module _ {info : ℕ} (read : info ≡ wordAt order s 4) where
+    nothing : headBy info (wordAt order s 8) ≡ true → named info ≡ true → tailOk (recordIn order s) ≡ true
+        → none ≡ firstDue (rulesOf base strings (recordIn order s))
+    unfolding namesOver
+    nothing head name tail =
+        let head′ : headOk (recordIn order s) ≡ true = sym (headBy-record order s read refl (sym head)) in
+        let name′ : namesOver base strings (recordIn order s) ≡ true =
+        sym (everyWord-recordIn order test s) ∙ sym (ap named read) ∙ name in
+        rw (head′, name′, tail) refl
+
+    -- a kind whose tail has no rule
+    tail-free : ruled (kindIn info) ≡ false → tailOk (recordIn order s) ≡ true
+    tail-free e = sym (tail-other order s read refl (apart refl) (apart refl) (apart refl))
+      where
+        apart : {k : ℕ} → ruled k ≡ true → kindIn info ≡ k → ⊥
+        apart {k} m p = false≢true (sym e ∙ ap ruled p ∙ m)
+
+    -- ── info words that ask for offset 0 and nothing more ──
+
+    pub quiet-nameless : OneOf (33554432 ∷ 150994944 ∷ 167772160 ∷ 184549376 ∷ []) info → {r : Bool}
+        → r ≡ nameOkOver base strings offset0 (wordAt order s 0) → r ≡ true → none ≡ firstDue (rulesOf base strings (recordIn order s))
+    unfolding rowOf rows roled spareZero
+    quiet-nameless one d e =
+        let bare =
+        member-each (Bare order base strings s) info (33554432 ∷ 150994944 ∷ 167772160 ∷ 184549376 ∷ [])
+        (sym (member-key info 33554432 (150994944 ∷ 167772160 ∷ 184549376 ∷ []) one)) (
+          record { head = refl; name = refl; tail = refl },
+          (
+            record { head = refl; name = refl; tail = refl },
+            (
+              record { head = refl; name = refl; tail = refl },
+              (
+                record { head = refl; name = refl; tail = refl },
+                tt,
+              ),
+            ),
+          ),
+        ) in
+        let first = nameOkOver base strings offset0 (wordAt order s 0) in
+        nothing (bare .head) (bare .name ∙ and-nothing (first && true) ∙ and-nothing first ∙ sym d ∙ e) (tail-free (bare .tail))
+
+    -- ── an INT ──
+
+    pub quiet-int : info ≡ 16777216 → IntGood order base strings s → none ≡ firstDue (rulesOf base strings (recordIn order s))
+    unfolding rowOf rows roled spareZero nameOkOver
+    quiet-int e good =
+        let first = ltb (wordAt order s 0) (length base + length strings) in
+        nothing
+        (ap (λ (w : ℕ). headBy w (wordAt order s 8)) e ∙ good .size)
+        (ap named e ∙ and-nothing (first && true && true) ∙ and-nothing (first && true) ∙ and-nothing first ∙ good .name)
+        (sym (tail-int order s read refl (ap kindIn e) refl refl (sym (good .word))))
+
+    -- ── a struct or a union ──
+
+    pub quiet-struct : OneOf (1024 ∷ 1280 ∷ 33792 ∷ 34048 ∷ []) (info / 65536) → {r : Bool}
+        → r ≡ roled order test s 0 (times (vlenIn info + 1) (rowOf STRUCT .each)) → r ≡ true
+        → none ≡ firstDue (rulesOf base strings (recordIn order s))
+    unfolding rowOf rows roled
+    quiet-struct half d e =
+        let g = grouped info half in
+        let v = vlenIn info in
+        let each = rowOf STRUCT .each in
+        nothing
+        (λ i. g .spare i
+        && allowed (g .row i .flag) (flagIn info)
+        && allowed (g .row i .vlen) v
+        && allowed (g .row i .thirdValues) (wordAt order s 8))
+        ((λ i. roled order test s 0 (names (g .row i .name) ∷ number ∷ g .row i .thirdRole ∷ [])
+        && (roled order test s 12 (g .row i .once) && roled order test s (12 + 4 * length (g .row i .once)) (times v (g .row i .each))))
+        ∙ sym (roled-append order test s 0 each (times v each))
+        ∙ ap (λ (n : ℕ). roled order test s 0 (times n each)) (sym (add-one v))
+        ∙ sym d
+        ∙ e)
+        (tail-free (g .tail))

@@ -1,0 +1,50 @@
+-- `rules::quick::quiet` meets its contract: an arm for each sort of info word.
+-- Assumes nothing.
+use mathlib.Core.Bool.{false≢true}
+use Rattle.rules.proofs.Quiet.{quiet-nameless, quiet-int, quiet-struct}
+use borrow.Author.Needs.{needs}
+use Rattle.rules.proofs.quick.quiet.Statement.{statement}
+use Rattle.rules.proofs.quick.quiet.Tie as tie
+
+info-of-requires : tie.Need-info-of-requires
+info-of-requires c κs = search needs
+
+nameless-requires : tie.Need-nameless-requires
+nameless-requires c κs = search needs
+
+int-good-requires : tie.Need-int-good-requires
+int-good-requires c κs = search needs
+
+struct-names-ok-requires : tie.Need-struct-names-ok-requires
+struct-names-ok-requires c κs = search needs
+
+returns : tie.Need-returns
+returns c =
+    let m = c .before in
+    quiet-nameless _ _ _ _ (m .before .info-of .ensures) (m .match .keys1) (c .nameless .ensures)
+
+returns-2 : tie.Need-returns-2
+returns-2 c =
+    let m = c .before in
+    λ e. quiet-int _ _ _ _ (m .before .info-of .ensures) (m .match .keys2) (c .int-good .ensures e)
+
+returns-3 : tie.Need-returns-3
+returns-3 c =
+    let m = c .before in
+    quiet-struct _ _ _ _ (m .before .before .info-of .ensures) (m .match2 .keys1) (c .struct-names-ok .ensures)
+
+returns-4 : tie.Need-returns-4
+returns-4 c = λ e. absurd (false≢true e)
+
+pub quiet-spec : {M : Type 1} → statement M
+quiet-spec =
+    tie.close
+    (tie.spec
+    info-of-requires
+    nameless-requires
+    int-good-requires
+    struct-names-ok-requires
+    returns
+    returns-2
+    returns-3
+    returns-4)
