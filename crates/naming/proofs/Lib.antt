@@ -1,2 +1,2 @@
 pub mod NameRoles
-pub mod StructNames
+pub mod OptionalNames

@@ -1,10 +1,11 @@
 // Report 11: "a name breaks the list". A record's words are gone over three at a time, each by its role.
 // Names stand in two string sections, one behind the other: `base` is that of the table that is leaned on, of no bytes where there is none.
-mod structs; // the names of a struct or a union, with no look at a row
+mod optional; // a name that may be missing
 
 use idents::Spelt;
 use idents::identifier;
 use idents::section_name;
+pub use optional::optional_ok;
 use paper::NameOff;
 use paper::Order;
 use paper::Place;
@@ -17,7 +18,6 @@ use rows::once_role;
 use rows::once_words;
 use rows::only_numbers;
 use rows::vlen_of;
-pub use structs::struct_names_ok;
 ghost use mathlib.Core.Path.{_≡_};
 ghost use mathlib.Core.Bool.{true};
 ghost use mathlib.Core.List.{[], _∷_};

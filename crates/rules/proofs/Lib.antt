@@ -1,2 +1,3 @@
 pub mod Dues
 pub mod Quiet
+pub mod Spaced

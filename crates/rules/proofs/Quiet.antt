@@ -1,10 +1,10 @@
 -- Laws of records of which nothing is due, by their info word: what the row of a known kind asks is computed.
 -- Assumes nothing.
-use Prim.Native.Nat.{ℕ, _+_, _*_, _/_}
+use Prim.Native.Nat.{ℕ, _+_, _*_, _/_, _≤_}
 use native.Mathlib.Numerals.{add-one}
 use native.Mathlib.Omega.{arith}
 use mathlib.Core.Path.{_≡_, refl, sym, ap, _∙_}
-use mathlib.Core.Bool.{Bool, true, false, not, _&&_, false≢true}
+use mathlib.Core.Bool.{Bool, true, false, not, _&&_, _||_, false≢true}
 use mathlib.Core.List.{List, [], _∷_}
 use mathlib.Core.Logic.{_⊎_, inl, inr, ⊎-elim}
 use mathlib.Core.Option.{none}
@@ -14,21 +14,22 @@ use lib.ListN.{length}
 use types.Run.{OneOf}
 use Rattle.heads.proofs.HeadSteps.{headBy-record}
 use Rattle.heads.specs.HeadBy.{headBy}
-use Rattle.pairs.specs.Lean.{nameOkOver, nameWordOver, namesOver}
+use Rattle.pairs.specs.Lean.{nameOkOver, nameOver, nameWordOver, namesOver}
 use Rattle.paper.proofs.basics.Choices.{Each, and-false, and-nothing, and-true, member-each}
 use Rattle.paper.proofs.bytes.Reading.{everyWord-recordIn, roled-append}
 use Rattle.paper.specs.declared.Order.{Order}
 use Rattle.paper.specs.rules.Choice.{firstDue, member, times}
 use Rattle.paper.specs.rules.Heads.{allowed, headOk, spareZero}
-use Rattle.paper.specs.rules.Kind.{Row, Role, names, number, offset0, rowOf, rows}
+use Rattle.paper.specs.rules.Kind.{NameRule, Row, Role, names, number, identifier, offset0, offset0OrIdentifier, rowOf, rows}
 use Rattle.paper.specs.rules.KindNo.{INT, FUNC-PROTO, STRUCT, UNION, VAR}
+use Rattle.paper.specs.rules.Name.{isIdentifier}
 use Rattle.paper.specs.rules.Table.{bits, kindIn, vlenIn, flagIn}
 use Rattle.paper.specs.rules.Tails.{tailOk, intWordOk}
 use Rattle.paper.specs.rules.Word.{wordAt}
 use Rattle.paper.specs.terms.Reading.{recordIn, roled, tailRoled}
 use Rattle.rows.proofs.Members.{member-key}
 use Rattle.rules.specs.Phase.{rulesOf}
-use Rattle.rules.specs.Quick.{IntGood}
+use Rattle.rules.specs.Quick.{Deciding, undecided, alone, grouped, IntGood}
 use Rattle.tails.proofs.TailKinds.{tail-int, tail-other}
 
 -- ── a record that has no name ──
@@ -43,6 +44,22 @@ module _ (base strings : List ℕ) {w : ℕ} where
   pub nameless-none : w ≡ 0 → {r : Bool} → r ≡ ltb 0 (length base + length strings) → r ≡ nameOkOver base strings offset0 w
   unfolding nameOkOver
   nameless-none e d = d ∙ sym (and-nothing (ltb 0 (length base + length strings))) ∙ ap (nameOkOver base strings offset0) (sym e)
+
+-- ── how many names decide ──
+
+pub deciding-once : {info off n : ℕ} → OneOf (134217728 ∷ 201326592 ∷ 201326593 ∷ []) info → (n ≡ 0) ⊎ ((off ≡ 0 → ⊥) × (n ≡ 1))
+    → Deciding info off n
+deciding-once {info} one h =
+    ⊎-elim (λ z. undecided z) (λ k. alone (sym (member-key info 134217728 (201326592 ∷ 201326593 ∷ []) one)) (k .0) (k .1)) h
+
+pub deciding-grouped : {info off v : ℕ} → OneOf (1024 ∷ 1280 ∷ 33792 ∷ 34048 ∷ []) (info / 65536) → v ≡ vlenIn info → Deciding info off (v + 1)
+deciding-grouped {info} half e =
+    grouped (sym (member-key (info / 65536) 1024 (1280 ∷ 33792 ∷ 34048 ∷ []) half)) (ap (λ (n : ℕ). n + 1) e)
+
+pub deciding-few : {info off n : ℕ} → Deciding info off n → n ≤ 65536
+deciding-few (undecided z) = omega arith
+deciding-few (alone one there k) = omega arith
+deciding-few (grouped half k) = omega arith
 
 -- ── the words of an INT ──
 
@@ -69,10 +86,10 @@ namesBy order base strings s info =
 abbrev ruled : ℕ → Bool
 ruled k = member k (INT ∷ FUNC-PROTO ∷ VAR ∷ [])
 
--- an info word that asks for offset 0 and nothing more
-record Bare (order : Order) (base strings s : List ℕ) (w : ℕ) : Type 0 where
+-- an info word that asks for a name by a rule and nothing more
+record Bare (order : Order) (base strings s : List ℕ) (rule : NameRule) (w : ℕ) : Type 0 where
   head : headBy w (wordAt order s 8) ≡ true
-  name : namesBy order base strings s w ≡ (nameOkOver base strings offset0 (wordAt order s 0) && true) && true
+  name : namesBy order base strings s w ≡ (nameOkOver base strings rule (wordAt order s 0) && true) && true
   tail : ruled (kindIn w) ≡ false
 
 -- one of a struct or a union
@@ -91,10 +108,9 @@ group info low high kind =
     }
 
 -- it is told by its upper half
-grouped : (info : ℕ) → OneOf (1024 ∷ 1280 ∷ 33792 ∷ 34048 ∷ []) (info / 65536) → Grouped info
-grouped info half =
-    member-each (λ (q : ℕ). info / 65536 ≡ q → Grouped info) (info / 65536) (1024 ∷ 1280 ∷ 33792 ∷ 34048 ∷ [])
-    (sym (member-key (info / 65536) 1024 (1280 ∷ 33792 ∷ 34048 ∷ []) half)) (
+group-half : (info : ℕ) → member (info / 65536) (1024 ∷ 1280 ∷ 33792 ∷ 34048 ∷ []) ≡ true → Grouped info
+group-half info half =
+    member-each (λ (q : ℕ). info / 65536 ≡ q → Grouped info) (info / 65536) (1024 ∷ 1280 ∷ 33792 ∷ 34048 ∷ []) half (
       λ h. group info (omega arith) (omega arith) (inl (omega arith)),
       (
         λ h. group info (omega arith) (omega arith) (inr (omega arith)),
@@ -133,14 +149,20 @@ module _ (order : Order) (base strings s : List ℕ) where
         apart : {k : ℕ} → ruled k ≡ true → kindIn info ≡ k → ⊥
         apart {k} m p = false≢true (sym e ∙ ap ruled p ∙ m)
 
-    -- ── info words that ask for offset 0 and nothing more ──
+    -- ── info words that ask for a name and nothing more ──
+
+    bare : (rule : NameRule) → Bare order base strings s rule info → nameOkOver base strings rule (wordAt order s 0) ≡ true
+        → none ≡ firstDue (rulesOf base strings (recordIn order s))
+    bare rule h e =
+        let first = nameOkOver base strings rule (wordAt order s 0) in
+        nothing (h .head) (h .name ∙ and-nothing (first && true) ∙ and-nothing first ∙ e) (tail-free (h .tail))
 
     pub quiet-nameless : OneOf (33554432 ∷ 150994944 ∷ 167772160 ∷ 184549376 ∷ []) info → {r : Bool}
         → r ≡ nameOkOver base strings offset0 (wordAt order s 0) → r ≡ true → none ≡ firstDue (rulesOf base strings (recordIn order s))
     unfolding rowOf rows roled spareZero
     quiet-nameless one d e =
-        let bare =
-        member-each (Bare order base strings s) info (33554432 ∷ 150994944 ∷ 167772160 ∷ 184549376 ∷ [])
+        bare offset0
+        (member-each (Bare order base strings s offset0) info (33554432 ∷ 150994944 ∷ 167772160 ∷ 184549376 ∷ [])
         (sym (member-key info 33554432 (150994944 ∷ 167772160 ∷ 184549376 ∷ []) one)) (
           record { head = refl; name = refl; tail = refl },
           (
@@ -153,9 +175,37 @@ module _ (order : Order) (base strings s : List ℕ) where
               ),
             ),
           ),
-        ) in
-        let first = nameOkOver base strings offset0 (wordAt order s 0) in
-        nothing (bare .head) (bare .name ∙ and-nothing (first && true) ∙ and-nothing first ∙ sym d ∙ e) (tail-free (bare .tail))
+        ))
+        (sym d ∙ e)
+
+    -- one whose name may not be missing, and is not
+    quiet-alone : member info (134217728 ∷ 201326592 ∷ 201326593 ∷ []) ≡ true → {off : ℕ} → off ≡ wordAt order s 0 → (off ≡ 0 → ⊥)
+        → roled order test s 0 (times 1 (rowOf STRUCT .each)) ≡ true → none ≡ firstDue (rulesOf base strings (recordIn order s))
+    unfolding rowOf rows roled spareZero nameOkOver
+    quiet-alone one at n e =
+        let w = wordAt order s 0 in
+        let below = ltb w (length base + length strings) in
+        bare identifier
+        (member-each (Bare order base strings s identifier) info (134217728 ∷ 201326592 ∷ 201326593 ∷ []) one (
+          record { head = refl; name = refl; tail = refl },
+          (
+            record { head = refl; name = refl; tail = refl },
+            (
+              record { head = refl; name = refl; tail = refl },
+              tt,
+            ),
+          ),
+        ))
+        (sym
+        (and-nothing (nameOkOver base strings offset0OrIdentifier w)
+        ∙ ap (λ (t : Bool). below && (t || isIdentifier (nameOver base strings w))) (ne-eqb w 0 (λ z. n (at ∙ z))))
+        ∙ e)
+
+    pub quiet-array : info ≡ 50331648 → wordAt order s 8 ≡ 0 → nameOkOver base strings offset0 (wordAt order s 0) ≡ true
+        → none ≡ firstDue (rulesOf base strings (recordIn order s))
+    unfolding rowOf rows roled spareZero
+    quiet-array e third =
+        bare offset0 (record { head = (λ i. headBy (e i) (third i)); name = ap named e; tail = ap (λ (w : ℕ). ruled (kindIn w)) e })
 
     -- ── an INT ──
 
@@ -170,12 +220,12 @@ module _ (order : Order) (base strings s : List ℕ) where
 
     -- ── a struct or a union ──
 
-    pub quiet-struct : OneOf (1024 ∷ 1280 ∷ 33792 ∷ 34048 ∷ []) (info / 65536) → {r : Bool}
-        → r ≡ roled order test s 0 (times (vlenIn info + 1) (rowOf STRUCT .each)) → r ≡ true
+    quiet-struct : member (info / 65536) (1024 ∷ 1280 ∷ 33792 ∷ 34048 ∷ []) ≡ true
+        → roled order test s 0 (times (vlenIn info + 1) (rowOf STRUCT .each)) ≡ true
         → none ≡ firstDue (rulesOf base strings (recordIn order s))
     unfolding rowOf rows roled
-    quiet-struct half d e =
-        let g = grouped info half in
+    quiet-struct half e =
+        let g = group-half info half in
         let v = vlenIn info in
         let each = rowOf STRUCT .each in
         nothing
@@ -187,6 +237,15 @@ module _ (order : Order) (base strings s : List ℕ) where
         && (roled order test s 12 (g .row i .once) && roled order test s (12 + 4 * length (g .row i .once)) (times v (g .row i .each))))
         ∙ sym (roled-append order test s 0 each (times v each))
         ∙ ap (λ (n : ℕ). roled order test s 0 (times n each)) (sym (add-one v))
-        ∙ sym d
         ∙ e)
         (tail-free (g .tail))
+
+    -- ── names that decide ──
+
+    pub quiet-names : {off n : ℕ} → Deciding info off n → off ≡ wordAt order s 0 → (n ≡ 0 → ⊥) → {r : Bool}
+        → r ≡ roled order test s 0 (times n (rowOf STRUCT .each)) → r ≡ true → none ≡ firstDue (rulesOf base strings (recordIn order s))
+    quiet-names (undecided z) at some d e = absurd (some z)
+    quiet-names (alone one there k) at some d e =
+        quiet-alone one at there (ap (λ (n : ℕ). roled order test s 0 (times n (rowOf STRUCT .each))) (sym k) ∙ sym d ∙ e)
+    quiet-names (grouped half k) at some d e =
+        quiet-struct half (ap (λ (n : ℕ). roled order test s 0 (times n (rowOf STRUCT .each))) (sym k) ∙ sym d ∙ e)

@@ -1,7 +1,7 @@
 -- `naming::inside` meets its contract: below the length of both, by the section that it would lie in.
 -- Assumes nothing.
 use denote.Ref.{now}
-use Rattle.naming.proofs.StructNames.{inside-first, inside-second}
+use Rattle.naming.proofs.OptionalNames.{inside-first, inside-second}
 use borrow.Author.Needs.{needs}
 use Rattle.naming.proofs.inside.Statement.{statement}
 use Rattle.naming.proofs.inside.Tie as tie

@@ -1,7 +1,6 @@
 -- `rules::quick::quiet` meets its contract: an arm for each sort of info word.
 -- Assumes nothing.
-use mathlib.Core.Bool.{false≢true}
-use Rattle.rules.proofs.Quiet.{quiet-nameless, quiet-int, quiet-struct}
+use Rattle.rules.proofs.Quiet.{quiet-nameless, quiet-int, quiet-array}
 use borrow.Author.Needs.{needs}
 use Rattle.rules.proofs.quick.quiet.Statement.{statement}
 use Rattle.rules.proofs.quick.quiet.Tie as tie
@@ -15,8 +14,11 @@ nameless-requires c κs = search needs
 int-good-requires : tie.Need-int-good-requires
 int-good-requires c κs = search needs
 
-struct-names-ok-requires : tie.Need-struct-names-ok-requires
-struct-names-ok-requires c κs = search needs
+array-good-requires : tie.Need-array-good-requires
+array-good-requires c κs = search needs
+
+names-good-requires : tie.Need-names-good-requires
+names-good-requires c κs = search needs
 
 returns : tie.Need-returns
 returns c =
@@ -31,10 +33,12 @@ returns-2 c =
 returns-3 : tie.Need-returns-3
 returns-3 c =
     let m = c .before in
-    quiet-struct _ _ _ _ (m .before .before .info-of .ensures) (m .match2 .keys1) (c .struct-names-ok .ensures)
+    λ e.
+    let good = c .array-good .ensures e in
+    quiet-array _ _ _ _ (m .before .info-of .ensures) (m .match .keys3) (good .0) (good .1)
 
 returns-4 : tie.Need-returns-4
-returns-4 c = λ e. absurd (false≢true e)
+returns-4 c = search needs
 
 pub quiet-spec : {M : Type 1} → statement M
 quiet-spec =
@@ -43,7 +47,8 @@ quiet-spec =
     info-of-requires
     nameless-requires
     int-good-requires
-    struct-names-ok-requires
+    array-good-requires
+    names-good-requires
     returns
     returns-2
     returns-3

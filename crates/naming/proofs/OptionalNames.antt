@@ -1,23 +1,17 @@
--- Laws of the names of a struct or a union: a name that may be missing, and a member of which nothing else is a name.
+-- Laws of an offset that lies in one of two sections, and of a name that may be missing.
 -- Assumes nothing.
 use Prim.Native.Nat.{ℕ, _+_, _-_, _<_, _≤_}
 use mathlib.Core.Path.{_≡_, refl, sym, ap, _∙_}
-use mathlib.Core.Bool.{Bool, true, false, not, _&&_}
+use mathlib.Core.Bool.{Bool, true, false}
 use mathlib.Core.List.{List}
 use native.Mathlib.Omega.{arith}
 use borrow.Author.Tests.{lt-ltb, le-ltb, ltb-true, ltb-false, ne-eqb}
 use lib.Dec.{ltb}
 use lib.ListN.{length}
 use Rattle.paper.proofs.basics.Choices.{and-nothing}
-use Rattle.paper.specs.declared.Order.{Order}
-use Rattle.paper.specs.rules.Choice.{times}
-use Rattle.paper.specs.rules.Kind.{names, offset0OrIdentifier, rowOf, rows}
-use Rattle.paper.specs.rules.KindNo.{STRUCT}
+use Rattle.paper.specs.rules.Kind.{names, offset0OrIdentifier}
 use Rattle.paper.specs.rules.Name.{isIdentifier, nameIn}
-use Rattle.paper.specs.rules.Word.{wordAt}
-use Rattle.paper.specs.terms.Reading.{roled}
 use Rattle.pairs.specs.Lean.{nameOkOver, nameWordOver}
-use Rattle.rows.proofs.ByRole.{Entering, entering-next}
 use Rattle.naming.proofs.NameRoles.{word-inside, word-outside}
 use Rattle.naming.specs.Sections.{sectionOf, placeIn}
 
@@ -51,29 +45,3 @@ module _ (base strings : List ℕ) (w : ℕ) where
     pub optional-named : (w ≡ 0 → ⊥) → from < length s → {r : Bool} → r ≡ isIdentifier (nameIn s from)
         → r ≡ nameWordOver base strings (names offset0OrIdentifier) w
     optional-named n h d = word-inside base strings 3 w refl refl is at h (rw (ne-eqb w 0 n) d)
-
--- ── a member ──
-
--- the names of so many members are those of all
-pub members-start : (order : Order) (base strings s : List ℕ) {v w : ℕ} → v ≡ w → v < 65536
-    → Entering order (nameWordOver base strings) s (rowOf STRUCT .each) 0 (w + 1) 0 (v + 1)
-members-start order base strings s e h =
-    record {
-      few = omega arith;
-      near = omega arith;
-      rest = ap (λ (n : ℕ). roled order (nameWordOver base strings) s 0 (times (n + 1) (rowOf STRUCT .each))) (sym e);
-    }
-
-module _ (order : Order) (base strings s : List ℕ) (p : ℕ) where
-  -- of a member's words the first alone is a name
-  pub member-name : {t : Bool} {w : ℕ} → w ≡ wordAt order s p → t ≡ nameWordOver base strings (names offset0OrIdentifier) w
-      → t ≡ roled order (nameWordOver base strings) s p (rowOf STRUCT .each)
-  unfolding roled rowOf rows
-  member-name read e = e ∙ ap (nameWordOver base strings (names offset0OrIdentifier)) read ∙ sym (and-nothing _)
-
-  -- and it has three words
-  pub member-next : {n left : ℕ} → Entering order (nameWordOver base strings) s (rowOf STRUCT .each) 0 n p left → 0 < left → {t : Bool}
-      → t ≡ roled order (nameWordOver base strings) s p (rowOf STRUCT .each) → not t ≡ false
-      → Entering order (nameWordOver base strings) s (rowOf STRUCT .each) 0 n (p + 12) (left - 1)
-  unfolding rowOf rows
-  member-next here some entry e = entering-next here some entry e refl (omega arith)

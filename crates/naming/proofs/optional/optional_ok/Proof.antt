@@ -1,9 +1,9 @@
--- `naming::structs::optional_ok` meets its contract: offset 0, past both sections, or by the section that holds it.
+-- `naming::optional::optional_ok` meets its contract: offset 0, past both sections, or by the section that holds it.
 -- Assumes nothing.
-use Rattle.naming.proofs.StructNames.{optional-none, optional-past, optional-named}
+use Rattle.naming.proofs.OptionalNames.{optional-none, optional-past, optional-named}
 use borrow.Author.Needs.{needs}
-use Rattle.naming.proofs.structs.optional_ok.Statement.{statement}
-use Rattle.naming.proofs.structs.optional_ok.Tie as tie
+use Rattle.naming.proofs.optional.optional_ok.Statement.{statement}
+use Rattle.naming.proofs.optional.optional_ok.Tie as tie
 
 inside-requires : tie.Need-inside-requires
 inside-requires c κs = search needs

@@ -1,39 +1,31 @@
--- `naming::structs::struct_names_ok` meets its contract: what is left of the members has the names that all have.
+-- `rules::quick::spaced_ok` meets its contract: what is left of the members has the names that all have.
 -- Assumes nothing.
-use Prim.Native.Nat.{_+_}
-use mathlib.Core.Path.{_≡_}
+use mathlib.Core.Path.{_≡_, refl}
 use native.Mathlib.Omega.{arith}
 use borrow.Author.Needs.{needs}
 use denote.Ref.{now}
 use Rattle.paper.specs.rules.Kind.{rowOf}
 use Rattle.paper.specs.rules.KindNo.{STRUCT}
-use Rattle.paper.specs.rules.Table.{vlenIn}
 use Rattle.paper.specs.terms.Reading.{roled}
 use Rattle.pairs.specs.Lean.{nameWordOver}
 use Rattle.rows.proofs.ByRole.{Entering, entering-done, entering-bad}
-use Rattle.naming.proofs.StructNames.{member-name, member-next, members-start}
-use Rattle.naming.proofs.structs.struct_names_ok.Statement.{statement}
-use Rattle.naming.proofs.structs.struct_names_ok.Tie as tie
+use Rattle.rules.proofs.Spaced.{member-name, member-next}
+use Rattle.rules.proofs.quick.spaced_ok.Statement.{statement}
+use Rattle.rules.proofs.quick.spaced_ok.Tie as tie
 
 abbrev Inv-loop : tie.InvT-loop
-Inv-loop order bytes base strings info p₀ left₀ p left = Entering order (nameWordOver base strings) bytes (rowOf STRUCT .each) 0 (vlenIn info + 1) p left
+Inv-loop order bytes base strings n p₀ left₀ p left = Entering order (nameWordOver base strings) bytes (rowOf STRUCT .each) 0 n p left
 
 abbrev μ-loop : tie.MeasureT-loop
-μ-loop order bytes base strings info p₀ left₀ p left = left
+μ-loop order bytes base strings n p₀ left₀ p left = left
 
 -- the name at a place is that of a member
-here : (c : tie.After-optional-ok Inv-loop μ-loop) → let l = c .before .before .before in let a = l .before .before .before .before .before .args in
+here : (c : tie.After-optional-ok Inv-loop μ-loop) → let l = c .before .before .before in let a = l .before .before .before .before .args in
     c .optional-ok .result ≡ roled (a .order) (nameWordOver (now (a .base)) (now (a .strings))) (now (a .bytes)) (l .loop .p) (rowOf STRUCT .each)
 here c = member-name _ _ _ _ _ (c .before .read .ensures) (c .optional-ok .ensures)
 
-vlen-of-requires : tie.Need-vlen-of-requires Inv-loop μ-loop
-vlen-of-requires c κs = search needs
-
-add-left : tie.Need-add-left Inv-loop μ-loop
-add-left c = omega (arith, c .vlen-of .ensures)
-
 loop-holds : tie.Need-loop-holds Inv-loop μ-loop
-loop-holds c = members-start _ _ _ _ (c .vlen-of .ensures) (omega (arith, c .vlen-of .ensures))
+loop-holds c = record { few = omega arith; near = omega arith; rest = refl }
 
 read-requires : tie.Need-read-requires Inv-loop μ-loop
 read-requires c κs = search needs
@@ -61,14 +53,12 @@ loop-again c =
 returns-2 : tie.Need-returns-2 Inv-loop μ-loop
 returns-2 c = entering-done (c .before .loop .inv) (c .loop-test .left)
 
-pub struct-names-ok-spec : {M : Type 1} → statement M
-struct-names-ok-spec =
+pub spaced-ok-spec : {M : Type 1} → statement M
+spaced-ok-spec =
     tie.close
     (tie.spec
     Inv-loop
     μ-loop
-    vlen-of-requires
-    add-left
     loop-holds
     read-requires
     optional-ok-requires
