@@ -12,7 +12,7 @@ use Rattle.paper.specs.rules.Answer.{Answer, report, value, sizedAsPaper}
 use Rattle.paper.specs.rules.Choice.{isSome}
 use Rattle.paper.specs.rules.Limits.{sizeLimit}
 use Rattle.paper.specs.rules.Section.{coversSize}
-use Rattle.paper.specs.rules.Size.{exactSize, hasSize, within, smallSize, hasSmallSize, answerOf}
+use Rattle.paper.specs.rules.Size.{exactSize, within, smallSize, answerOf}
 use Rattle.paper.specs.rules.Table.{Table}
 use Rattle.paper.specs.declared.Sized.{Sized}
 use Rattle.paper.specs.declared.Sized.the-variants.{Exact, NoSize, Overflow, Lost, TooFar}
@@ -99,18 +99,6 @@ told-reaches size h Overflow (some s) m = let l = ltb-true sizeLimit s m in sym 
 told-reaches size h Lost x m = absurd m
 told-reaches size h TooFar x m = absurd m
 
-module _ (T : Table) (t : ℕ) {r r′ : Sized} (is : r ≡ r′) (m : Measures r (exactSize T t)) where
-  pub hasSize-told : isSized r′ ≡ hasSize T t
-  unfolding hasSize
-  hasSize-told = sym (ap isSized is) ∙ told-sized r (exactSize T t) m
-
-  pub smallSize-told : smallIn r′ ≡ smallSize T t
-  unfolding smallSize
-  smallSize-told = sym (ap smallIn is) ∙ told-small r (exactSize T t) m
-
-  pub hasSmallSize-told : isSome (smallIn r′) ≡ hasSmallSize T t
-  unfolding hasSmallSize
-  hasSmallSize-told = ap isSome smallSize-told
-
-  pub covers-told : (size : ℕ) → size ≤ sizeLimit → reaches size r′ ≡ coversSize size (exactSize T t)
-  covers-told size h = sym (ap (reaches size) is) ∙ told-reaches size h r (exactSize T t) m
+pub smallSize-told : (T : Table) (t : ℕ) {r r′ : Sized} → r ≡ r′ → Measures r (exactSize T t) → smallIn r′ ≡ smallSize T t
+unfolding smallSize
+smallSize-told T t {r} is m = sym (ap smallIn is) ∙ told-small r (exactSize T t) m
