@@ -62,14 +62,14 @@ zero-eqb zero = refl
 zero-eqb (suc n) = ne-eqb (suc n) 0 (λ z. omega arith) ∙ sym (ne-eqb 0 (suc n) (λ z. omega arith))
 
 -- offsets behind another one, in a union or a struct
-abbrev offsetsFrom : Bool → ℕ → List ℕ → Bool
+abbrev pub offsetsFrom : Bool → ℕ → List ℕ → Bool
 offsetsFrom union before os = cond union (every (eqb 0) os) (notFalling before os)
 
-offsets-none : (u : Bool) (before : ℕ) → offsetsFrom u before [] ≡ true
+pub offsets-none : (u : Bool) (before : ℕ) → offsetsFrom u before [] ≡ true
 offsets-none true before = refl
 offsets-none false before = refl
 
-offsets-first : (u : Bool) (before o : ℕ) (os : List ℕ) → offsetsFrom u before (o ∷ os) ≡ cond u (eqb 0 o) (leb before o) && offsetsFrom u o os
+pub offsets-first : (u : Bool) (before o : ℕ) (os : List ℕ) → offsetsFrom u before (o ∷ os) ≡ cond u (eqb 0 o) (leb before o) && offsetsFrom u o os
 offsets-first true before o os = refl
 offsets-first false before o os = refl
 
@@ -77,16 +77,16 @@ offsets-first false before o os = refl
 
 module _ (order : Order) (s : List ℕ) where
   -- the members in so many words from a place on
-  abbrev membersFrom : ℕ → ℕ → List Member
+  abbrev pub membersFrom : ℕ → ℕ → List Member
   membersFrom p n = membersIn (wordsFrom order s p n)
 
-  members-few : (p n : ℕ) → n < 3 → membersFrom p n ≡ []
+  pub members-few : (p n : ℕ) → n < 3 → membersFrom p n ≡ []
   members-few p zero h = refl
   members-few p (suc zero) h = refl
   members-few p (suc (suc zero)) h = refl
   members-few p (suc (suc (suc n))) h = absurd (omega arith)
 
-  members-first : (p n : ℕ) → membersFrom p (suc (suc (suc n))) ≡ memberAt order s p ∷ membersFrom (p + 12) n
+  pub members-first : (p n : ℕ) → membersFrom p (suc (suc (suc n))) ≡ memberAt order s p ∷ membersFrom (p + 12) n
   members-first p n =
       let third : p + 4 + 4 ≡ p + 8 = omega arith in
       let behind : p + 4 + 4 + 4 ≡ p + 12 = omega arith in

@@ -6,3 +6,4 @@ mod others; // arrays, functions and tags
 mod sections; // sections
 
 pub use kinds::layout_ok;
+pub use members::follows;

@@ -74,7 +74,7 @@ fn member_ok<'a>(
 }
 
 // An offset behind another in a struct, or any in a union.
-fn follows(union: bool, before: u32, offset: u32) -> bool
+pub fn follows(union: bool, before: u32, offset: u32) -> bool
     ensures { λ r. ⌜ r ≡ cond union (eqb 0 offset) (leb before offset) ⌝ }
 {
     if union {

@@ -1,3 +1,4 @@
 pub mod TypeDues
 pub mod Recalls
 pub mod Judging
+pub mod Glanced

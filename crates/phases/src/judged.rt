@@ -2,6 +2,7 @@
 use crate::types::Said;
 use crate::types::sixth;
 use crate::types::third;
+use glance::glance;
 use links::Linked;
 use links::links;
 use paper::Report;
@@ -15,11 +16,15 @@ ghost use Prim.Native.Nat.{_<_, _≤_};
 ghost use Rattle.paper.specs.rules.Limits.{typeLimit};
 ghost use Rattle.phases.specs.Said.{JudgeOf, behindThird, saidAsPaper};
 
-// What phases 4 to 6 say; the work slice may hold anything. Phase 6 asks of it what phase 5 has left there.
+// What phases 4 to 6 say; the work slice may hold anything. Most good tables are told at a glance; of any other each phase speaks, and
+// phase 6 asks of the slice what phase 5 has left there.
 fn behind<'a>(base: &'a [u8], b: &'a [u8], index: &[u32], view: View, work: &mut [u32]) -> Said
     requires { ⌜ (view .n ≤ typeLimit) × (view .n < length (now work)) ⌝ }
     ensures { λ r. ⌜ saidAsPaper r ≡ behindThird (now (base .entry)) (now (b .entry)) (now (index .entry)) view ⌝ }
 {
+    if glance(base, b, index, view, work) {
+        return Said::Nothing;
+    }
     match links(base, b, index, view, work) {
         Linked::Good => sixth(base, b, index, view, work),
         Linked::Reference(t) => Said::Says(Report::Reference(t, place_of(index, view, t))),
