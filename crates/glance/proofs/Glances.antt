@@ -14,7 +14,7 @@ use Rattle.glance.proofs.Ended.{held-types, held-ended, pointed-ended}
 use Rattle.glance.proofs.Layouts.{layout-good}
 use Rattle.glance.proofs.Referring.{looks-known, looks-refs}
 use Rattle.glance.proofs.Settled.{walk-next, held-settled, pointed-settled, looks-later}
-use Rattle.glance.specs.Glance.{stateOf, strange, Looks, Seen, Settled, Glancing, Went, All, Good}
+use Rattle.glance.specs.Glance.{stateOf, strange, Looks, Glimpsed, Settled, Glancing, Went, All, SurelyGood}
 use Rattle.links.proofs.Roots.{getD-zeros}
 use Rattle.links.proofs.Ways.{getD-set}
 use Rattle.paper.proofs.walks.Chains.{walks-longer}
@@ -95,7 +95,7 @@ module _ (T : Table) (n : ℕ) where
   -- by what was read and asked
   pub went-look : {work : List ℕ} → Glancing T n work → {t s : ℕ} → 1 ≤ t → t ≤ n → stateOf work t ≡ 0
       → length (recordAt T t .tail) ≡ tailLength (recordAt T t .info) → {r : Record} → r ≡ recordAt T t
-      → Seen work r s → (s ≡ strange → ⊥) → (s ≡ 0 → ⊥) → {q : ℕ} → Went T n t work q (set work t s)
+      → Glimpsed work r s → (s ≡ strange → ⊥) → (s ≡ 0 → ⊥) → {q : ℕ} → Went T n t work q (set work t s)
   went-look {work} g {s = s} low high untold tail {r} shows seen known some =
       went-on g low high untold tail (subst (λ (r : Record). Looks work r s) shows looks) some
     where
@@ -183,7 +183,7 @@ module _ (T : Table) (n : ℕ) where
     pointed : (t : ℕ) → 1 ≤ t → t ≤ count T → walks (pointedBy T) (count T) t ≡ false
     pointed = pointed-ended T refs (g .steps) (λ t low high. one t low high .pointed)
 
-    pub all-good : Good T n
+    pub all-good : SurelyGood T n
     unfolding endless
     all-good =
         record {

@@ -9,7 +9,7 @@ use mathlib.Core.Logic.{_⊎_, inl, inr}
 use mathlib.Core.Option.{Option}
 use borrow.Author.Tests.{eqb-true, eqb-false, leb-true, leb-false}
 use lib.Dec.{eqb, leb}
-use Rattle.glance.specs.Glance.{whole, integer, stateOf, fits, memberFits, plainKinds, Looks, alias, pointer, int, sized, group}
+use Rattle.glance.specs.Glance.{whole, integer, stateOf, fits, memberFits, scalarKinds, Looks, alias, pointer, int, scalar, group}
 use Rattle.glance.proofs.Settled.{fits-told}
 use Rattle.glance.proofs.States.{Says, bytes, bits, nothing, says}
 use Rattle.layout.proofs.LayoutKinds.{byKind}
@@ -73,7 +73,7 @@ module _ (T : Table) (z : ℕ) (m : Member) where
 
 -- kinds of which no rule speaks
 abbrev freeKinds : List ℕ
-freeKinds = INT ∷ PTR ∷ (plainKinds ++ aliases)
+freeKinds = INT ∷ PTR ∷ (scalarKinds ++ aliases)
 
 module _ (T : Table) (r : Record) where
   abbrev by : ℕ → Bool
@@ -124,8 +124,8 @@ module _ (T : Table) (work : List ℕ) (ends : (t : ℕ) → 1 ≤ t → t ≤ c
       layout-free T r (member-each (λ (k : ℕ). member k freeKinds ≡ true) (kindOf r) aliases a (refl, (refl, (refl, (refl, (refl, tt))))))
   look-good r (pointer k b e) = layout-free T r (ap (λ (k : ℕ). member k freeKinds) k)
   look-good r (int k o w h e) = layout-free T r (ap (λ (k : ℕ). member k freeKinds) k)
-  look-good r (sized k h e) =
-      layout-free T r (member-each (λ (k : ℕ). member k freeKinds ≡ true) (kindOf r) plainKinds k (refl, (refl, (refl, tt))))
+  look-good r (scalar k h e) =
+      layout-free T r (member-each (λ (k : ℕ). member k freeKinds ≡ true) (kindOf r) scalarKinds k (refl, (refl, (refl, tt))))
   look-good r (group k f h o small e) = layout-group T r k (and-true (members-good r f (membersOf r) h) o)
 
   pub layout-good : (t : ℕ) → 1 ≤ t → t ≤ count T → layoutOk T (recordAt T t) ≡ true

@@ -10,7 +10,7 @@ use borrow.Author.Tests.{eq-eqb, ne-eqb, not-true, not-false, eqb-true}
 use lib.Dec.{eqb, leb}
 use lib.ListN.{length, List·getD-eq-default}
 use types.Run.{OneOf}
-use Rattle.glance.specs.Glance.{whole, integer, unsized, stateOf, behind, fits, memberFits, membersFit, Sized, plainKinds, Looks, Seen, alias, pointer, int, sized, group}
+use Rattle.glance.specs.Glance.{whole, integer, unsized, stateOf, behind, fits, memberFits, membersFit, Stated, scalarKinds, Looks, Glimpsed, alias, pointer, int, scalar, group}
 use Rattle.paper.proofs.basics.Choices.{and-left, and-right}
 use Rattle.paper.specs.declared.Order.{Order}
 use Rattle.paper.specs.rules.Choice.{every, member}
@@ -36,8 +36,8 @@ module _ (work : List ℕ) {u : ℕ} where
   pub behind-type : (u ≡ 0 → ⊥) → {s : ℕ} → s ≡ stateOf work u → s ≡ behind work u
   behind-type n d = d ∙ sym (ap (λ (z : Bool). cond z unsized (stateOf work u)) (ne-eqb u 0 n))
 
-pub seen : {work : List ℕ} {r : Record} {v : ℕ} → (v ≡ 0) ⊎ Looks work r v → Seen work r v
-seen h = ⊎-elim (λ e. inl e) (λ l. inr (inr l)) h
+pub glimpsed : {work : List ℕ} {r : Record} {v : ℕ} → (v ≡ 0) ⊎ Looks work r v → Glimpsed work r v
+glimpsed h = ⊎-elim (λ e. inl e) (λ l. inr (inr l)) h
 
 -- ── one member ──
 
@@ -87,7 +87,7 @@ module _ (order : Order) (s : List ℕ) (work : List ℕ) where
   looks-pointer kind third d n = pointer kind (λ e. n (d ∙ ap (behind work) (third-read order s refl third) ∙ e)) refl
 
   pub looks-int : kindOf r ≡ INT → {w z : ℕ} → w ≡ wordAt order s 12 → z ≡ wordAt order s 8
-      → {x : Bool} → x ≡ (eqb (offsetIn w) 0 && eqb (widthIn w) (8 * z)) → not x ≡ false → {v : ℕ} → Sized z integer v → (v ≡ 0) ⊎ Looks work r v
+      → {x : Bool} → x ≡ (eqb (offsetIn w) 0 && eqb (widthIn w) (8 * z)) → not x ≡ false → {v : ℕ} → Stated z integer v → (v ≡ 0) ⊎ Looks work r v
   looks-int kind {w} {z} word third {x} d n h =
       ⊎-elim (λ e. inl e)
       (λ k. inr (int kind (sym (ap offsetIn one) ∙ first) (sym (ap widthIn one) ∙ second ∙ ap (λ (q : ℕ). 8 * q) size) (omega (arith, size, k .0))
@@ -109,17 +109,17 @@ module _ (order : Order) (s : List ℕ) (work : List ℕ) where
       second : widthIn w ≡ 8 * z
       second = eqb-true (widthIn w) (8 * z) (and-right (eqb (offsetIn w) 0) (eqb (widthIn w) (8 * z)) both)
 
-  pub looks-sized : {w k : ℕ} → w ≡ wordAt order s 4 → k ≡ kindIn w → OneOf plainKinds k → {z : ℕ} → z ≡ wordAt order s 8 → {v : ℕ} → Sized z whole v
+  pub looks-scalar : {w k : ℕ} → w ≡ wordAt order s 4 → k ≡ kindIn w → OneOf scalarKinds k → {z : ℕ} → z ≡ wordAt order s 8 → {v : ℕ} → Stated z whole v
       → (v ≡ 0) ⊎ Looks work r v
-  looks-sized {w} {k} info kind one {z} third h =
+  looks-scalar {w} {k} info kind one {z} third h =
       let size = third-read order s refl third in
       ⊎-elim (λ e. inl e)
-      (λ q. inr (sized (ap (λ (k : ℕ). member k plainKinds) (sym (kind-read order s refl info kind)) ∙ sym (member-key k ENUM (FLOAT ∷ ENUM64 ∷ []) one)) (omega (arith, size, q .0))
+      (λ q. inr (scalar (ap (λ (k : ℕ). member k scalarKinds) (sym (kind-read order s refl info kind)) ∙ sym (member-key k ENUM (FLOAT ∷ ENUM64 ∷ []) one)) (omega (arith, size, q .0))
       (q .1 ∙ ap (λ (q : ℕ). 8 * q + whole) size)))
       h
 
   pub looks-group : (kindOf r ≡ STRUCT) ⊎ (kindOf r ≡ UNION) → flagOf r ≡ 0 → {x : Bool} → x ≡ membersFit work r → not x ≡ false
-      → {z : ℕ} → z ≡ wordAt order s 8 → {v : ℕ} → Sized z whole v → (v ≡ 0) ⊎ Looks work r v
+      → {z : ℕ} → z ≡ wordAt order s 8 → {v : ℕ} → Stated z whole v → (v ≡ 0) ⊎ Looks work r v
   looks-group kind flag {x} d n {z} third h =
       let size = third-read order s refl third in
       let all = sym d ∙ not-false x n in

@@ -7,7 +7,7 @@ use mathlib.Core.Bool.{Bool, true, false, cond, _&&_, _||_, false≢true}
 use mathlib.Core.List.{List, [], _∷_, _++_}
 use lib.Dec.{eqb}
 use lib.ListN.{length}
-use Rattle.glance.specs.Glance.{unsized, stateOf, behind, fits, memberFits, plainKinds, Looks, alias, pointer, int, sized, group}
+use Rattle.glance.specs.Glance.{unsized, stateOf, behind, fits, memberFits, scalarKinds, Looks, alias, pointer, int, scalar, group}
 use Rattle.glance.proofs.Settled.{fits-told, rolesFor, memberRoles, group-tail}
 use Rattle.paper.proofs.basics.Choices.{and-left, and-right, and-true, member-each}
 use Rattle.paper.specs.rules.Choice.{every, member, times}
@@ -24,7 +24,7 @@ unfolding isPlain
 looks-plain {r = r} (alias a e) = member-each (λ (k : ℕ). isPlain k ≡ true) (kindOf r) aliases a (refl, (refl, (refl, (refl, (refl, tt)))))
 looks-plain (pointer k b e) = ap isPlain k
 looks-plain (int k o w h e) = ap isPlain k
-looks-plain {r = r} (sized k h e) = member-each (λ (k : ℕ). isPlain k ≡ true) (kindOf r) plainKinds k (refl, (refl, (refl, tt)))
+looks-plain {r = r} (scalar k h e) = member-each (λ (k : ℕ). isPlain k ≡ true) (kindOf r) scalarKinds k (refl, (refl, (refl, tt)))
 looks-plain {r = r} (group k f h o small e) = member-each (λ (k : ℕ). isPlain k ≡ true) (kindOf r) (STRUCT ∷ UNION ∷ []) k (refl, (refl, tt))
 
 -- void and what is above the count are of kind 0, which is not plain: no bound is asked for
@@ -53,7 +53,7 @@ silent-times zero ρs p = refl
 silent-times (suc n) ρs p = silent-append ρs (times n ρs) p (silent-times n ρs p)
 
 abbrev silentKinds : List ℕ
-silentKinds = INT ∷ plainKinds
+silentKinds = INT ∷ scalarKinds
 
 abbrev linkKinds : List ℕ
 linkKinds = PTR ∷ aliases
@@ -131,8 +131,8 @@ module _ (T : Table) where
         refs-third r among (behind-refers (r .third) (λ z. ne (e ∙ z)))
     record-refs r whole (pointer k b e) ne = refs-third r (ap (λ (k : ℕ). member k linkKinds) k) (behind-refers (r .third) b)
     record-refs r whole (int k o w h e) ne = refs-none r (ap (λ (k : ℕ). member k silentKinds) k)
-    record-refs r whole (sized k h e) ne =
-        refs-none r (member-each (λ (k : ℕ). member k silentKinds ≡ true) (kindOf r) plainKinds k (refl, (refl, (refl, tt))))
+    record-refs r whole (scalar k h e) ne =
+        refs-none r (member-each (λ (k : ℕ). member k silentKinds ≡ true) (kindOf r) scalarKinds k (refl, (refl, (refl, tt))))
     record-refs r whole (group k f h o small e) ne =
         refs-members r k (members-refer r (vlenOf r) (r .tail) (whole ∙ group-tail r k) h)
 

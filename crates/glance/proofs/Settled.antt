@@ -10,7 +10,7 @@ use borrow.Author.Tests.{eqb-false, ne-eqb}
 use lib.Dec.{eqb}
 use lib.ListN.{length, set}
 use lib.Seq.{getD-set-other}
-use Rattle.glance.specs.Glance.{unsized, stateOf, behind, fits, memberFits, plainKinds, Looks, alias, pointer, int, sized, group}
+use Rattle.glance.specs.Glance.{unsized, stateOf, behind, fits, memberFits, scalarKinds, Looks, alias, pointer, int, scalar, group}
 use Rattle.paper.proofs.basics.Choices.{and-left, and-right, and-true, or-false, false-or, member-each}
 use Rattle.paper.proofs.basics.Rows.{isHeld}
 use Rattle.paper.proofs.bytes.Reading.{length-wordsFrom}
@@ -79,7 +79,7 @@ abbrev heldOf : Record → List ℕ
 heldOf r = heldIn (rolesOf r) (wordsOf r)
 
 abbrev unheldKinds : List ℕ
-unheldKinds = INT ∷ PTR ∷ plainKinds
+unheldKinds = INT ∷ PTR ∷ scalarKinds
 
 holds-none : (r : Record) → member (kindOf r) unheldKinds ≡ true → heldOf r ≡ []
 unfolding tailRoles rowOf rows
@@ -175,9 +175,9 @@ held-settled T work t u whole (pointer k b e) ne m z =
 held-settled T work t u whole (int k o w h e) ne m z =
     let r = recordAt T t in
     List·Memᴰ·not-nil (subst (List·Memᴰ u) (holds-none r (ap (λ (k : ℕ). member k unheldKinds) k)) m)
-held-settled T work t u whole (sized k h e) ne m z =
+held-settled T work t u whole (scalar k h e) ne m z =
     let r = recordAt T t in
-    let among = member-each (λ (k : ℕ). member k unheldKinds ≡ true) (kindOf r) plainKinds k (refl, (refl, (refl, tt))) in
+    let among = member-each (λ (k : ℕ). member k unheldKinds ≡ true) (kindOf r) scalarKinds k (refl, (refl, (refl, tt))) in
     List·Memᴰ·not-nil (subst (List·Memᴰ u) (holds-none r among) m)
 held-settled T work t u whole (group k f h o small e) ne m z =
     let r = recordAt T t in
@@ -187,8 +187,8 @@ link-told : (work : List ℕ) (r : Record) {s : ℕ} → Looks work r s → (s �
 link-told work r (alias a e) ne l z = ne (e ∙ z)
 link-told work r (pointer k b e) ne l z = b z
 link-told work r (int k o w h e) ne l z = false≢true (sym (ap isLink k) ∙ l)
-link-told work r (sized k h e) ne l z =
-    false≢true (sym (member-each (λ (k : ℕ). isLink k ≡ false) (kindOf r) plainKinds k (refl, (refl, (refl, tt)))) ∙ l)
+link-told work r (scalar k h e) ne l z =
+    false≢true (sym (member-each (λ (k : ℕ). isLink k ≡ false) (kindOf r) scalarKinds k (refl, (refl, (refl, tt)))) ∙ l)
 link-told work r (group k f h o small e) ne l z =
     false≢true (sym (member-each (λ (k : ℕ). isLink k ≡ false) (kindOf r) (STRUCT ∷ UNION ∷ []) k (refl, (refl, tt))) ∙ l)
 
@@ -225,5 +225,5 @@ module _ (work : List ℕ) (i v : ℕ) (untold : stateOf work i ≡ 0) where
   looks-later {r} (alias a e) ne = alias a (e ∙ sym (behind-later (r .third) (λ z. ne (e ∙ z))))
   looks-later {r} (pointer k b e) ne = pointer k (λ z. b (sym (behind-later (r .third) b) ∙ z)) e
   looks-later (int k o w h e) ne = int k o w h e
-  looks-later (sized k h e) ne = sized k h e
+  looks-later (scalar k h e) ne = scalar k h e
   looks-later {r} (group k f h o small e) ne = group k f (members-later r (membersOf r) h) o small e

@@ -9,7 +9,7 @@ use mathlib.Core.Option.{none, some}
 use borrow.Author.Tests.{eqb-false, le-leb}
 use lib.Dec.{eqb}
 use lib.ListN.{getD}
-use Rattle.glance.specs.Glance.{whole, integer, unsized, stateOf, behind, sizeEnd, plainKinds, Looks, alias, pointer, int, sized, group}
+use Rattle.glance.specs.Glance.{whole, integer, unsized, stateOf, behind, sizeEnd, scalarKinds, Looks, alias, pointer, int, scalar, group}
 use Rattle.paper.proofs.basics.Choices.{member-each}
 use Rattle.paper.proofs.walks.Bases.{third-held}
 use Rattle.paper.proofs.walks.Endless.{any-holds}
@@ -77,7 +77,7 @@ module _ (T : Table) (t : ℕ) (low : 1 ≤ t) (ends : Ends T t) where
 
   -- kinds whose size is their third word, and whose span is whole bytes
   abbrev wholeKinds : List ℕ
-  wholeKinds = STRUCT ∷ UNION ∷ plainKinds
+  wholeKinds = STRUCT ∷ UNION ∷ scalarKinds
 
   says-pointer : kindOf r ≡ PTR → Says T t 65
   unfolding rowOf rows
@@ -115,9 +115,9 @@ module _ (T : Table) (t : ℕ) (low : 1 ≤ t) (ends : Ends T t) where
       go false x e = subst (Says T t) (sym e) (says-alias a (before a (eqb-false _ _ x)))
   says-look work before (pointer k b e) = subst (Says T t) (sym e) (says-pointer k)
   says-look work before (int k o w h e) = subst (Says T t) (sym e) (says-int k o w h)
-  says-look work before (sized k h e) =
+  says-look work before (scalar k h e) =
       subst (Says T t) (sym e)
-      (says-whole (member-each (λ (k : ℕ). member k wholeKinds ≡ true) (kindOf r) plainKinds k (refl, (refl, (refl, tt)))) h)
+      (says-whole (member-each (λ (k : ℕ). member k wholeKinds ≡ true) (kindOf r) scalarKinds k (refl, (refl, (refl, tt)))) h)
   says-look work before (group k f h o small e) =
       subst (Says T t) (sym e)
       (says-whole (member-each (λ (k : ℕ). member k wholeKinds ≡ true) (kindOf r) (STRUCT ∷ UNION ∷ []) k (refl, (refl, tt))) small)

@@ -50,19 +50,19 @@ abbrev pub membersFit : List ℕ → Record → Bool
 membersFit work r = every (memberFits work r) (membersOf r) && offsetsOk r
 
 -- a size that is told, or 0
-abbrev pub Sized : ℕ → ℕ → ℕ → Type 0
-Sized z class s = (s ≡ 0) ⊎ ((z < sizeEnd) × (s ≡ 8 * z + class))
+abbrev pub Stated : ℕ → ℕ → ℕ → Type 0
+Stated z class s = (s ≡ 0) ⊎ ((z < sizeEnd) × (s ≡ 8 * z + class))
 
 -- kinds whose size is their third word, and whose members, if any, are no types
-abbrev pub plainKinds : List ℕ
-plainKinds = ENUM ∷ FLOAT ∷ ENUM64 ∷ []
+abbrev pub scalarKinds : List ℕ
+scalarKinds = ENUM ∷ FLOAT ∷ ENUM64 ∷ []
 
 -- what a record says of its type, beside the states of others
 pub data Looks (work : List ℕ) (r : Record) (s : ℕ) : Type 0 where
   alias : isAlias (kindOf r) ≡ true → s ≡ behind work (r .third) → Looks work r s
   pointer : kindOf r ≡ PTR → (behind work (r .third) ≡ 0 → ⊥) → s ≡ 65 → Looks work r s
   int : kindOf r ≡ INT → offsetIn (intWord r) ≡ 0 → widthIn (intWord r) ≡ 8 * r .third → r .third < sizeEnd → s ≡ 8 * r .third + integer → Looks work r s
-  sized : member (kindOf r) plainKinds ≡ true → r .third < sizeEnd → s ≡ 8 * r .third + whole → Looks work r s
+  scalar : member (kindOf r) scalarKinds ≡ true → r .third < sizeEnd → s ≡ 8 * r .third + whole → Looks work r s
   group : member (kindOf r) (STRUCT ∷ UNION ∷ []) ≡ true → flagOf r ≡ 0 → every (memberFits work r) (membersOf r) ≡ true → offsetsOk r ≡ true
       → r .third < sizeEnd → s ≡ 8 * r .third + whole → Looks work r s
 
@@ -70,8 +70,8 @@ pub data Looks (work : List ℕ) (r : Record) (s : ℕ) : Type 0 where
 abbrev pub strange : ℕ
 strange = 4
 
-abbrev pub Seen : List ℕ → Record → ℕ → Type 0
-Seen work r s = (s ≡ 0) ⊎ ((s ≡ strange) ⊎ Looks work r s)
+abbrev pub Glimpsed : List ℕ → Record → ℕ → Type 0
+Glimpsed work r s = (s ≡ 0) ⊎ ((s ≡ strange) ⊎ Looks work r s)
 
 -- ── over the types ──
 
@@ -101,7 +101,7 @@ abbrev pub All : ℕ → List ℕ → Type 0
 All n work = (x : ℕ) → 1 ≤ x → x ≤ n → stateOf work x ≡ 0 → ⊥
 
 -- what is promised of a table that is good for sure
-pub record Good (T : Table) (n : ℕ) : Type 0 where
+pub record SurelyGood (T : Table) (n : ℕ) : Type 0 where
   pub refs : (t : ℕ) → 1 ≤ t → t ≤ n → refsOk T (recordAt T t) ≡ true
   pub ends : (t : ℕ) → 1 ≤ t → t ≤ n → endless T t ≡ false
   pub layout : (t : ℕ) → 1 ≤ t → t ≤ n → layoutOk T (recordAt T t) ≡ true

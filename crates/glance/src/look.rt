@@ -18,11 +18,24 @@ ghost use mathlib.Core.Bool.{_&&_, _||_};
 ghost use mathlib.Core.Logic.{_⊎_};
 ghost use Prim.Native.Nat.{_*_, _%_, _<_};
 ghost use lib.Dec.{eqb};
-ghost use Rattle.glance.specs.Glance.{Looks, Seen, Sized, behind, fits, membersFit, stateOf};
+ghost use Rattle.glance.specs.Glance.{Looks, Glimpsed, Stated, behind, fits, membersFit, stateOf};
 ghost use Rattle.paper.specs.rules.KindNo as kinds;
 ghost use Rattle.paper.specs.rules.Table.{flagOf, kindOf};
 ghost use Rattle.paper.specs.rules.Tails.{offsetIn, widthIn};
 ghost use Rattle.paper.specs.terms.Reading.{recordIn};
+
+// What a state says beside 8 times the size: whole bytes; an INT that has no bits but those of its size; a type of which no size is told.
+const WHOLE: u32 = 1;
+
+const INTEGER: u32 = 2;
+
+const UNSIZED: u32 = 3;
+
+// That of eight whole bytes.
+const POINTER: u32 = 65;
+
+// A record of a kind that is not looked at has this, which is no state.
+pub(crate) const STRANGE: u32 = 4;
 
 // The state of a type; 0 for a number that has none.
 fn state_of(work: &[u32], u: u32) -> u32
@@ -40,15 +53,15 @@ fn behind_of(work: &[u32], u: u32) -> u32
     ensures { λ r. ⌜ r ≡ behind (now (work .entry)) u ⌝ }
 {
     if u == 0 {
-        return 3;
+        return UNSIZED;
     }
     state_of(work, u)
 }
 
 // So many bytes of a class.
-fn sized(z: u32, class: u32) -> u32
+fn stated(z: u32, class: u32) -> u32
     requires { ⌜ class < 8 ⌝ }
-    ensures { λ r. ⌜ Sized z class r ⌝ }
+    ensures { λ r. ⌜ Stated z class r ⌝ }
 {
     if 268435456 <= z {
         return 0;
@@ -58,23 +71,22 @@ fn sized(z: u32, class: u32) -> u32
 
 // An INT's bits are those of its size.
 fn int_whole(word: u32, z: u32) -> bool
-    requires { ⌜ z < 268435456 ⌝ }
     ensures { λ r. ⌜ r ≡ (eqb (offsetIn word) 0 && eqb (widthIn word) (8 * z)) ⌝ }
 {
     if word / 65536 % 256 != 0 {
         return false;
     }
-    word % 256 == 8 * z
+    (word % 256) as u64 == 8 * (z as u64)
 }
 
 // A type of a class may begin at a bit offset.
 fn starts(class: u32, offset: u32) -> bool
     ensures { λ r. ⌜ r ≡ (eqb class 2 || (eqb class 1 && eqb (offset % 8) 0)) ⌝ }
 {
-    if class == 2 {
+    if class == INTEGER {
         return true;
     }
-    if class != 1 {
+    if class != WHOLE {
         return false;
     }
     offset % 8 == 0
@@ -130,7 +142,7 @@ fn group(order: Order, bytes: &[u8], work: &[u32]) -> u32
     if !members_fit(order, bytes, work) {
         return 0;
     }
-    sized(words::read(order, bytes, Place(8)), 1)
+    stated(words::read(order, bytes, Place(8)), WHOLE)
 }
 
 // An INT.
@@ -140,13 +152,10 @@ fn int(order: Order, bytes: &[u8], work: &[u32]) -> u32
 {
     let word = words::read(order, bytes, Place(12));
     let z = words::read(order, bytes, Place(8));
-    if 268435456 <= z {
-        return 0;
-    }
     if !int_whole(word, z) {
         return 0;
     }
-    sized(z, 2)
+    stated(z, INTEGER)
 }
 
 // A pointer.
@@ -157,12 +166,12 @@ fn pointer(order: Order, bytes: &[u8], work: &[u32]) -> u32
     if behind_of(work, words::read(order, bytes, Place(8))) == 0 {
         return 0;
     }
-    65
+    POINTER
 }
 
-// The state that a record gives its type, 0 where one that it refers to is open, 4 where it is not looked at.
+// The state that a record gives its type, 0 where one that it refers to is open, or STRANGE.
 pub(crate) fn look(order: Order, bytes: &[u8], work: &[u32]) -> u32
-    ensures { λ r. ⌜ Seen (now (work .entry)) (recordIn order (now (bytes .entry))) r ⌝ }
+    ensures { λ r. ⌜ Glimpsed (now (work .entry)) (recordIn order (now (bytes .entry))) r ⌝ }
 {
     let kind = kind_of(words::read(order, bytes, Place(4)));
     if is_alias(kind) {
@@ -173,7 +182,7 @@ pub(crate) fn look(order: Order, bytes: &[u8], work: &[u32]) -> u32
         UNION => group(order, bytes, work),
         INT => int(order, bytes, work),
         PTR => pointer(order, bytes, work),
-        ENUM | FLOAT | ENUM64 => sized(words::read(order, bytes, Place(8)), 1),
-        _ => 4,
+        ENUM | FLOAT | ENUM64 => stated(words::read(order, bytes, Place(8)), WHOLE),
+        _ => STRANGE,
     }
 }

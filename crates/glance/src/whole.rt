@@ -1,4 +1,5 @@
 // One look at each type, from the first to the last, and once more from the last to the first for those that refer to later ones.
+use crate::look::STRANGE;
 use crate::look::look;
 use paper::TYPE_LIMIT;
 use paper::TypeNo;
@@ -8,7 +9,7 @@ use views::record_of;
 ghost use mathlib.Core.Path.{_≡_};
 ghost use mathlib.Core.Bool.{cond, true};
 ghost use Prim.Native.Nat.{_+_, _-_, _≤_, _<_};
-ghost use Rattle.glance.specs.Glance.{All, Glancing, Good, Went};
+ghost use Rattle.glance.specs.Glance.{All, Glancing, SurelyGood, Went};
 ghost use Rattle.views.specs.Shown.{tableBy};
 
 // One look at a type: 2 if it is settled then, 1 if it is open, 0 if it will stay so.
@@ -30,7 +31,7 @@ fn settle<'a>(
     let bytes = record_of(base, b, index, view, t);
     let order = view.order;
     let s = look(order, bytes, work);
-    if s == 4 {
+    if s == STRANGE {
         return 0;
     }
     if s == 0 {
@@ -83,7 +84,7 @@ fn sweep<'a>(
 // Whether a table of no more types than the paper allows, with a place for each in the work slice, is good for sure. The work slice may
 // hold anything.
 pub fn glance<'a>(base: &'a [u8], b: &'a [u8], index: &[u32], view: View, work: &mut [u32]) -> bool
-    ensures { λ r. ⌜ (r ≡ true → Good (tableBy (now (base .entry)) (now (b .entry)) (now (index .entry)) view) (view .n)) ⌝ }
+    ensures { λ r. ⌜ (r ≡ true → SurelyGood (tableBy (now (base .entry)) (now (b .entry)) (now (index .entry)) view) (view .n)) ⌝ }
 {
     let n = view.n;
     if TYPE_LIMIT < n {

@@ -23,8 +23,8 @@ pub record Recalled : Type 0 where
   pub memo : List ℕ
 
 -- the table that an index shows, and a slice
-abbrev pub seen : List ℕ → List ℕ → List ℕ → View → List ℕ → Recalled
-seen base b index v memo = record { table = tableBy base b index v; memo = memo }
+abbrev pub recalled : List ℕ → List ℕ → List ℕ → View → List ℕ → Recalled
+recalled base b index v memo = record { table = tableBy base b index v; memo = memo }
 
 module _ (X : Recalled) where
   abbrev pub sized : ℕ → Option ℕ

@@ -18,7 +18,7 @@ use rows::kind_of;
 use views::View;
 use views::record_of;
 ghost use mathlib.Core.Path.{_≡_};
-ghost use Rattle.layout.specs.Told.{layoutTold, seen};
+ghost use Rattle.layout.specs.Told.{layoutTold, recalled};
 ghost use Rattle.paper.specs.rules.Table.{recordAt};
 ghost use Rattle.views.specs.Shown.{tableBy};
 
@@ -31,7 +31,7 @@ pub fn layout_ok<'a>(
     memo: &[u32],
     t: TypeNo,
 ) -> bool
-    ensures { λ r. ⌜ r ≡ layoutTold (seen (now (base .entry)) (now (b .entry)) (now (index .entry)) view (now (memo .entry))) (recordAt (tableBy (now (base .entry)) (now (b .entry)) (now (index .entry)) view) (t .0)) ⌝ }
+    ensures { λ r. ⌜ r ≡ layoutTold (recalled (now (base .entry)) (now (b .entry)) (now (index .entry)) view (now (memo .entry))) (recordAt (tableBy (now (base .entry)) (now (b .entry)) (now (index .entry)) view) (t .0)) ⌝ }
 {
     let bytes = record_of(base, b, index, view, t);
     let order = view.order;

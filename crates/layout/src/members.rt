@@ -19,7 +19,7 @@ ghost use mathlib.Core.Bool.{cond};
 ghost use Prim.Native.Nat.{_*_, _<_};
 ghost use lib.Dec.{eqb, leb};
 ghost use Rattle.spans.specs.Spanned.{memberAt, spanAsPaper, typed};
-ghost use Rattle.layout.specs.Told.{membersTold, seen, spanTold};
+ghost use Rattle.layout.specs.Told.{membersTold, recalled, spanTold};
 ghost use Rattle.paper.specs.terms.Reading.{recordIn};
 ghost use Rattle.paper.specs.rules.Span.{endsBy};
 
@@ -34,7 +34,7 @@ fn span_told<'a>(
     t: TypeNo,
     offset: u32,
 ) -> Lies
-    ensures { λ r. ⌜ spanAsPaper r ≡ spanTold (seen (now (base .entry)) (now (b .entry)) (now (index .entry)) view (now (memo .entry))) flag (typed (t .0) offset) ⌝ }
+    ensures { λ r. ⌜ spanAsPaper r ≡ spanTold (recalled (now (base .entry)) (now (b .entry)) (now (index .entry)) view (now (memo .entry))) flag (typed (t .0) offset) ⌝ }
 {
     let order = view.order;
     let a = base_told(base, b, index, view, memo, t);
@@ -61,7 +61,7 @@ fn member_ok<'a>(
     size: u32,
 ) -> bool
     requires { ⌜ (at .0 < 1000000) ⌝ }
-    ensures { λ r. ⌜ r ≡ endsBy (8 * size) (spanTold (seen (now (base .entry)) (now (b .entry)) (now (index .entry)) view (now (memo .entry))) flag (memberAt (view .order) (now (bytes .entry)) (at .0))) ⌝ }
+    ensures { λ r. ⌜ r ≡ endsBy (8 * size) (spanTold (recalled (now (base .entry)) (now (b .entry)) (now (index .entry)) view (now (memo .entry))) flag (memberAt (view .order) (now (bytes .entry)) (at .0))) ⌝ }
 {
     let order = view.order;
     let p = at.0;
@@ -92,7 +92,7 @@ pub(crate) fn members_ok<'a>(
     memo: &[u32],
     bytes: &[u8],
 ) -> bool
-    ensures { λ r. ⌜ r ≡ membersTold (seen (now (base .entry)) (now (b .entry)) (now (index .entry)) view (now (memo .entry))) (recordIn (view .order) (now (bytes .entry))) ⌝ }
+    ensures { λ r. ⌜ r ≡ membersTold (recalled (now (base .entry)) (now (b .entry)) (now (index .entry)) view (now (memo .entry))) (recordIn (view .order) (now (bytes .entry))) ⌝ }
 {
     let order = view.order;
     let info = words::read(order, bytes, Place(4));

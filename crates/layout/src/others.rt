@@ -14,7 +14,7 @@ use spans::is_regular;
 use views::View;
 use views::record_of;
 ghost use mathlib.Core.Path.{_≡_};
-ghost use Rattle.layout.specs.Told.{arrayTold, functionTold, seen};
+ghost use Rattle.layout.specs.Told.{arrayTold, functionTold, recalled};
 ghost use Rattle.paper.specs.rules.KindNo.{ARRAY, DECL-TAG};
 ghost use Rattle.paper.specs.rules.Layout.{componentsOf, tagOk};
 ghost use Rattle.paper.specs.terms.Reading.{recordIn};
@@ -31,7 +31,7 @@ pub(crate) fn array_ok<'a>(
     bytes: &[u8],
 ) -> bool
     requires { ⌜ (kindOf (recordIn (view .order) (now bytes)) ≡ ARRAY) ⌝ }
-    ensures { λ r. ⌜ r ≡ arrayTold (seen (now (base .entry)) (now (b .entry)) (now (index .entry)) view (now (memo .entry))) (recordIn (view .order) (now (bytes .entry))) ⌝ }
+    ensures { λ r. ⌜ r ≡ arrayTold (recalled (now (base .entry)) (now (b .entry)) (now (index .entry)) view (now (memo .entry))) (recordIn (view .order) (now (bytes .entry))) ⌝ }
 {
     let order = view.order;
     if !has_size(
@@ -63,7 +63,7 @@ pub(crate) fn function_ok<'a>(
     memo: &[u32],
     bytes: &[u8],
 ) -> bool
-    ensures { λ r. ⌜ r ≡ functionTold (seen (now (base .entry)) (now (b .entry)) (now (index .entry)) view (now (memo .entry))) (recordIn (view .order) (now (bytes .entry))) ⌝ }
+    ensures { λ r. ⌜ r ≡ functionTold (recalled (now (base .entry)) (now (b .entry)) (now (index .entry)) view (now (memo .entry))) (recordIn (view .order) (now (bytes .entry))) ⌝ }
 {
     let order = view.order;
     let t = TypeNo(words::read(order, bytes, Place(8)));

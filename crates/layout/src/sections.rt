@@ -9,7 +9,7 @@ ghost use mathlib.Core.Bool.{_&&_, _||_};
 ghost use Prim.Native.Nat.{_+_};
 ghost use lib.Dec.{eqb, leb};
 ghost use Rattle.paper.specs.terms.Reading.{recordIn};
-ghost use Rattle.layout.specs.Told.{sectionTold, seen};
+ghost use Rattle.layout.specs.Told.{sectionTold, recalled};
 
 // Where the section's size is not 0, an entry begins where the one before ends or later, and ends inside.
 fn placed(end: u32, free: u64, from: u32, size: u32) -> bool
@@ -33,7 +33,7 @@ pub(crate) fn section_ok<'a>(
     memo: &[u32],
     bytes: &[u8],
 ) -> bool
-    ensures { λ r. ⌜ r ≡ sectionTold (seen (now (base .entry)) (now (b .entry)) (now (index .entry)) view (now (memo .entry))) (recordIn (view .order) (now (bytes .entry))) ⌝ }
+    ensures { λ r. ⌜ r ≡ sectionTold (recalled (now (base .entry)) (now (b .entry)) (now (index .entry)) view (now (memo .entry))) (recordIn (view .order) (now (bytes .entry))) ⌝ }
 {
     let order = view.order;
     let end = words::read(order, bytes, Place(8));

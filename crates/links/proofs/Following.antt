@@ -18,7 +18,7 @@ use Rattle.links.specs.Search.{asRoot, done, manySlots, markOf, Followab
 use Rattle.recall.proofs.Lines.{OrVoid}
 use Rattle.recall.proofs.Recalling.{Kept, mark-told}
 use Rattle.recall.proofs.Steps.{goes-held}
-use Rattle.recall.specs.Recall.{settled, most, told, goesTo, codeAt, codeTold, markTold}
+use Rattle.recall.specs.Recall.{firstTelling, mostTold, told, goesTo, codeAt, codeTold, markTold}
 use Rattle.links.proofs.HeldTypes.{held-from-first, few-types, held-types, next-held, next-type, next-small}
 use Rattle.links.proofs.Searches.{Going, going-start, going-type, going-seen, going-into, going-ring, going-finished, going-back}
 use Rattle.links.proofs.Ways.{mark-fits}
@@ -28,16 +28,16 @@ use Rattle.links.proofs.Weights.{weights, weights-entered, weights-left
 abbrev restIn : Table → ℕ → ℕ → List ℕ
 restIn T t j = heldFrom (recordAt T t) j
 
-pub done-settled : (T : Table) (x : ℕ) → settled ≤ done T x
+pub done-tells : (T : Table) (x : ℕ) → firstTelling ≤ done T x
 unfolding done
-done-settled T x = omega arith
+done-tells T x = omega arith
 
 -- a mark is that high whatever it tells
-mark-high : (T : Table) (work : List ℕ) (t : ℕ) → settled ≤ markTold work T (recordAt T t)
+mark-high : (T : Table) (work : List ℕ) (t : ℕ) → firstTelling ≤ markTold work T (recordAt T t)
 unfolding markTold
-mark-high T work t = go (leb (codeTold work T (recordAt T t)) most)
+mark-high T work t = go (leb (codeTold work T (recordAt T t)) mostTold)
   where
-    go : (z : Bool) → settled ≤ cond z (settled + codeTold work T (recordAt T t)) settled
+    go : (z : Bool) → firstTelling ≤ cond z (firstTelling + codeTold work T (recordAt T t)) firstTelling
     go true = omega arith
     go false = omega arith
 
@@ -62,7 +62,7 @@ following-start {T} {work = work} {n} {root} r new =
       ready = followable-marks (r .ready) (length-set work root asRoot);
       size-kept = refl;
       going =
-          going-start (heldBy T) (done T) (restIn T) n (held-from-first T) (done-settled T) (r .clean) (r .passed) (r .low) (r .high)
+          going-start (heldBy T) (done T) (restIn T) n (held-from-first T) (done-tells T) (r .clean) (r .passed) (r .low) (r .high)
           (omega (arith, r .ready .room, r .high)) new;
     }
 
@@ -109,21 +109,21 @@ module _ {T : Table} {work : List ℕ} {n size root t j : ℕ} (s : Following T 
   -- its type is on the way
   pub following-type : OnWay n t work
   following-type =
-      let type = going-type (heldBy T) (done T) (restIn T) n few (done-settled T) (held-types (s .ready)) (s .going) in
-      let seen = going-seen (heldBy T) (done T) (restIn T) n few (done-settled T) (held-types (s .ready)) (s .going) in
+      let type = going-type (heldBy T) (done T) (restIn T) n few (done-tells T) (held-types (s .ready)) (s .going) in
+      let seen = going-seen (heldBy T) (done T) (restIn T) n few (done-tells T) (held-types (s .ready)) (s .going) in
       record { low = type .0; high = type .1; seen = seen .0 }
 
   -- a reference leads back into the way
   pub following-ring : RingMet (recordAt T t) work j → walks (heldBy T) n root ≡ true
   following-ring r =
-      going-ring (heldBy T) (done T) (restIn T) n few (done-settled T) (held-types (s .ready)) (s .going) (r .found .passed) (next-held (s .ready) t (r .found))
+      going-ring (heldBy T) (done T) (restIn T) n few (done-tells T) (held-types (s .ready)) (s .going) (r .found .passed) (next-held (s .ready) t (r .found))
       (r .seen) (r .found .unfinished) n
 
   -- the root is finished
   pub following-finished : {work′ : List ℕ} → RootDone (recordAt T t) work t j (markTold work T (recordAt T t)) work′ → Followed (heldBy T) (done T) n root work′ false
   following-finished r =
       rw (r .marked)
-      (going-finished (heldBy T) (done T) (restIn T) n few (done-settled T) (held-types (s .ready)) (s .going) (r .spent)
+      (going-finished (heldBy T) (done T) (restIn T) n few (done-tells T) (held-types (s .ready)) (s .going) (r .spent)
       (inside t (following-type .high)) mark-is (r .outer))
 
   -- the search goes on, with less to do
@@ -141,13 +141,13 @@ module _ {T : Table} {work : List ℕ} {n size root t j : ℕ} (s : Following T 
           ready = followable-marks (s .ready) (length-set work v (markOf t k));
           size-kept = length-set work v (markOf t k) ∙ s .size-kept;
           going =
-              going-into (heldBy T) (done T) (restIn T) n few (done-settled T) (held-types (s .ready)) (s .going) (next .passed) (next-held (s .ready) t next)
+              going-into (heldBy T) (done T) (restIn T) n few (done-tells T) (held-types (s .ready)) (s .going) (next .passed) (next-held (s .ready) t next)
               (held-from-first T) (omega arith) (inside v (type .1)) new;
         },
       )
   following-on (back spent inner parent slot marked) =
       let here = following-type in
-      let seen = going-seen (heldBy T) (done T) (restIn T) n few (done-settled T) (held-types (s .ready)) (s .going) in
+      let seen = going-seen (heldBy T) (done T) (restIn T) n few (done-tells T) (held-types (s .ready)) (s .going) in
       let less = weights-left work t (markTold work T (recordAt T t)) n (here .low) (here .high) (inside t (here .high)) (seen .0) (seen .1) (mark-high T work t) in
       rw marked (
         omega arith,
@@ -155,6 +155,6 @@ module _ {T : Table} {work : List ℕ} {n size root t j : ℕ} (s : Following T 
           ready = followable-marks (s .ready) (length-set work t (markTold work T (recordAt T t)));
           size-kept = length-set work t (markTold work T (recordAt T t)) ∙ s .size-kept;
           going =
-              going-back (heldBy T) (done T) (restIn T) n few (done-settled T) (held-types (s .ready)) (s .going) spent (inside t (here .high)) mark-is inner parent slot;
+              going-back (heldBy T) (done T) (restIn T) n few (done-tells T) (held-types (s .ready)) (s .going) spent (inside t (here .high)) mark-is inner parent slot;
         },
       )

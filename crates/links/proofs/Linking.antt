@@ -143,7 +143,8 @@ same-places [] (y ∷ ys) l h = absurd (omega arith)
 same-places (x ∷ xs) [] l h = absurd (omega arith)
 same-places (x ∷ xs) (y ∷ ys) l h = ap₂ {C = List ℕ} _∷_ (h 0) (same-places xs ys (omega arith) (λ k. h (suc k)))
 
-leaves-one : (T : Table) (n room : ℕ) (r : Linked) {work work′ : List ℕ} → Leaves T n room r work → Leaves T n room r work′ → length work ≡ length work′ → work ≡ work′
+leaves-one : (T : Table) (n room : ℕ) (r : Linked) {work work′ : List ℕ} → Leaves T n room (work ≡ zeros room) r work
+    → Leaves T n room (work′ ≡ zeros room) r work′ → length work ≡ length work′ → work ≡ work′
 leaves-one T n room Good {work} {work′} h k l = same-places work work′ l (λ x. h x ∙ sym (k x))
 leaves-one T n room (Reference t) h k l = h ∙ sym k
 leaves-one T n room (Endless t) h k l = h ∙ sym k
@@ -152,7 +153,7 @@ leaves-one T n room (Endless t) h k l = h ∙ sym k
 pub links-one : {T : Table} {n room : ℕ} (r r′ : Linked) {work work′ : List ℕ} → LinksOf T n room r work → LinksOf T n room r′ work′ → (r ≡ r′) × (work ≡ work′)
 links-one {T} {n} {room} r r′ {work′ = work′} h k =
     let same = linked-one T r r′ (h .says ∙ sym (k .says)) in
-    (same, leaves-one T n room r (h .leaves) (subst (λ (w : Linked). Leaves T n room w work′) (sym same) (k .leaves)) (h .size ∙ sym (k .size)))
+    (same, leaves-one T n room r (h .leaves) (subst (λ (w : Linked). Leaves T n room (work′ ≡ zeros room) w work′) (sym same) (k .leaves)) (h .size ∙ sym (k .size)))
 
 -- where something is wrong, the slice is cleared behind it
 pub links-kept : {T : Table} {n room : ℕ} (r : Linked) {work : List ℕ} → BothOf T n room r work → r ≡ Good → length work ≡ room → LinksOf T n room r work

@@ -20,7 +20,7 @@ use Rattle.paper.specs.declared.Order.{Order}
 use Rattle.paper.specs.rules.Word.{wordAt}
 use Rattle.links.specs.Holding.{slotsOf, slotCount, typesIn, heldFrom, isOpen, NextOpen, HeldIs}
 use Rattle.links.specs.declared.held.Held.the-variants.{Nothing}
-use Rattle.recall.specs.Recall.{settled}
+use Rattle.recall.specs.Recall.{firstTelling}
 use Rattle.links.proofs.Holds.{length-slots, slots-few, heldFrom-step, heldFrom-end}
 
 -- what was read of the record that some bytes begin with: where its slots stand, and how many there are
@@ -36,7 +36,7 @@ slots-read order s {place = place} w k p e =
 -- all that is held by the slots from one to another is done
 pub record Looking (order : Order) (s work : List ℕ) (place end from i : ℕ) : Type 0 where
   pub slots : Slots order s place end
-  pub passed : (x : ℕ) → List·Memᴰ x (heldFrom (recordIn order s) from) → (settled ≤ getD work x 0) ⊎ List·Memᴰ x (heldFrom (recordIn order s) i)
+  pub passed : (x : ℕ) → List·Memᴰ x (heldFrom (recordIn order s) from) → (firstTelling ≤ getD work x 0) ⊎ List·Memᴰ x (heldFrom (recordIn order s) i)
 
 pub looking-start : (order : Order) (s work : List ℕ) {place end : ℕ} (from : ℕ) → Slots order s place end → Looking order s work place end from from
 looking-start order s work from h = record { slots = h; passed = λ x m. inr m }
@@ -81,24 +81,24 @@ module _ {order : Order} {s work : List ℕ} {place end from i : ℕ} (look : Lo
 
     module _ {z : Bool} (asked : z ≡ isOpen work u) where
       -- not open, and no void: done
-      closed-done : z ≡ false → (u ≡ 0 → ⊥) → settled ≤ getD work u 0
-      closed-done e n = ltb-false (getD work u 0) settled (sym (ap (λ (b : Bool). not b && ltb (getD work u 0) settled) (ne-eqb u 0 n)) ∙ sym asked ∙ e)
+      closed-done : z ≡ false → (u ≡ 0 → ⊥) → firstTelling ≤ getD work u 0
+      closed-done e n = ltb-false (getD work u 0) firstTelling (sym (ap (λ (b : Bool). not b && ltb (getD work u 0) firstTelling) (ne-eqb u 0 n)) ∙ sym asked ∙ e)
 
       pub looking-next : z ≡ false → Looking order s work place end from (i + 1)
       looking-next e =
           record {
             slots = look .slots;
             passed = λ x m. ⊎-elim (λ d. inl d)
-                (λ l. ⊎-elim (λ (h : (x ≡ u) × (u ≡ 0 → ⊥)). inl (subst (λ (y : ℕ). settled ≤ getD work y 0) (sym (h .0)) (closed-done e (h .1)))) (λ k. inr k) (one-more x l))
+                (λ l. ⊎-elim (λ (h : (x ≡ u) × (u ≡ 0 → ⊥)). inl (subst (λ (y : ℕ). firstTelling ≤ getD work y 0) (sym (h .0)) (closed-done e (h .1)))) (λ k. inr k) (one-more x l))
                 (look .passed x m);
           }
 
       -- open: no void, and not done
       open-some : z ≡ true → u ≡ 0 → ⊥
-      open-some e n = false≢true (sym (ap (λ (b : Bool). not b && ltb (getD work u 0) settled) (eq-eqb u 0 n)) ∙ sym asked ∙ e)
+      open-some e n = false≢true (sym (ap (λ (b : Bool). not b && ltb (getD work u 0) firstTelling) (eq-eqb u 0 n)) ∙ sym asked ∙ e)
 
-      open-low : z ≡ true → getD work u 0 < settled
-      open-low e = ltb-true (getD work u 0) settled (sym (ap (λ (b : Bool). not b && ltb (getD work u 0) settled) (ne-eqb u 0 (open-some e))) ∙ sym asked ∙ e)
+      open-low : z ≡ true → getD work u 0 < firstTelling
+      open-low e = ltb-true (getD work u 0) firstTelling (sym (ap (λ (b : Bool). not b && ltb (getD work u 0) firstTelling) (ne-eqb u 0 (open-some e))) ∙ sym asked ∙ e)
 
       pub looking-found : z ≡ true → NextOpen r work from u (i + 1)
       unfolding heldFrom

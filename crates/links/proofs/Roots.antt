@@ -17,7 +17,7 @@ use Rattle.paper.specs.rules.Choice.{_when_, firstDue, orElse}
 use Rattle.paper.specs.rules.Gate.{namingAt, firstOf, overTypes, zeros}
 use Rattle.paper.specs.rules.Table.{Table, count}
 use Rattle.paper.specs.rules.Walk.{placeAt}
-use Rattle.links.proofs.Following.{done-settled}
+use Rattle.links.proofs.Following.{done-tells}
 use Rattle.links.specs.declared.chains.Ring.the-variants.{Nowhere, From}
 use Rattle.links.specs.Search.{done, markAt, Followable, Unsearched, AtRoot, Clean, Followed, ChainsOf, ringsBy}
 use Rattle.paper.specs.declared.TypeNo.{TypeNo}
@@ -33,8 +33,8 @@ pub clean-start : (T : Table) (n k : ℕ) {work : List ℕ} → work ≡ zeros k
 clean-start T n k {work} e =
     record {
       marks = λ x l h. inl (new x);
-      ended = λ x l h d. absurd (let z = sym (new x) ∙ d in omega (arith, done-settled T x));
-      closed = λ x l h d. absurd (let z = sym (new x) ∙ d in omega (arith, done-settled T x));
+      ended = λ x l h d. absurd (let z = sym (new x) ∙ d in omega (arith, done-tells T x));
+      closed = λ x l h d. absurd (let z = sym (new x) ∙ d in omega (arith, done-tells T x));
       outside = λ x h. new x;
     }
   where

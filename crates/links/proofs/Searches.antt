@@ -13,7 +13,7 @@ use lib.Seq.{getD-set-same, getD-set-other}
 use Rattle.paper.specs.rules.Chain.{walks}
 use Rattle.paper.specs.rules.Limits.{typeLimit}
 use Rattle.links.specs.Search.{asRoot, manySlots, markOf, Clean, Followed}
-use Rattle.recall.specs.Recall.{settled}
+use Rattle.recall.specs.Recall.{firstTelling}
 use Rattle.links.proofs.Ways.{mark-fits, getD-set, ends-step, ring-walks, Way, way-type, way-marked, way-all-marked, way-kept, way-onward, way-root}
 
 -- at most as many types as the limit, each leads to some of them, and those that are left from a slot on are some of those
@@ -37,7 +37,7 @@ module _ (held : ℕ → List ℕ) (done : ℕ → ℕ) (rest : ℕ → ℕ → 
 
   -- ── it begins at a root not yet seen ──
 
-  module _ (all : (t : ℕ) → rest t 0 ≡ held t) (settles : (x : ℕ) → settled ≤ done x) where
+  module _ (all : (t : ℕ) → rest t 0 ≡ held t) (settles : (x : ℕ) → firstTelling ≤ done x) where
     -- a place that has no mark is none that is done
     unlike : (work : List ℕ) {x u : ℕ} → getD work u 0 ≡ 0 → getD work x 0 ≡ done x → x ≡ u → ⊥
     unlike work {x} new e s = let z = sym new ∙ ap (λ (y : ℕ). getD work y 0) (sym s) ∙ e in omega (arith, settles x)
@@ -71,16 +71,16 @@ module _ (held : ℕ → List ℕ) (done : ℕ → ℕ) (rest : ℕ → ℕ → 
 
   -- ── a step ──
 
-  module _ (few : n ≤ typeLimit) (settles : (x : ℕ) → settled ≤ done x) (inside : (t u : ℕ) → List·Memᴰ u (held t) → (1 ≤ u) × (u ≤ n))
+  module _ (few : n ≤ typeLimit) (settles : (x : ℕ) → firstTelling ≤ done x) (inside : (t u : ℕ) → List·Memᴰ u (held t) → (1 ≤ u) × (u ≤ n))
       {work : List ℕ} {root t j : ℕ} (g : Going work root t j) where
     pub going-type : (1 ≤ t) × (t ≤ n)
     going-type = way-type held done rest n work root t (g .parents) (g .way)
 
-    pub going-seen : (1 ≤ getD work t 0) × (getD work t 0 < settled)
+    pub going-seen : (1 ≤ getD work t 0) × (getD work t 0 < firstTelling)
     going-seen = way-marked held done rest n few work root t (g .parents) (g .way)
 
     -- a type whose mark is that high is done
-    is-done : (u : ℕ) → List·Memᴰ u (held t) → settled ≤ getD work u 0 → getD work u 0 ≡ done u
+    is-done : (u : ℕ) → List·Memᴰ u (held t) → firstTelling ≤ getD work u 0 → getD work u 0 ≡ done u
     is-done u leads high =
         let i = inside t u leads in
         ⊎-elim (λ z. absurd (omega arith))
@@ -88,10 +88,10 @@ module _ (held : ℕ → List ℕ) (done : ℕ → ℕ) (rest : ℕ → ℕ → 
         (λ m. absurd (let low = way-all-marked held done rest n few work root t (g .parents) (g .way) u m .1 in omega arith)) s)
         (g .caught u (i .0) (i .1))
 
-    module _ {u k : ℕ} (opens : (x : ℕ) → List·Memᴰ x (rest t j) → (settled ≤ getD work x 0) ⊎ ((x ≡ u) ⊎ List·Memᴰ x (rest t k))) where
+    module _ {u k : ℕ} (opens : (x : ℕ) → List·Memᴰ x (rest t j) → (firstTelling ≤ getD work x 0) ⊎ ((x ≡ u) ⊎ List·Memᴰ x (rest t k))) where
       -- it is on the way: each type of the way leads to another
       module _ (leads : List·Memᴰ u (held t)) where
-        pub going-ring : (getD work u 0 ≡ 0 → ⊥) → getD work u 0 < settled → (m : ℕ) → walks held m root ≡ true
+        pub going-ring : (getD work u 0 ≡ 0 → ⊥) → getD work u 0 < firstTelling → (m : ℕ) → walks held m root ≡ true
         going-ring seen unfinished m =
             let i = inside t u leads in
             let back : List·Memᴰ u (t ∷ g .parents) =
@@ -157,7 +157,7 @@ module _ (held : ℕ → List ℕ) (done : ℕ → ℕ) (rest : ℕ → ℕ → 
               }
 
     -- nothing is left: the type gets its mark, and leads to no endless walk
-    module _ (spent : (x : ℕ) → List·Memᴰ x (rest t j) → settled ≤ getD work x 0) (room : t < length work) {mark : ℕ}
+    module _ (spent : (x : ℕ) → List·Memᴰ x (rest t j) → firstTelling ≤ getD work x 0) (room : t < length work) {mark : ℕ}
         (right : walks held n t ≡ false → ((u : ℕ) → List·Memᴰ u (held t) → getD work u 0 ≡ done u) → mark ≡ done t) where
       abbrev left : List ℕ
       left = set work t mark

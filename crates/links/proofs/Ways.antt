@@ -14,12 +14,12 @@ use Rattle.paper.specs.rules.Chain.{walks, Chain}
 use Rattle.paper.specs.rules.Limits.{typeLimit}
 use Rattle.paper.proofs.walks.Endless.{any-holds, chain-walks, walks-chain}
 use Rattle.links.specs.Search.{asRoot, manySlots, markOf}
-use Rattle.recall.specs.Recall.{settled}
+use Rattle.recall.specs.Recall.{firstTelling}
 
 -- ── marks ──
 
 -- the mark of a type on the way is below that of any that is done: 1 + 16,384 * 65,536 + 65,535 is below 2^30 + 2^17
-pub mark-fits : {p k : ℕ} → p ≤ typeLimit → k < manySlots → markOf p k < settled
+pub mark-fits : {p k : ℕ} → p ≤ typeLimit → k < manySlots → markOf p k < firstTelling
 mark-fits low small = omega arith
 
 -- ── a place set, and the others ──
@@ -83,7 +83,7 @@ module _ (held : ℕ → List ℕ) (done : ℕ → ℕ) (rest : ℕ → ℕ → 
 
   -- the mark of a type on the way is that of none that is new or done
   module _ (few : n ≤ typeLimit) where
-    pub way-marked : (work : List ℕ) (root t : ℕ) (ps : List ℕ) → Way work root t ps → (1 ≤ getD work t 0) × (getD work t 0 < settled)
+    pub way-marked : (work : List ℕ) (root t : ℕ) (ps : List ℕ) → Way work root t ps → (1 ≤ getD work t 0) × (getD work t 0 < firstTelling)
     way-marked work root t [] w = let e = w .2 in (omega arith, omega arith)
     way-marked work root t (p ∷ ps) w =
         let e = w .1 .1 .marked in
@@ -93,7 +93,7 @@ module _ (held : ℕ → List ℕ) (done : ℕ → ℕ) (rest : ℕ → ℕ → 
         (omega arith, omega arith)
 
     pub way-all-marked : (work : List ℕ) (root t : ℕ) (ps : List ℕ) → Way work root t ps → (x : ℕ) → List·Memᴰ x (t ∷ ps)
-        → (1 ≤ getD work x 0) × (getD work x 0 < settled)
+        → (1 ≤ getD work x 0) × (getD work x 0 < firstTelling)
     way-all-marked work root t [] w x h =
         ⊎-elim (λ (e : x ≡ t). let m = way-marked work root t [] w in let same = ap (λ (y : ℕ). getD work y 0) e in (omega arith, omega arith))
         (λ m. absurd (List·Memᴰ·not-nil m)) (List·Memᴰ·cases-cons h)

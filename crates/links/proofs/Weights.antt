@@ -9,10 +9,10 @@ use borrow.Author.Tests.{eqb-true, eqb-false, ne-eqb, le-leb, lt-leb}
 use lib.Dec.{eqb, leb}
 use lib.ListN.{length, getD, set}
 use lib.Seq.{getD-set-same, getD-set-other}
-use Rattle.recall.specs.Recall.{settled}
+use Rattle.recall.specs.Recall.{firstTelling}
 
 abbrev weight : ℕ → ℕ
-weight m = cond (eqb m 0) 2 (cond (leb settled m) 0 1)
+weight m = cond (eqb m 0) 2 (cond (leb firstTelling m) 0 1)
 
 -- of the types 1 to n
 abbrev pub weights : List ℕ → ℕ → ℕ
@@ -22,11 +22,11 @@ weights work (suc n) = weight (getD work (suc n) 0) + weights work n
 weight-new : {m : ℕ} → m ≡ 0 → weight m ≡ 2
 weight-new {m} e = ap weight e
 
-weight-done : (m : ℕ) → settled ≤ m → weight m ≡ 0
-weight-done m h = ap₂ (λ (a b : Bool). cond a 2 (cond b 0 1)) (ne-eqb m 0 (λ (e : m ≡ 0). omega arith)) (le-leb settled m h)
+weight-done : (m : ℕ) → firstTelling ≤ m → weight m ≡ 0
+weight-done m h = ap₂ (λ (a b : Bool). cond a 2 (cond b 0 1)) (ne-eqb m 0 (λ (e : m ≡ 0). omega arith)) (le-leb firstTelling m h)
 
-weight-open : (m : ℕ) → 1 ≤ m → m < settled → weight m ≡ 1
-weight-open m low high = ap₂ (λ (a b : Bool). cond a 2 (cond b 0 1)) (ne-eqb m 0 (λ (e : m ≡ 0). omega arith)) (lt-leb settled m high)
+weight-open : (m : ℕ) → 1 ≤ m → m < firstTelling → weight m ≡ 1
+weight-open m low high = ap₂ (λ (a b : Bool). cond a 2 (cond b 0 1)) (ne-eqb m 0 (λ (e : m ≡ 0). omega arith)) (lt-leb firstTelling m high)
 
 module _ (work : List ℕ) (u v : ℕ) where
   weights-outside : (n : ℕ) → n < u → weights (set work u v) n ≡ weights work n
@@ -55,7 +55,7 @@ module _ (work : List ℕ) (u v : ℕ) where
           omega arith
 
   -- a type is entered
-  pub weights-entered : (n : ℕ) → 1 ≤ u → u ≤ n → u < length work → getD work u 0 ≡ 0 → 1 ≤ v → v < settled → weights (set work u v) n < weights work n
+  pub weights-entered : (n : ℕ) → 1 ≤ u → u ≤ n → u < length work → getD work u 0 ≡ 0 → 1 ≤ v → v < firstTelling → weights (set work u v) n < weights work n
   weights-entered n low high room new l h =
       let e = weights-set n low high room in
       let a = weight-new new in
@@ -63,7 +63,7 @@ module _ (work : List ℕ) (u v : ℕ) where
       omega arith
 
 -- a type is left
-pub weights-left : (work : List ℕ) (u v n : ℕ) → 1 ≤ u → u ≤ n → u < length work → 1 ≤ getD work u 0 → getD work u 0 < settled → settled ≤ v
+pub weights-left : (work : List ℕ) (u v n : ℕ) → 1 ≤ u → u ≤ n → u < length work → 1 ≤ getD work u 0 → getD work u 0 < firstTelling → firstTelling ≤ v
     → weights (set work u v) n < weights work n
 weights-left work u v n low high room l h done =
     let e = weights-set work u v n low high room in

@@ -12,7 +12,7 @@ use Rattle.kindrows.specs.Codes.{isHeld}
 use Rattle.paper.specs.rules.Chain.{stepTo}
 use Rattle.paper.specs.rules.Kind.{Role}
 use Rattle.paper.specs.rules.Table.{Record, vlenIn, rolesOf, wordsOf}
-use Rattle.recall.specs.Recall.{settled}
+use Rattle.recall.specs.Recall.{firstTelling}
 
 -- the slots among some words, by their roles
 abbrev pub slotsIn : List Role → List ℕ → List ℕ
@@ -38,16 +38,16 @@ heldFrom r j = typesIn (drop j (slotsOf r))
 
 -- a type is not done: its mark is below those of types that are
 abbrev pub isOpen : List ℕ → ℕ → Bool
-isOpen work u = not (eqb u 0) && ltb (getD work u 0) settled
+isOpen work u = not (eqb u 0) && ltb (getD work u 0) firstTelling
 
 -- the next of them that is not done is u, and slot k is the one behind it
 pub record NextOpen (r : Record) (work : List ℕ) (j u k : ℕ) : Type 0 where
   pub held : List·Memᴰ u (heldFrom r 0)
-  pub unfinished : getD work u 0 < settled
-  pub passed : (x : ℕ) → List·Memᴰ x (heldFrom r j) → (settled ≤ getD work x 0) ⊎ ((x ≡ u) ⊎ List·Memᴰ x (heldFrom r k))
+  pub unfinished : getD work u 0 < firstTelling
+  pub passed : (x : ℕ) → List·Memᴰ x (heldFrom r j) → (firstTelling ≤ getD work x 0) ⊎ ((x ≡ u) ⊎ List·Memᴰ x (heldFrom r k))
   pub inside : k ≤ length (slotsOf r)
 
 -- what is answered of the types held from slot j on
 abbrev pub HeldIs : Record → List ℕ → ℕ → Held → Type 0
-HeldIs r work j Nothing = (x : ℕ) → List·Memᴰ x (heldFrom r j) → settled ≤ getD work x 0
+HeldIs r work j Nothing = (x : ℕ) → List·Memᴰ x (heldFrom r j) → firstTelling ≤ getD work x 0
 HeldIs r work j (Found u k) = NextOpen r work j (u .0) k

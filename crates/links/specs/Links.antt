@@ -28,26 +28,22 @@ searched n room = leb n typeLimit && ltb n room
 unfoldable pub linksSay : Table → ℕ → ℕ → Option Answer
 linksSay T n room = cond (searched n room) (orElse (overTypes phase4 T) (overTypes phase5 T)) none
 
--- where nothing is wrong, the work slice has what is remembered of each type; else it is all 0
-abbrev pub leftAt : Table → ℕ → ℕ → ℕ → ℕ
-leftAt T n room x = cond (searched n room) (markAt T n x) 0
+-- where nothing is wrong, the work slice has what is remembered of each type
+abbrev pub remainsAt : Table → ℕ → ℕ → ℕ → ℕ
+remainsAt T n room x = cond (searched n room) (markAt T n x) 0
 
-abbrev pub Leaves : Table → ℕ → ℕ → Linked → List ℕ → Type 0
-Leaves T n room Good work = (x : ℕ) → getD work x 0 ≡ leftAt T n room x
-Leaves T n room (Reference t) work = work ≡ zeros room
-Leaves T n room (Endless t) work = work ≡ zeros room
+-- and else what is said of it then
+abbrev pub Leaves : Table → ℕ → ℕ → Type 0 → Linked → List ℕ → Type 0
+Leaves T n room refused Good work = (x : ℕ) → getD work x 0 ≡ remainsAt T n room x
+Leaves T n room refused (Reference t) work = refused
+Leaves T n room refused (Endless t) work = refused
 
 pub record LinksOf (T : Table) (n room : ℕ) (r : Linked) (work : List ℕ) : Type 0 where
   pub says : linkedAsPaper T r ≡ linksSay T n room
-  pub leaves : Leaves T n room r work
+  pub leaves : Leaves T n room (work ≡ zeros room) r work
   pub size : length work ≡ room
 
 -- the same, with a work slice that may hold anything where something is wrong
-abbrev pub LeavesGood : Table → ℕ → ℕ → Linked → List ℕ → Type 0
-LeavesGood T n room Good work = (x : ℕ) → getD work x 0 ≡ leftAt T n room x
-LeavesGood T n room (Reference t) work = Unit {0}
-LeavesGood T n room (Endless t) work = Unit {0}
-
 pub record BothOf (T : Table) (n room : ℕ) (r : Linked) (work : List ℕ) : Type 0 where
   pub says : linkedAsPaper T r ≡ linksSay T n room
-  pub leaves : LeavesGood T n room r work
+  pub leaves : Leaves T n room (Unit {0}) r work

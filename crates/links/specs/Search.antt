@@ -21,12 +21,12 @@ use Rattle.paper.specs.rules.Limits.{typeLimit}
 use Rattle.paper.specs.rules.References.{refsOk}
 use Rattle.paper.specs.rules.Table.{Record, Table, count, recordAt}
 use Rattle.paper.specs.rules.Walk.{placeAt}
-use Rattle.recall.specs.Recall.{settled, codeAt}
+use Rattle.recall.specs.Recall.{firstTelling, codeAt}
 
 -- ── marks: 0 is a type not yet seen; one of which nothing is left to be looked at is done, and has what is remembered of it ──
 
 unfoldable pub done : Table → ℕ → ℕ
-done T x = settled + codeAt T x
+done T x = firstTelling + codeAt T x
 
 -- the type that the search began with is on the way
 abbrev pub asRoot : ℕ

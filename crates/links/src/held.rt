@@ -2,7 +2,7 @@
 use paper::Order;
 use paper::Place;
 use paper::TypeNo;
-use recall::SETTLED;
+use recall::FIRST_TELLING;
 use rows::held_place;
 use rows::kind_of;
 use rows::vlen_of;
@@ -40,7 +40,7 @@ fn is_open(work: &[u32], u: u32) -> bool
     if work.len() <= i {
         return true;
     }
-    work[i] < SETTLED
+    work[i] < FIRST_TELLING
 }
 
 // The first type that a record holds from a slot on and that is not done. A member has three words, so slots stand twelve bytes apart.

@@ -6,7 +6,7 @@ use mathlib.Core.Path.{_≡_, refl, sym, ap, _∙_}
 use mathlib.Core.Bool.{Bool, not}
 use mathlib.Core.List.{List, [], _∷_}
 use mathlib.Core.Option.{Option, none}
-use Rattle.glance.specs.Glance.{Good}
+use Rattle.glance.specs.Glance.{SurelyGood}
 use Rattle.paper.specs.rules.Choice.{Rule, _when_, firstDue, orElse}
 use Rattle.paper.specs.rules.Gate.{firstOf, namingAt, phase4, phase5, phase6}
 use Rattle.paper.specs.rules.Layout.{layoutBad}
@@ -24,7 +24,7 @@ none-first place rules (suc left) k h =
     ap (λ (o : Option ℕ). orElse (namingAt k (place k) o) (firstOf place rules left (suc k))) (h k (omega arith) (omega arith))
     ∙ none-first place rules left (suc k) (λ t low high. h t (omega arith) (omega arith))
 
-module _ (base b index : List ℕ) (v : View) (good : Good (tableBy base b index v) (v .n)) where
+module _ (base b index : List ℕ) (v : View) (good : SurelyGood (tableBy base b index v) (v .n)) where
   abbrev T : Table
   T = tableBy base b index v
 

@@ -12,7 +12,7 @@ use lib.Dec.{eqb, leb, ltb}
 use lib.ListN.{length, getD, drop}
 use Rattle.layout.proofs.Telling.{Right, layout-same}
 use Rattle.layout.specs.Told.{Recalled}
-use Rattle.links.specs.Links.{searched, linksSay, LinksOf, leftAt}
+use Rattle.links.specs.Links.{searched, linksSay, LinksOf, remainsAt}
 use Rattle.links.specs.Search.{done, markAt}
 use Rattle.links.specs.declared.whole.Linked.the-variants.{Good}
 use Rattle.paper.proofs.bytes.Bytes.{below-drop}
@@ -38,7 +38,7 @@ use Rattle.recall.proofs.Everywhere.{Inside, base-everywhere, size-everywhere, 
 use Rattle.recall.proofs.Lines.{OrVoid}
 use Rattle.recall.proofs.Recalling.{Kept}
 use Rattle.recall.proofs.Steps.{goes-held}
-use Rattle.recall.specs.Recall.{settled, told, goesTo, codeAt}
+use Rattle.recall.specs.Recall.{firstTelling, told, goesTo, codeAt}
 use Rattle.views.proofs.Shows.{tableBy-count, bytesBy-record}
 use Rattle.views.specs.Shown.{placeBy, tableBy, bytesBy, startIn, holder}
 use Rattle.views.specs.declared.View.{View}

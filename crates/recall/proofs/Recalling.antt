@@ -15,7 +15,7 @@ use Rattle.paper.specs.rules.Size.{Step, is, manyOf, sizeless, lost, stepIn, ex
 use Rattle.paper.specs.rules.Span.{baseFrom}
 use Rattle.paper.specs.rules.Table.{Record, Table, count, recordAt}
 use Rattle.recall.proofs.Lines.{OrVoid, line-end, line-inside, line-keeps}
-use Rattle.recall.specs.Recall.{settled, most, told, cutSize, half, sizeCode, isOne, goesTo, endFrom, stepOf, stepCode, codeAt}
+use Rattle.recall.specs.Recall.{firstTelling, mostTold, told, cutSize, halfSize, sizeCode, isOne, goesTo, endFrom, stepOf, stepCode, codeAt}
 use Rattle.recall.specs.Recall.{baseTold, endTold, sizeBehind, sizeAt, sizeTold, codeTold, markTold}
 use Rattle.recall.proofs.Steps.{many, many-one, sizeCode-cut, sizeBehind-code, sizeCode-low, named-low, isAliasAt, thirdAt, isOneAt, nextAt, base-line, end-line, void-step, void-one, alias-one, alias-next, leads-alias, leads-one, Ends, base-step, base-own, end-step, end-own, sizeAfter, size-after, size-void}
 
@@ -224,36 +224,36 @@ module _ {T : Table} {memo : List ℕ} {D : ℕ → Type 0} (kept : Kept T memo 
 
   -- ── and its mark ──
 
-  module _ (few : (x : ℕ) → D x → x ≤ half) (t : ℕ) (e : Ends T t) (h : OrVoid D (goesTo (stepIn T t))) where
-    void-low : (x : ℕ) → OrVoid D x → x ≤ half
+  module _ (few : (x : ℕ) → D x → x ≤ halfSize) (t : ℕ) (e : Ends T t) (h : OrVoid D (goesTo (stepIn T t))) where
+    void-low : (x : ℕ) → OrVoid D x → x ≤ halfSize
     void-low x o = ⊎-elim (λ (z : x ≡ 0). omega arith) (λ d. few x d) o
 
-    code-low : codeAt T t ≤ half + 1
+    code-low : codeAt T t ≤ halfSize + 1
     code-low = go (isAliasAt T t) refl
       where
-        go : (z : Bool) → isAliasAt T t ≡ z → codeAt T t ≤ half + 1
+        go : (z : Bool) → isAliasAt T t ≡ z → codeAt T t ≤ halfSize + 1
         go true a =
             let i = void-low _ (base-inside (nextAt T t) h) in
             let same = code-alias t a ∙ base-step T t e a ∙ ap (baseFrom T (count T)) (sym (alias-next T t a)) in
             omega arith
         go false a = by (stepIn T t) refl
           where
-            by : (s : Step) → stepIn T t ≡ s → codeAt T t ≤ half + 1
-            by s p = subst (λ (k : ℕ). k ≤ half + 1) (sym (code-step t a ∙ ap (λ (x : Step). stepCode x (endFrom T (count T) t) (exactSize T) (recordAt T t)) p)) (on s p)
+            by : (s : Step) → stepIn T t ≡ s → codeAt T t ≤ halfSize + 1
+            by s p = subst (λ (k : ℕ). k ≤ halfSize + 1) (sym (code-step t a ∙ ap (λ (x : Step). stepCode x (endFrom T (count T) t) (exactSize T) (recordAt T t)) p)) (on s p)
               where
-                on : (s : Step) → stepIn T t ≡ s → stepCode s (endFrom T (count T) t) (exactSize T) (recordAt T t) ≤ half + 1
+                on : (s : Step) → stepIn T t ≡ s → stepCode s (endFrom T (count T) t) (exactSize T) (recordAt T t) ≤ halfSize + 1
                 on (is s) p = named-low (recordAt T t)
                 on sizeless p = named-low (recordAt T t)
                 on lost p = named-low (recordAt T t)
                 on (manyOf c u) p = one (eqb c 1) refl
                   where
-                    one : (z : Bool) → eqb c 1 ≡ z → cond z (endFrom T (count T) t) (sizeCode (exactSize T u)) ≤ half + 1
+                    one : (z : Bool) → eqb c 1 ≡ z → cond z (endFrom T (count T) t) (sizeCode (exactSize T u)) ≤ halfSize + 1
                     one true q =
                         let i = void-low _ (end-inside (nextAt T t) h) in let same = end-step T t e (ap isOne p ∙ q) in omega arith
                     one false q = sizeCode-low (exactSize T u)
 
-    pub mark-told : markTold memo T (recordAt T t) ≡ settled + codeAt T t
+    pub mark-told : markTold memo T (recordAt T t) ≡ firstTelling + codeAt T t
     unfolding markTold
     mark-told =
-        ap (λ (k : ℕ). cond (leb k most) (settled + k) settled) (code-told t e h)
-        ∙ ap (λ (z : Bool). cond z (settled + codeAt T t) settled) (le-leb (codeAt T t) most (let l = code-low in omega arith))
+        ap (λ (k : ℕ). cond (leb k mostTold) (firstTelling + k) firstTelling) (code-told t e h)
+        ∙ ap (λ (z : Bool). cond z (firstTelling + codeAt T t) firstTelling) (le-leb (codeAt T t) mostTold (let l = code-low in omega arith))

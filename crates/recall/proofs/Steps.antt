@@ -24,7 +24,7 @@ use Rattle.paper.specs.rules.Span.{aliases, isAlias, baseFrom}
 use Rattle.paper.specs.rules.Table.{Record, Table, count, recordAt, kindAt, kindOf}
 use Rattle.paper.specs.rules.Tails.{parametersOf}
 use Rattle.recall.proofs.Lines.{lineFrom, line-step, line-own}
-use Rattle.recall.specs.Recall.{cutSize, half, sizeCode, isOne, goesTo, endFrom, namedCode}
+use Rattle.recall.specs.Recall.{cutSize, halfSize, sizeCode, isOne, goesTo, endFrom, namedCode}
 use Rattle.recall.specs.Recall.{sizeBehind}
 use Rattle.sizes.specs.SizeStep.{cut}
 
@@ -55,36 +55,36 @@ sizeCode-cut (some s) = go (leb s 4294967296) refl
   where
     go : (z : Bool) → leb s 4294967296 ≡ z → sizeCode (some (cond z s 4294967296)) ≡ sizeCode (some s)
     go true e = refl
-    go false e = let l = leb-false s 4294967296 e in sym (ap (λ (z : Bool). cond z s half) (lt-leb s half (omega arith)))
+    go false e = let l = leb-false s 4294967296 e in sym (ap (λ (z : Bool). cond z s halfSize) (lt-leb s halfSize (omega arith)))
 
 -- an element's size up to a half is enough for an array of none, or of two or more
 pub sizeBehind-code : (c u : ℕ) (x : Option ℕ) → (c ≡ 1 → ⊥) → cutSize (sizeBehind (manyOf c u) (sizeCode x)) ≡ cutSize (many c x)
 sizeBehind-code c u none ne = refl
-sizeBehind-code c u (some s) ne = go (leb s half) refl
+sizeBehind-code c u (some s) ne = go (leb s halfSize) refl
   where
-    large : (c : ℕ) → (c ≡ 1 → ⊥) → half < s → cut (c * half) ≡ cut (c * s)
-    large zero ne h = let none : 0 * half ≡ 0 * s = omega arith in ap cut none
+    large : (c : ℕ) → (c ≡ 1 → ⊥) → halfSize < s → cut (c * halfSize) ≡ cut (c * s)
+    large zero ne h = let none : 0 * halfSize ≡ 0 * s = omega arith in ap cut none
     large (suc zero) ne h = absurd (ne refl)
     large (suc (suc c)) ne h =
-        cut-large (suc (suc c) * half) (omega arith)
-        ∙ sym (cut-large (suc (suc c) * s) (let m = mul-le-mul {n₁ = 2} {m₁ = half} {n₂ = suc (suc c)} {m₂ = s} (omega arith) (omega arith) in omega arith))
+        cut-large (suc (suc c) * halfSize) (omega arith)
+        ∙ sym (cut-large (suc (suc c) * s) (let m = mul-le-mul {n₁ = 2} {m₁ = halfSize} {n₂ = suc (suc c)} {m₂ = s} (omega arith) (omega arith) in omega arith))
 
-    go : (z : Bool) → leb s half ≡ z → cutSize (sizeBehind (manyOf c u) (cond z s half)) ≡ some (cut (c * s))
-    go true e = ap (λ (z : Bool). cutSize (cond z none (some (c * s)))) (le-ltb half s (leb-true s half e))
-    go false e = ap some (large c ne (leb-false s half e))
+    go : (z : Bool) → leb s halfSize ≡ z → cutSize (sizeBehind (manyOf c u) (cond z s halfSize)) ≡ some (cut (c * s))
+    go true e = ap (λ (z : Bool). cutSize (cond z none (some (c * s)))) (le-ltb halfSize s (leb-true s halfSize e))
+    go false e = ap some (large c ne (leb-false s halfSize e))
 
-pub sizeCode-low : (x : Option ℕ) → sizeCode x ≤ half + 1
+pub sizeCode-low : (x : Option ℕ) → sizeCode x ≤ halfSize + 1
 sizeCode-low none = omega arith
-sizeCode-low (some s) = go (leb s half) refl
+sizeCode-low (some s) = go (leb s halfSize) refl
   where
-    go : (z : Bool) → leb s half ≡ z → cond z s half ≤ half + 1
-    go true e = let l = leb-true s half e in omega arith
+    go : (z : Bool) → leb s halfSize ≡ z → cond z s halfSize ≤ halfSize + 1
+    go true e = let l = leb-true s halfSize e in omega arith
     go false e = omega arith
 
-pub named-low : (r : Record) → namedCode r ≤ half + 1
+pub named-low : (r : Record) → namedCode r ≤ halfSize + 1
 named-low r = go (eqb (kindOf r) FUNC-PROTO) (allNamed (parametersOf r))
   where
-    go : (a b : Bool) → cond a (cond b 0 1) 0 ≤ half + 1
+    go : (a b : Bool) → cond a (cond b 0 1) 0 ≤ halfSize + 1
     go true true = omega arith
     go true false = omega arith
     go false b = omega arith

@@ -20,7 +20,7 @@ use Rattle.paper.specs.rules.Span.{isAlias}
 use Rattle.paper.specs.rules.Table.{Record, Table, recordAt, kindAt, kindOf, kindIn}
 use Rattle.paper.specs.rules.Tails.{parametersOf}
 use Rattle.recall.proofs.Steps.{alias-size}
-use Rattle.recall.specs.Recall.{settled, most, told, half, sizeCode, isOne, goesTo, namedCode, stepOf, stepCode, baseTold, endTold, manyTold, sizeBehind, sizeAt, sizeTold, codeTold, markTold}
+use Rattle.recall.specs.Recall.{firstTelling, mostTold, told, halfSize, sizeCode, isOne, goesTo, namedCode, stepOf, stepCode, baseTold, endTold, manyTold, sizeBehind, sizeAt, sizeTold, codeTold, markTold}
 use Rattle.kindrows.specs.Codes as codes
 use Rattle.kindrows.specs.Codes.{sizeRuleOf}
 use Rattle.rows.proofs.RoleCodes.{sizeRuleOf-sizeCode}
@@ -35,7 +35,7 @@ use Rattle.paper.specs.terms.Reading.{recordIn}
 -- ── one place ──
 
 pub told-past : (memo : List ℕ) (t : ℕ) → length memo ≤ t → 0 ≡ told memo t
-told-past memo t h = sym (ap (λ (m : ℕ). m - settled) (List·getD-eq-default memo 0 h))
+told-past memo t h = sym (ap (λ (m : ℕ). m - firstTelling) (List·getD-eq-default memo 0 h))
 
 -- ── a base, the end of a line, a size ──
 
@@ -133,32 +133,32 @@ pub none-said : sizedAsPaper NoSize ≡ answerOf none
 unfolding sizedAsPaper
 none-said = refl
 
-pub many-none : (n code : ℕ) → half < code → sizedAsPaper NoSize ≡ answerOf (manyTold n code)
-many-none n code h = none-said ∙ sym (ap (λ (z : Bool). answerOf (cond z none (some (n * code)))) (lt-ltb half code h))
+pub many-none : (n code : ℕ) → halfSize < code → sizedAsPaper NoSize ≡ answerOf (manyTold n code)
+many-none n code h = none-said ∙ sym (ap (λ (z : Bool). answerOf (cond z none (some (n * code)))) (lt-ltb halfSize code h))
 
-pub many-some : (n code : ℕ) → code ≤ half → {said : Answer} → said ≡ answerOf (some (n * code)) → said ≡ answerOf (manyTold n code)
-many-some n code h s = s ∙ sym (ap (λ (z : Bool). answerOf (cond z none (some (n * code)))) (le-ltb half code h))
+pub many-some : (n code : ℕ) → code ≤ halfSize → {said : Answer} → said ≡ answerOf (some (n * code)) → said ≡ answerOf (manyTold n code)
+many-some n code h s = s ∙ sym (ap (λ (z : Bool). answerOf (cond z none (some (n * code)))) (le-ltb halfSize code h))
 
 -- ── a size as a code ──
 
 module _ (r : Sized) (x : Option ℕ) (said : sizedAsPaper r ≡ answerOf x) where
-  pub code-small : {s : ℕ} → r ≡ Exact s → s ≤ half → s ≡ sizeCode x
+  pub code-small : {s : ℕ} → r ≡ Exact s → s ≤ halfSize → s ≡ sizeCode x
   code-small {s} e h =
-      sym (ap sizeCode (measures (Exact s) x (sym (ap sizedAsPaper e) ∙ said) .0) ∙ ap (λ (z : Bool). cond z s half) (le-leb s half h))
+      sym (ap sizeCode (measures (Exact s) x (sym (ap sizedAsPaper e) ∙ said) .0) ∙ ap (λ (z : Bool). cond z s halfSize) (le-leb s halfSize h))
 
-  pub code-large : {s : ℕ} → r ≡ Exact s → half < s → half ≡ sizeCode x
+  pub code-large : {s : ℕ} → r ≡ Exact s → halfSize < s → halfSize ≡ sizeCode x
   code-large {s} e h =
-      sym (ap sizeCode (measures (Exact s) x (sym (ap sizedAsPaper e) ∙ said) .0) ∙ ap (λ (z : Bool). cond z s half) (lt-leb s half h))
+      sym (ap sizeCode (measures (Exact s) x (sym (ap sizedAsPaper e) ∙ said) .0) ∙ ap (λ (z : Bool). cond z s halfSize) (lt-leb s halfSize h))
 
-  pub code-none : r ≡ NoSize → half + 1 ≡ sizeCode x
+  pub code-none : r ≡ NoSize → halfSize + 1 ≡ sizeCode x
   code-none e = sym (ap sizeCode (measures NoSize x (sym (ap sizedAsPaper e) ∙ said)))
 
-  pub code-over : r ≡ Overflow → half ≡ sizeCode x
+  pub code-over : r ≡ Overflow → halfSize ≡ sizeCode x
   code-over e = go x (measures Overflow x (sym (ap sizedAsPaper e) ∙ said))
     where
-      go : (x : Option ℕ) → Rattle.sizes.specs.Measure.Measures Overflow x → half ≡ sizeCode x
+      go : (x : Option ℕ) → Rattle.sizes.specs.Measure.Measures Overflow x → halfSize ≡ sizeCode x
       go none m = absurd (false≢true m)
-      go (some s) m = let l = ltb-true 4294967295 s m in sym (ap (λ (z : Bool). cond z s half) (lt-leb s half (omega arith)))
+      go (some s) m = let l = ltb-true 4294967295 s m in sym (ap (λ (z : Bool). cond z s halfSize) (lt-leb s halfSize (omega arith)))
 
   pub code-lost : r ≡ Lost → 0 ≡ sizeCode x
   code-lost e = absurd (measures Lost x (sym (ap sizedAsPaper e) ∙ said))
@@ -240,10 +240,10 @@ module _ (memo : List ℕ) (T : Table) (r : Record) where
 -- ── its mark ──
 
 module _ (memo : List ℕ) (T : Table) (r : Record) {k : ℕ} (code : k ≡ codeTold memo T r) where
-  pub mark-large : most < k → settled ≡ markTold memo T r
+  pub mark-large : mostTold < k → firstTelling ≡ markTold memo T r
   unfolding markTold
-  mark-large h = sym (ap (λ (j : ℕ). cond (leb j most) (settled + j) settled) (sym code) ∙ ap (λ (z : Bool). cond z (settled + k) settled) (lt-leb k most h))
+  mark-large h = sym (ap (λ (j : ℕ). cond (leb j mostTold) (firstTelling + j) firstTelling) (sym code) ∙ ap (λ (z : Bool). cond z (firstTelling + k) firstTelling) (lt-leb k mostTold h))
 
-  pub mark-small : k ≤ most → settled + k ≡ markTold memo T r
+  pub mark-small : k ≤ mostTold → firstTelling + k ≡ markTold memo T r
   unfolding markTold
-  mark-small h = sym (ap (λ (j : ℕ). cond (leb j most) (settled + j) settled) (sym code) ∙ ap (λ (z : Bool). cond z (settled + k) settled) (le-leb k most h))
+  mark-small h = sym (ap (λ (j : ℕ). cond (leb j mostTold) (firstTelling + j) firstTelling) (sym code) ∙ ap (λ (z : Bool). cond z (firstTelling + k) firstTelling) (le-leb k mostTold h))

@@ -1,5 +1,5 @@
 -- What is remembered of each type in the work slice when phase 5 has come to its end, so that phase 6 walks no chain: the base of an alias, the type whose size
--- another has, the size of an array's element, and whether a prototype names its parameters. A place of the slice that tells is `settled` or more.
+-- another has, the size of an array's element, and whether a prototype names its parameters. A place of the slice that tells is `firstTelling` or more.
 use Prim.Native.Nat.{ℕ, zero, suc, _+_, _-_, _*_}
 use mathlib.Core.Bool.{Bool, false, cond}
 use mathlib.Core.List.{List}
@@ -16,16 +16,16 @@ use Rattle.paper.specs.rules.Tails.{parametersOf}
 use Rattle.sizes.specs.SizeStep.{cut}
 
 -- above every mark of a type on the way of the search
-abbrev pub settled : ℕ
-settled = 1073872896
+abbrev pub firstTelling : ℕ
+firstTelling = 1073872896
 
 -- the most that a place can tell
-abbrev pub most : ℕ
-most = 3221094399
+abbrev pub mostTold : ℕ
+mostTold = 3221094399
 
 -- what a slice tells of a type; 0 where it tells nothing
 abbrev pub told : List ℕ → ℕ → ℕ
-told memo t = getD memo t 0 - settled
+told memo t = getD memo t 0 - firstTelling
 
 -- a size as far as it matters: all that overflow are one
 abbrev pub cutSize : Option ℕ → Option ℕ
@@ -35,13 +35,13 @@ cutSize (some s) = some (cut s)
 -- ── what is to be remembered ──
 
 -- the element of an array of two or more matters up to here: twice as much overflows
-abbrev pub half : ℕ
-half = 2147483648
+abbrev pub halfSize : ℕ
+halfSize = 2147483648
 
 -- a size up to there, or that there is none
 abbrev pub sizeCode : Option ℕ → ℕ
-sizeCode none = half + 1
-sizeCode (some s) = cond (leb s half) s half
+sizeCode none = halfSize + 1
+sizeCode (some s) = cond (leb s halfSize) s halfSize
 
 -- a step to one other type, whose size is this one's
 abbrev pub isOne : Step → Bool
@@ -86,7 +86,7 @@ stepOf r = stepBy (rowOf (kindOf r) .size) (r .third) (getD (r .tail) 0 0) (getD
 
 -- so many of an element whose size a code tells
 abbrev pub manyTold : ℕ → ℕ → Option ℕ
-manyTold n code = cond (ltb half code) none (some (n * code))
+manyTold n code = cond (ltb halfSize code) none (some (n * code))
 
 abbrev pub sizeBehind : Step → ℕ → Option ℕ
 sizeBehind (is s) code = some s
@@ -116,4 +116,4 @@ module _ (memo : List ℕ) (T : Table) where
 
   -- its mark: a code that passes 32 bits, which no table that is searched has, is not told
   unfoldable pub markTold : Record → ℕ
-  markTold r = cond (leb (codeTold r) most) (settled + codeTold r) settled
+  markTold r = cond (leb (codeTold r) mostTold) (firstTelling + codeTold r) firstTelling

@@ -1,8 +1,8 @@
 // What is to be remembered of a type, by what is told of those that it leads to.
 use crate::named::all_named;
-use crate::telling::HALF;
-use crate::telling::MOST;
-use crate::telling::SETTLED;
+use crate::telling::FIRST_TELLING;
+use crate::telling::HALF_SIZE;
+use crate::telling::MOST_TOLD;
 use crate::telling::base_told;
 use crate::telling::end_told;
 use crate::telling::size_told;
@@ -35,13 +35,13 @@ fn element_code<'a>(
 {
     match size_told(base, b, index, view, memo, t) {
         Sized::Exact(s) => {
-            if s <= HALF {
+            if s <= HALF_SIZE {
                 return s;
             }
-            HALF
+            HALF_SIZE
         }
-        Sized::NoSize => HALF + 1,
-        Sized::Overflow => HALF,
+        Sized::NoSize => HALF_SIZE + 1,
+        Sized::Overflow => HALF_SIZE,
         Sized::Lost => 0,
         Sized::TooFar => 0,
     }
@@ -100,8 +100,8 @@ pub fn mark_of<'a>(
     ensures { λ r. ⌜ r ≡ markTold (now (memo .entry)) (tableBy (now (base .entry)) (now (b .entry)) (now (index .entry)) view) (recordIn (view .order) (now (bytes .entry))) ⌝ }
 {
     let code = code_of(base, b, index, view, memo, bytes);
-    if MOST < code {
-        return SETTLED;
+    if MOST_TOLD < code {
+        return FIRST_TELLING;
     }
-    SETTLED + code
+    FIRST_TELLING + code
 }

@@ -19,13 +19,13 @@ ghost use Rattle.sizes.specs.SizeStep.{stepAsPaper};
 ghost use Rattle.views.specs.Shown.{tableBy};
 
 // A place of the slice that tells is this or more: above every mark of a type on the way of the search.
-pub const SETTLED: u32 = 1073872896;
+pub const FIRST_TELLING: u32 = 1073872896;
 
 // The most that a place can tell.
-pub(crate) const MOST: u32 = 3221094399;
+pub(crate) const MOST_TOLD: u32 = 3221094399;
 
 // The most that is remembered of an element's size; one more stands for none.
-pub(crate) const HALF: u32 = 2147483648;
+pub(crate) const HALF_SIZE: u32 = 2147483648;
 
 // What the slice tells of a type; 0 where it tells nothing.
 pub fn told(memo: &[u32], t: TypeNo) -> u32
@@ -36,10 +36,10 @@ pub fn told(memo: &[u32], t: TypeNo) -> u32
         return 0;
     }
     let m = memo[i];
-    if m < SETTLED {
+    if m < FIRST_TELLING {
         return 0;
     }
-    m - SETTLED
+    m - FIRST_TELLING
 }
 
 // The base of a type.
@@ -104,7 +104,7 @@ fn so_many(n: u32, s: u32) -> Sized
 fn many_told(n: u32, code: u32) -> Sized
     ensures { λ r. ⌜ sizedAsPaper r ≡ answerOf (manyTold n code) ⌝ }
 {
-    if HALF < code {
+    if HALF_SIZE < code {
         return Sized::NoSize;
     }
     so_many(n, code)

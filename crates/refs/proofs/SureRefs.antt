@@ -19,6 +19,7 @@ use Rattle.paper.specs.rules.Word.{wordAt}
 use Rattle.paper.specs.terms.Reading.{recordIn, roled, tailRoled}
 use Rattle.refs.specs.Refers.{refBy}
 use Rattle.rows.proofs.ByRole.{Entering, entering-next}
+use Rattle.rows.proofs.Groups.{group-half}
 use Rattle.rows.proofs.Members.{member-key}
 
 -- ── a word that refers to void or a plain kind, and one that refers to a plain kind ──
@@ -63,21 +64,6 @@ module _ (order : Order) (T : Table) (s : List ℕ) where
 
 -- ── the whole of a record ──
 
--- a struct or a union, by the upper half of its info word
-struct-row : (info : ℕ) → OneOf (1024 ∷ 1280 ∷ 33792 ∷ 34048 ∷ []) (info / 65536) → rowOf (kindIn info) ≡ rowOf STRUCT
-unfolding rowOf rows
-struct-row info half =
-    member-each (λ (q : ℕ). info / 65536 ≡ q → rowOf (kindIn info) ≡ rowOf STRUCT) (info / 65536) (1024 ∷ 1280 ∷ 33792 ∷ 34048 ∷ [])
-    (sym (member-key (info / 65536) 1024 (1280 ∷ 33792 ∷ 34048 ∷ []) half))
-    (λ h. struct (omega arith), (λ h. union (omega arith), (λ h. struct (omega arith), (λ h. union (omega arith), tt))))
-    refl
-  where
-    struct : kindIn info ≡ 4 → rowOf (kindIn info) ≡ rowOf 4
-    struct e = ap rowOf e
-
-    union : kindIn info ≡ 5 → rowOf (kindIn info) ≡ rowOf 5
-    union e = ap rowOf e
-
 module _ (order : Order) (T : Table) (s : List ℕ) where
   abbrev test : Role → ℕ → Bool
   test = refWordOk T
@@ -119,7 +105,7 @@ module _ (order : Order) (T : Table) (s : List ℕ) where
         → r ≡ roled order test s 12 (times (vlenIn info) (rowOf STRUCT .each)) → r ≡ true → true ≡ refsOk T (recordIn order s)
     unfolding rowOf rows roled
     sure-members half d e =
-        let row = struct-row info half in
+        let row = group-half info (sym (member-key (info / 65536) 1024 (1280 ∷ 33792 ∷ 34048 ∷ []) half)) .row in
         whole
         ((λ i. roled order test s 0 (names (row i .name) ∷ number ∷ row i .thirdRole ∷ [])
         && (roled order test s 12 (row i .once) && roled order test s (12 + 4 * length (row i .once)) (times (vlenIn info) (row i .each))))

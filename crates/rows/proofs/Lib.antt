@@ -3,3 +3,4 @@ pub mod RoleCodes
 pub mod ByRole
 pub mod RecordWords
 pub mod AliasKinds
+pub mod Groups

@@ -27,6 +27,7 @@ use Rattle.paper.specs.rules.Table.{bits, kindIn, vlenIn, flagIn}
 use Rattle.paper.specs.rules.Tails.{tailOk, intWordOk}
 use Rattle.paper.specs.rules.Word.{wordAt}
 use Rattle.paper.specs.terms.Reading.{recordIn, roled, tailRoled}
+use Rattle.rows.proofs.Groups.{group-half}
 use Rattle.rows.proofs.Members.{member-key}
 use Rattle.rules.specs.Phase.{rulesOf}
 use Rattle.rules.specs.Quick.{Deciding, undecided, alone, grouped, IntGood}
@@ -91,39 +92,6 @@ record Bare (order : Order) (base strings s : List ℕ) (rule : NameRule) (w : �
   head : headBy w (wordAt order s 8) ≡ true
   name : namesBy order base strings s w ≡ (nameOkOver base strings rule (wordAt order s 0) && true) && true
   tail : ruled (kindIn w) ≡ false
-
--- one of a struct or a union
-record Grouped (info : ℕ) : Type 0 where
-  spare : spareZero info ≡ true
-  row : rowOf (kindIn info) ≡ rowOf STRUCT
-  tail : ruled (kindIn info) ≡ false
-
-group : (info : ℕ) → bits 16 23 info ≡ 0 → bits 29 30 info ≡ 0 → (kindIn info ≡ STRUCT) ⊎ (kindIn info ≡ UNION) → Grouped info
-unfolding rowOf rows spareZero
-group info low high kind =
-    record {
-      spare = and-true (eq-eqb (bits 16 23 info) 0 low) (eq-eqb (bits 29 30 info) 0 high);
-      row = ⊎-elim (λ e. ap rowOf e) (λ e. ap rowOf e) kind;
-      tail = ⊎-elim (λ e. ap ruled e) (λ e. ap ruled e) kind;
-    }
-
--- it is told by its upper half
-group-half : (info : ℕ) → member (info / 65536) (1024 ∷ 1280 ∷ 33792 ∷ 34048 ∷ []) ≡ true → Grouped info
-group-half info half =
-    member-each (λ (q : ℕ). info / 65536 ≡ q → Grouped info) (info / 65536) (1024 ∷ 1280 ∷ 33792 ∷ 34048 ∷ []) half (
-      λ h. group info (omega arith) (omega arith) (inl (omega arith)),
-      (
-        λ h. group info (omega arith) (omega arith) (inr (omega arith)),
-        (
-          λ h. group info (omega arith) (omega arith) (inl (omega arith)),
-          (
-            λ h. group info (omega arith) (omega arith) (inr (omega arith)),
-            tt,
-          ),
-        ),
-      ),
-    )
-    refl
 
 module _ (order : Order) (base strings s : List ℕ) where
   abbrev test : Role → ℕ → Bool
@@ -238,7 +206,7 @@ module _ (order : Order) (base strings s : List ℕ) where
         ∙ sym (roled-append order test s 0 each (times v each))
         ∙ ap (λ (n : ℕ). roled order test s 0 (times n each)) (sym (add-one v))
         ∙ e)
-        (tail-free (g .tail))
+        (tail-free (⊎-elim (λ e. ap ruled e) (λ e. ap ruled e) (g .kind)))
 
     -- ── names that decide ──
 

@@ -27,8 +27,8 @@ returns-2 c = inl refl
 read-requires-2 : tie.Need-read-requires-2
 read-requires-2 c κs = search needs
 
-sized-requires : tie.Need-sized-requires
-sized-requires c κs = search needs
+stated-requires : tie.Need-stated-requires
+stated-requires c κs = search needs
 
 returns-3 : tie.Need-returns-3
 returns-3 c = let i = c .before .before in
@@ -36,7 +36,7 @@ returns-3 c = let i = c .before .before in
     let n = m .before in
     let f = n .before in
     looks-group _ _ _ (f .before .before .before .before .pre) (sym (flag-read _ _ refl (f .before .read .ensures) (f .flag-of .ensures)) ∙ n .if1 .left)
-    (m .members-fit .ensures) (i .if2 .left) (c .before .read2 .ensures) (c .sized .ensures)
+    (m .members-fit .ensures) (i .if2 .left) (c .before .read2 .ensures) (c .stated .ensures)
 
 pub group-spec : {M : Type 1} → statement M
 group-spec =
@@ -48,5 +48,5 @@ group-spec =
     members-fit-requires
     returns-2
     read-requires-2
-    sized-requires
+    stated-requires
     returns-3)

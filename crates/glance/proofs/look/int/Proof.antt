@@ -13,22 +13,20 @@ read-requires c κs = search needs
 read-requires-2 : tie.Need-read-requires-2
 read-requires-2 c κs = search needs
 
-returns : tie.Need-returns
-returns c = inl refl
-
 int-whole-requires : tie.Need-int-whole-requires
 int-whole-requires c κs = search needs
 
+returns : tie.Need-returns
+returns c = inl refl
+
+stated-requires : tie.Need-stated-requires
+stated-requires c κs = search needs
+
 returns-2 : tie.Need-returns-2
-returns-2 c = inl refl
-
-sized-requires : tie.Need-sized-requires
-sized-requires c κs = search needs
-
-returns-3 : tie.Need-returns-3
-returns-3 c = let w = c .before .before in
-    let z = w .before .before in
-    looks-int _ _ _ (z .before .before .before .before .pre) (z .before .read .ensures) (z .read2 .ensures) (w .int-whole .ensures) (c .before .if2 .left) (c .sized .ensures)
+returns-2 c =
+    let w = c .before .before in
+    let z = w .before in
+    looks-int _ _ _ (z .before .before .before .before .pre) (z .before .read .ensures) (z .read2 .ensures) (w .int-whole .ensures) (c .before .if1 .left) (c .stated .ensures)
 
 pub int-spec : {M : Type 1} → statement M
 int-spec =
@@ -36,8 +34,7 @@ int-spec =
     (tie.spec
     read-requires
     read-requires-2
-    returns
     int-whole-requires
-    returns-2
-    sized-requires
-    returns-3)
+    returns
+    stated-requires
+    returns-2)

@@ -9,6 +9,9 @@ use Rattle.glance.proofs.look.int_whole.Tie as tie
 returns : tie.Need-returns
 returns c = int-shifted _ _ (c .if1 .taken)
 
+cast-result : tie.Need-cast-result
+cast-result c = search needs
+
 mul-result : tie.Need-mul-result
 mul-result c = search needs
 
@@ -16,4 +19,4 @@ returns-2 : tie.Need-returns-2
 returns-2 c = int-width _ _ (c .if1 .left) refl
 
 pub int-whole-spec : {M : Type 1} → statement M
-int-whole-spec = tie.close (tie.spec returns mul-result returns-2)
+int-whole-spec = tie.close (tie.spec returns cast-result mul-result returns-2)

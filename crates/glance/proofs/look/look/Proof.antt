@@ -3,7 +3,7 @@
 use mathlib.Core.Logic.{inl, inr}
 use mathlib.Core.Path.{refl, sym, _∙_}
 use Rattle.rows.proofs.RecordWords.{kind-read}
-use Rattle.glance.proofs.Looking.{seen, looks-alias, looks-sized}
+use Rattle.glance.proofs.Looking.{glimpsed, looks-alias, looks-scalar}
 use borrow.Author.Needs.{needs}
 use Rattle.glance.proofs.look.look.Statement.{statement}
 use Rattle.glance.proofs.look.look.Tie as tie
@@ -27,7 +27,7 @@ returns : tie.Need-returns
 returns c = let i = c .before .before in
     let a = i .before in
     let k = a .before in
-    seen (looks-alias _ _ _ (k .before .read .ensures) (k .kind-of .ensures) (a .is-alias .ensures) (i .if1 .taken) (c .before .read2 .ensures) (c .behind-of .ensures))
+    glimpsed (looks-alias _ _ _ (k .before .read .ensures) (k .kind-of .ensures) (a .is-alias .ensures) (i .if1 .taken) (c .before .read2 .ensures) (c .behind-of .ensures))
 
 group-requires : tie.Need-group-requires
 group-requires c κs = inl (sym (kind-read _ _ refl (c .before .before .before .before .read .ensures) (c .before .before .before .kind-of .ensures)) ∙ c .match .keys1)
@@ -44,25 +44,25 @@ pointer-requires c κs = sym (kind-read _ _ refl (c .before .before .before .bef
 read-requires-3 : tie.Need-read-requires-3
 read-requires-3 c κs = search needs
 
-sized-requires : tie.Need-sized-requires
-sized-requires c κs = search needs
+stated-requires : tie.Need-stated-requires
+stated-requires c κs = search needs
 
 returns-2 : tie.Need-returns-2
-returns-2 c = seen (c .group .ensures)
+returns-2 c = glimpsed (c .group .ensures)
 
 returns-3 : tie.Need-returns-3
-returns-3 c = seen (c .group2 .ensures)
+returns-3 c = glimpsed (c .group2 .ensures)
 
 returns-4 : tie.Need-returns-4
-returns-4 c = seen (c .int .ensures)
+returns-4 c = glimpsed (c .int .ensures)
 
 returns-5 : tie.Need-returns-5
-returns-5 c = seen (c .pointer .ensures)
+returns-5 c = glimpsed (c .pointer .ensures)
 
 returns-6 : tie.Need-returns-6
 returns-6 c = let m = c .before .before in
     let k = m .before .before .before in
-    seen (looks-sized _ _ _ (k .before .read .ensures) (k .kind-of .ensures) (m .match .keys5) (c .before .read3 .ensures) (c .sized .ensures))
+    glimpsed (looks-scalar _ _ _ (k .before .read .ensures) (k .kind-of .ensures) (m .match .keys5) (c .before .read3 .ensures) (c .stated .ensures))
 
 returns-7 : tie.Need-returns-7
 returns-7 c = inr (inl refl)
@@ -82,7 +82,7 @@ look-spec =
     int-requires
     pointer-requires
     read-requires-3
-    sized-requires
+    stated-requires
     returns-2
     returns-3
     returns-4

@@ -2,7 +2,7 @@
 -- Assumes nothing.
 use mathlib.Core.Path.{_≡_, refl, sym, ap, _∙_}
 use denote.Ref.{now}
-use Rattle.layout.specs.Told.{seen, variableTold, layoutTold}
+use Rattle.layout.specs.Told.{recalled, variableTold, layoutTold}
 use Rattle.paper.specs.terms.Reading.{recordIn}
 use Rattle.paper.specs.rules.Table.{recordAt, kindOf}
 use Rattle.rows.proofs.RecordWords.{kind-read, third-read}
@@ -18,12 +18,12 @@ kind c = kind-read _ _ refl (c .before .read .ensures) (c .kind-of .ensures)
 
 -- what the rules say of the record in the bytes, they say of the type
 of-type : (c : tie.After-kind-of) → let r = c .before .before in let a = r .before .before .before .before .before .args in
-    let X = seen (now (a .base)) (now (a .b)) (now (a .index)) (a .view) (now (a .memo)) in
+    let X = recalled (now (a .base)) (now (a .b)) (now (a .index)) (a .view) (now (a .memo)) in
     layoutTold X (recordIn (a .view .order) (now (r .record-of .result))) ≡ layoutTold X (recordAt (X .table) (a .t .0))
 of-type c =
     let r = c .before .before in
     let a = r .before .before .before .before .before .args in
-    ap (layoutTold (seen (now (a .base)) (now (a .b)) (now (a .index)) (a .view) (now (a .memo)))) (r .record-of .ensures .shows)
+    ap (layoutTold (recalled (now (a .base)) (now (a .b)) (now (a .index)) (a .view) (now (a .memo)))) (r .record-of .ensures .shows)
 
 record-of-requires : tie.Need-record-of-requires
 record-of-requires c κs = search needs
@@ -88,7 +88,7 @@ returns-5 c =
     let k = m .before in
     let r = k .before .before in
     let a = r .before .before .before .before .before .args in
-    let X = seen (now (a .base)) (now (a .b)) (now (a .index)) (a .view) (now (a .memo)) in
+    let X = recalled (now (a .base)) (now (a .b)) (now (a .index)) (a .view) (now (a .memo)) in
     let third = third-read _ (now (r .record-of .result)) refl (c .before .read2 .ensures) in
     layout-var X _ (kind k) (m .match .keys5) (c .has-small-size .ensures ∙ ap (variableTold X) third) ∙ of-type k
 

@@ -3,7 +3,7 @@
 use Prim.Native.Nat.{_*_}
 use native.Mathlib.Omega.{arith}
 use denote.Ref.{now}
-use Rattle.layout.specs.Told.{seen}
+use Rattle.layout.specs.Told.{recalled}
 use Rattle.spans.specs.Spanned.{memberAt}
 use Rattle.layout.proofs.MembersLeft.{span-read}
 use borrow.Author.Needs.{needs}
@@ -35,7 +35,7 @@ returns : tie.Need-returns
 returns c =
     let s = c .before in
     let start = s .before .before .before .before .before .before .before .before in
-    span-read (seen (now (start .args .base)) (now (start .args .b)) (now (start .args .index)) (start .args .view) (now (start .args .memo))) (start .args .flag) (8 * start .args .size)
+    span-read (recalled (now (start .args .base)) (now (start .args .b)) (now (start .args .index)) (start .args .view) (now (start .args .memo))) (start .args .flag) (8 * start .args .size)
     (memberAt (start .args .view .order) (now (start .args .bytes)) (start .args .at .0)) (s .before .before .read .ensures) (s .before .read2 .ensures)
     (s .span-told .result) (s .span-told .ensures) (c .span-ends .ensures)
 

@@ -4,7 +4,7 @@ use mathlib.Core.Path.{refl}
 use native.Mathlib.Omega.{arith}
 use denote.Ref.{now}
 use Rattle.paper.specs.terms.Reading.{recordIn}
-use Rattle.layout.specs.Told.{seen}
+use Rattle.layout.specs.Told.{recalled}
 use Rattle.rows.proofs.RecordWords.{kind-read, flag-read, third-read}
 use Rattle.layout.proofs.MembersLeft.{Laying, laying-start, laying-done, laying-bad, laying-falls, laying-next}
 use borrow.Author.Needs.{needs}
@@ -13,7 +13,7 @@ use Rattle.layout.proofs.members.members_ok.Tie as tie
 
 abbrev Inv-loop : tie.InvT-loop
 Inv-loop base b index view memo bytes info size flag kind p₀ left₀ before₀ p left before =
-    Laying (seen base b index view memo) (recordIn (view .order) bytes) (view .order) bytes p left before
+    Laying (recalled base b index view memo) (recordIn (view .order) bytes) (view .order) bytes p left before
 
 abbrev μ-loop : tie.MeasureT-loop
 μ-loop base b index view memo bytes info size flag kind p₀ left₀ before₀ p left before = left
@@ -37,7 +37,7 @@ loop-holds : tie.Need-loop-holds Inv-loop μ-loop
 loop-holds c =
     let r = c .before .before .before .before in
     let start = r .before .before .before .before .before .before in
-    laying-start (seen (now (start .args .base)) (now (start .args .b)) (now (start .args .index)) (start .args .view) (now (start .args .memo))) (start .args .view .order) (now (start .args .bytes))
+    laying-start (recalled (now (start .args .base)) (now (start .args .b)) (now (start .args .index)) (start .args .view) (now (start .args .memo))) (start .args .view .order) (now (start .args .bytes))
     (r .read .ensures) (c .tail-words .ensures)
 
 member-ok-requires : tie.Need-member-ok-requires Inv-loop μ-loop

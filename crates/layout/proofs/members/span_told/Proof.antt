@@ -3,7 +3,7 @@
 use denote.Ref.{now}
 use Rattle.layout.proofs.MembersLeft.{span-none, span-small}
 use Rattle.layout.proofs.SizesTold.{small-told}
-use Rattle.layout.specs.Told.{seen, sized}
+use Rattle.layout.specs.Told.{recalled, sized}
 use Rattle.paper.specs.terms.Reading.{recordIn}
 use Rattle.recall.proofs.Tellings.{size-base}
 use Rattle.sizes.proofs.Measured.{measures}
@@ -15,7 +15,7 @@ use Rattle.layout.proofs.members.span_told.Tie as tie
 
 -- what is told of the type's size, by its base's record
 measured : (c : tie.After-size-at) → let a = c .before .before .before .before .before .before .before .args in
-    Measures (c .size-at .result) (sized (seen (now (a .base)) (now (a .b)) (now (a .index)) (a .view) (now (a .memo))) (a .t .0))
+    Measures (c .size-at .result) (sized (recalled (now (a .base)) (now (a .b)) (now (a .index)) (a .view) (now (a .memo))) (a .t .0))
 measured c =
     let q = c .before in
     let a = q .before .before .before .before .before .before .args in
@@ -56,32 +56,32 @@ returns c =
     let z = k .before .before in
     let q = z .before in
     let a = q .before .before .before .before .before .before .args in
-    span-small (seen (now (a .base)) (now (a .b)) (now (a .index)) (a .view) (now (a .memo))) (a .flag) (a .offset) (a .t .0) (small-told (seen (now (a .base)) (now (a .b)) (now (a .index)) (a .view) (now (a .memo))) (a .t .0) (k .s .given .1) (measured z))
+    span-small (recalled (now (a .base)) (now (a .b)) (now (a .index)) (a .view) (now (a .memo))) (a .flag) (a .offset) (a .t .0) (small-told (recalled (now (a .base)) (now (a .b)) (now (a .index)) (a .view) (now (a .memo))) (a .t .0) (k .s .given .1) (measured z))
     (recordIn (a .view .order) (now (q .record-of .result))) (q .record-of .ensures .shows) (q .before .base-told .ensures) (c .span-with .ensures)
 
 returns-2 : tie.Need-returns-2
 returns-2 c =
     let z = c .before .before in
     let a = z .before .before .before .before .before .before .before .args in
-    span-none (seen (now (a .base)) (now (a .b)) (now (a .index)) (a .view) (now (a .memo))) (a .flag) (a .offset) (a .t .0) (small-told (seen (now (a .base)) (now (a .b)) (now (a .index)) (a .view) (now (a .memo))) (a .t .0) (c .enum-told .given .1) (measured z))
+    span-none (recalled (now (a .base)) (now (a .b)) (now (a .index)) (a .view) (now (a .memo))) (a .flag) (a .offset) (a .t .0) (small-told (recalled (now (a .base)) (now (a .b)) (now (a .index)) (a .view) (now (a .memo))) (a .t .0) (c .enum-told .given .1) (measured z))
 
 returns-3 : tie.Need-returns-3
 returns-3 c =
     let z = c .before .before in
     let a = z .before .before .before .before .before .before .before .args in
-    span-none (seen (now (a .base)) (now (a .b)) (now (a .index)) (a .view) (now (a .memo))) (a .flag) (a .offset) (a .t .0) (small-told (seen (now (a .base)) (now (a .b)) (now (a .index)) (a .view) (now (a .memo))) (a .t .0) (c .enum-told2 .given .1) (measured z))
+    span-none (recalled (now (a .base)) (now (a .b)) (now (a .index)) (a .view) (now (a .memo))) (a .flag) (a .offset) (a .t .0) (small-told (recalled (now (a .base)) (now (a .b)) (now (a .index)) (a .view) (now (a .memo))) (a .t .0) (c .enum-told2 .given .1) (measured z))
 
 returns-4 : tie.Need-returns-4
 returns-4 c =
     let z = c .before .before in
     let a = z .before .before .before .before .before .before .before .args in
-    span-none (seen (now (a .base)) (now (a .b)) (now (a .index)) (a .view) (now (a .memo))) (a .flag) (a .offset) (a .t .0) (small-told (seen (now (a .base)) (now (a .b)) (now (a .index)) (a .view) (now (a .memo))) (a .t .0) (c .enum-told3 .given .1) (measured z))
+    span-none (recalled (now (a .base)) (now (a .b)) (now (a .index)) (a .view) (now (a .memo))) (a .flag) (a .offset) (a .t .0) (small-told (recalled (now (a .base)) (now (a .b)) (now (a .index)) (a .view) (now (a .memo))) (a .t .0) (c .enum-told3 .given .1) (measured z))
 
 returns-5 : tie.Need-returns-5
 returns-5 c =
     let z = c .before .before in
     let a = z .before .before .before .before .before .before .before .args in
-    span-none (seen (now (a .base)) (now (a .b)) (now (a .index)) (a .view) (now (a .memo))) (a .flag) (a .offset) (a .t .0) (small-told (seen (now (a .base)) (now (a .b)) (now (a .index)) (a .view) (now (a .memo))) (a .t .0) (c .enum-told4 .given .1) (measured z))
+    span-none (recalled (now (a .base)) (now (a .b)) (now (a .index)) (a .view) (now (a .memo))) (a .flag) (a .offset) (a .t .0) (small-told (recalled (now (a .base)) (now (a .b)) (now (a .index)) (a .view) (now (a .memo))) (a .t .0) (c .enum-told4 .given .1) (measured z))
 
 pub span-told-spec : {M : Type 1} → statement M
 span-told-spec =

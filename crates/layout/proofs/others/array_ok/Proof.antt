@@ -1,7 +1,7 @@
 -- `layout::others::array_ok` meets its contract: the element decides, and then the index INT.
 -- Assumes nothing.
 use denote.Ref.{now}
-use Rattle.layout.specs.Told.{seen}
+use Rattle.layout.specs.Told.{recalled}
 use Rattle.paper.specs.terms.Reading.{recordIn}
 use Rattle.rows.proofs.RecordWords.{element-read, index-read}
 use Rattle.layout.proofs.OtherTests.{array-sizeless, array-index}
@@ -20,7 +20,7 @@ returns c =
     let h = c .before in
     let start = h .before .before .before .before .before .before .before in
     let bytes = now (start .args .bytes) in
-    array-sizeless (seen (now (start .args .base)) (now (start .args .b)) (now (start .args .index)) (start .args .view) (now (start .args .memo))) (recordIn (start .args .view .order) bytes)
+    array-sizeless (recalled (now (start .args .base)) (now (start .args .b)) (now (start .args .index)) (start .args .view) (now (start .args .memo))) (recordIn (start .args .view .order) bytes)
     (element-read _ bytes (start .pre) (h .before .read .ensures)) (h .has-size .ensures) (c .if1 .taken)
 
 read-requires-2 : tie.Need-read-requires-2
@@ -39,7 +39,7 @@ returns-2 c =
     let h = e .before in
     let start = h .before .before .before .before .before .before .before in
     let bytes = now (start .args .bytes) in
-    array-index (seen (now (start .args .base)) (now (start .args .b)) (now (start .args .index)) (start .args .view) (now (start .args .memo))) (recordIn (start .args .view .order) bytes)
+    array-index (recalled (now (start .args .base)) (now (start .args .b)) (now (start .args .index)) (start .args .view) (now (start .args .memo))) (recordIn (start .args .view .order) bytes)
     (element-read _ bytes (start .pre) (h .before .read .ensures)) (h .has-size .ensures) (e .if1 .left)
     (index-read _ bytes (start .pre) (q .before .read2 .ensures)) (recordIn (start .args .view .order) (now (q .record-of .result)))
     (q .record-of .ensures .shows) (c .is-regular .ensures)

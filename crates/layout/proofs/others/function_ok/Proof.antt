@@ -3,7 +3,7 @@
 use mathlib.Core.Path.{refl}
 use denote.Ref.{now}
 use Rattle.layout.proofs.OtherTests.{function-told, function-names}
-use Rattle.layout.specs.Told.{seen}
+use Rattle.layout.specs.Told.{recalled}
 use Rattle.paper.specs.terms.Reading.{recordIn}
 use Rattle.rows.proofs.RecordWords.{kind-read, third-read}
 use borrow.Author.Needs.{needs}
@@ -32,7 +32,7 @@ returns c =
     let a = q .before .before .before .before .before .before .before .args in
     let bytes = now (a .bytes) in
     let proto = now (q .record-of .result) in
-    function-told (seen (now (a .base)) (now (a .b)) (now (a .index)) (a .view) (now (a .memo))) (recordIn (a .view .order) bytes) (third-read _ bytes refl (q .before .read .ensures))
+    function-told (recalled (now (a .base)) (now (a .b)) (now (a .index)) (a .view) (now (a .memo))) (recordIn (a .view .order) bytes) (third-read _ bytes refl (q .before .read .ensures))
     (recordIn (a .view .order) proto) (q .record-of .ensures .shows) (kind-read _ proto refl (k .before .read2 .ensures) (k .kind-of .ensures))
     (c .before .if1 .taken) (c .told .ensures)
 
@@ -46,7 +46,7 @@ returns-2 c =
     let a = q .before .before .before .before .before .before .before .args in
     let bytes = now (a .bytes) in
     let proto = now (q .record-of .result) in
-    function-names (seen (now (a .base)) (now (a .b)) (now (a .index)) (a .view) (now (a .memo))) (recordIn (a .view .order) bytes) (third-read _ bytes refl (q .before .read .ensures))
+    function-names (recalled (now (a .base)) (now (a .b)) (now (a .index)) (a .view) (now (a .memo))) (recordIn (a .view .order) bytes) (third-read _ bytes refl (q .before .read .ensures))
     (recordIn (a .view .order) proto) (q .record-of .ensures .shows) (kind-read _ proto refl (k .before .read2 .ensures) (k .kind-of .ensures))
     (c .before .if1 .left) (c .all-named .ensures)
 

@@ -4,7 +4,7 @@ use mathlib.Core.Path.{refl}
 use native.Mathlib.Omega.{arith}
 use denote.Ref.{now}
 use Rattle.paper.specs.terms.Reading.{recordIn}
-use Rattle.layout.specs.Told.{seen}
+use Rattle.layout.specs.Told.{recalled}
 use Rattle.rows.proofs.RecordWords.{third-read}
 use Rattle.layout.proofs.EntriesLeft.{Setting, setting-start, setting-done, setting-short, setting-out, setting-next}
 use borrow.Author.Needs.{needs}
@@ -13,7 +13,7 @@ use Rattle.layout.proofs.sections.section_ok.Tie as tie
 
 abbrev Inv-loop : tie.InvT-loop
 Inv-loop base b index view memo bytes end p₀ left₀ free₀ p left free =
-    Setting (seen base b index view memo) (recordIn (view .order) bytes) (view .order) bytes p left free
+    Setting (recalled base b index view memo) (recordIn (view .order) bytes) (view .order) bytes p left free
 
 abbrev μ-loop : tie.MeasureT-loop
 μ-loop base b index view memo bytes end p₀ left₀ free₀ p left free = left
@@ -31,7 +31,7 @@ loop-holds : tie.Need-loop-holds Inv-loop μ-loop
 loop-holds c =
     let r = c .before in
     let start = r .before .before .before .before .before .before .before in
-    setting-start (seen (now (start .args .base)) (now (start .args .b)) (now (start .args .index)) (start .args .view) (now (start .args .memo))) (start .args .view .order) (now (start .args .bytes))
+    setting-start (recalled (now (start .args .base)) (now (start .args .b)) (now (start .args .index)) (start .args .view) (now (start .args .memo))) (start .args .view .order) (now (start .args .bytes))
     (r .read2 .ensures) (c .tail-words .ensures)
 
 read-requires-3 : tie.Need-read-requires-3 Inv-loop μ-loop

@@ -1,10 +1,10 @@
--- `glance::look::sized` meets its contract.
+-- `glance::look::stated` meets its contract.
 -- Assumes nothing.
 use mathlib.Core.Logic.{inl, inr}
 use mathlib.Core.Path.{refl}
 use borrow.Author.Needs.{needs}
-use Rattle.glance.proofs.look.sized.Statement.{statement}
-use Rattle.glance.proofs.look.sized.Tie as tie
+use Rattle.glance.proofs.look.stated.Statement.{statement}
+use Rattle.glance.proofs.look.stated.Tie as tie
 
 returns : tie.Need-returns
 returns c = inl refl
@@ -18,5 +18,5 @@ add-result c = search needs
 returns-2 : tie.Need-returns-2
 returns-2 c = inr (c .if1 .left, refl)
 
-pub sized-spec : {M : Type 1} → statement M
-sized-spec = tie.close (tie.spec returns mul-result add-result returns-2)
+pub stated-spec : {M : Type 1} → statement M
+stated-spec = tie.close (tie.spec returns mul-result add-result returns-2)
