@@ -11,8 +11,12 @@ use Rattle.gate.proofs.Stands.{stands-judged}
 use Rattle.phases.specs.Said.{saidAsPaper, judged}
 use Rattle.views.specs.declared.View.{View}
 use Rattle.gate.specs.Standing.{Standing}
+use Rattle.onepass.specs.Pass.{GoodOf, SureOf}
+use Rattle.onepass.specs.declared.whole.Sure.{Sure}
+use Rattle.onepass.specs.declared.whole.Sure.the-variants.{Good}
 use Rattle.phases.specs.declared.types.Said.{Said}
 use Rattle.phases.specs.declared.types.Said.the-variants.{Nothing, Says}
+use Rattle.paper.proofs.gates.Acceptance.{meets-accepted}
 use Rattle.paper.proofs.Outcomes.{gate-refused, gate-accepted, length-indexOf, getD-indexOf}
 use Rattle.paper.specs.rules.Answer.{Answer, report, checkedAsPaper}
 use Rattle.paper.specs.rules.Choice.{orElse}
@@ -22,6 +26,7 @@ use Rattle.paper.specs.rules.Gate.{tableReport, refusal, zeros, indexOf, Outcom
 use Rattle.paper.specs.rules.Header.{orderOf}
 use Rattle.paper.specs.rules.Table.{count}
 use Rattle.paper.specs.rules.Walk.{tableOf}
+use Rattle.paper.specs.declared.Checked.{Checked}
 use Rattle.paper.specs.declared.Checked.the-variants.{Accepted, Refused}
 use Rattle.paper.specs.declared.Report.{Report}
 use Rattle.scan.proofs.Founds.{count-readable}
@@ -105,6 +110,18 @@ module _ (b : List ℕ) (places work : ℕ) where
         let g = gate-refused b places work (after-scan ∙ sym e ∙ ap saidAsPaper q) in
         record { answers = sym (ap (λ (o : Outcome). o .answer) g); indexes = c ∙ sym (ap (λ (o : Outcome). o .index) g) }
 
+  -- ── in one pass ──
+
+  pub sure-told : (index : List ℕ) {s : Sure} → SureOf s b places work index → {n : ℕ} → s ≡ Good n → AnswerOf (Accepted n) b places work index
+  unfolding checkedAsPaper
+  sure-told index told {n} p =
+      let good : GoodOf n b places work index = subst (λ (x : Sure). SureOf x b places work index) p told in
+      let g = gate-accepted b places work (meets-accepted b places work (good .meets)) in
+      record {
+        answers = ap (report 0) (good .counted) ∙ sym (ap (λ (o : Outcome). o .answer) g);
+        indexes = good .placed ∙ sym (ap (λ (o : Outcome). o .index) g);
+      }
+
   -- whatever is answered, the work slice ends all 0
   pub gate-work : zeros work ≡ gate b places work .work
   unfolding gate
@@ -113,3 +130,9 @@ module _ (b : List ℕ) (places work : ℕ) where
       go : (o : Option Answer) → zeros work ≡ outcome (tableOf b) places work o .work
       go none = refl
       go (some a) = refl
+
+-- slices have the lengths that they had
+pub answer-lengths : {c : Checked} {b : List ℕ} {places work places′ work′ : ℕ} {index : List ℕ} → AnswerOf c b places work index
+    → places ≡ places′ → work ≡ work′ → AnswerOf c b places′ work′ index
+answer-lengths {c} {b} {places} {work} {places′} {work′} {index} h e d =
+    subst (λ (p : ℕ). AnswerOf c b p work′ index) e (subst (λ (q : ℕ). AnswerOf c b places q index) d h)

@@ -1,4 +1,6 @@
-// The check: phases 1 and 2 by `scan`, then 3 to 6, and what is left in both lent slices.
+// The check: in one pass, or phases 1 and 2 by `scan`, then 3 to 6; and what is left in both lent slices.
+use onepass::Sure;
+use onepass::pass;
 use paper::Checked;
 use phases::Said;
 use phases::judge;
@@ -9,8 +11,8 @@ use views::View;
 ghost use lib.ListN.{length};
 ghost use Rattle.gate.specs.Check.{AnswerOf, CheckOf};
 
-// What is answered, and what the index then holds; the work slice may hold anything.
-fn answer(b: &[u8], index: &mut [u32], work: &mut [u32]) -> Checked
+// What the phases answer one after the other, and what the index then holds; the work slice may hold anything.
+fn by_phases(b: &[u8], index: &mut [u32], work: &mut [u32]) -> Checked
     ensures { λ r. ⌜ AnswerOf r (now (b .entry)) (length (now (index .entry))) (length (now (work .entry))) (now (index .exit)) ⌝ }
 {
     match scan(b, index, work.len()) {
@@ -35,6 +37,16 @@ fn answer(b: &[u8], index: &mut [u32], work: &mut [u32]) -> Checked
                 }
             }
         }
+    }
+}
+
+// The same. Most good tables are told in one pass; of any other the phases speak.
+fn answer(b: &[u8], index: &mut [u32], work: &mut [u32]) -> Checked
+    ensures { λ r. ⌜ AnswerOf r (now (b .entry)) (length (now (index .entry))) (length (now (work .entry))) (now (index .exit)) ⌝ }
+{
+    match pass(b, index, work) {
+        Sure::Good(n) => Checked::Accepted(n),
+        Sure::Unsure => by_phases(b, index, work),
     }
 }
 

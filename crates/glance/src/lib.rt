@@ -1,5 +1,14 @@
 // A table that is good for sure, told by one look at each record.
-mod look; // what a record says of its type
+mod looks; // what a record says of its type
 mod whole; // over all types
 
+pub use looks::POINTER;
+pub use looks::STRANGE;
+pub use looks::behind_of;
+pub use looks::fits;
+pub use looks::int_whole;
+pub use looks::look;
+pub use looks::state_of;
+pub use looks::whole_bytes;
+pub use looks::whole_int;
 pub use whole::glance;

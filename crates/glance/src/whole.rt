@@ -1,6 +1,6 @@
 // One look at each type, from the first to the last, and once more from the last to the first for those that refer to later ones.
-use crate::look::STRANGE;
-use crate::look::look;
+use crate::looks::STRANGE;
+use crate::looks::look;
 use paper::TYPE_LIMIT;
 use paper::TypeNo;
 use scan::clear;

@@ -6,24 +6,24 @@ use native.Mathlib.Omega.{arith}
 use mathlib.Core.Path.{_≡_, refl, sym, ap, _∙_}
 use mathlib.Core.Bool.{Bool, true, false, not, _&&_, _||_, false≢true}
 use mathlib.Core.List.{List, [], _∷_}
-use mathlib.Core.Logic.{_⊎_, inl, inr, ⊎-elim}
+use mathlib.Core.Logic.{_⊎_, ⊎-elim}
 use mathlib.Core.Option.{none}
-use borrow.Author.Tests.{eq-eqb, ne-eqb, not-false}
+use borrow.Author.Tests.{ne-eqb, not-false}
 use lib.Dec.{ltb}
 use lib.ListN.{length}
 use types.Run.{OneOf}
 use Rattle.heads.proofs.HeadSteps.{headBy-record}
 use Rattle.heads.specs.HeadBy.{headBy}
 use Rattle.pairs.specs.Lean.{nameOkOver, nameOver, nameWordOver, namesOver}
-use Rattle.paper.proofs.basics.Choices.{Each, and-false, and-nothing, and-true, member-each}
+use Rattle.paper.proofs.basics.Choices.{and-false, and-nothing, member-each}
 use Rattle.paper.proofs.bytes.Reading.{everyWord-recordIn, roled-append}
 use Rattle.paper.specs.declared.Order.{Order}
 use Rattle.paper.specs.rules.Choice.{firstDue, member, times}
 use Rattle.paper.specs.rules.Heads.{allowed, headOk, spareZero}
-use Rattle.paper.specs.rules.Kind.{NameRule, Row, Role, names, number, identifier, offset0, offset0OrIdentifier, rowOf, rows}
-use Rattle.paper.specs.rules.KindNo.{INT, FUNC-PROTO, STRUCT, UNION, VAR}
+use Rattle.paper.specs.rules.Kind.{NameRule, Role, names, number, identifier, offset0, offset0OrIdentifier, rowOf, rows}
+use Rattle.paper.specs.rules.KindNo.{INT, FUNC-PROTO, STRUCT, VAR}
 use Rattle.paper.specs.rules.Name.{isIdentifier}
-use Rattle.paper.specs.rules.Table.{bits, kindIn, vlenIn, flagIn}
+use Rattle.paper.specs.rules.Table.{kindIn, vlenIn, flagIn}
 use Rattle.paper.specs.rules.Tails.{tailOk, intWordOk}
 use Rattle.paper.specs.rules.Word.{wordAt}
 use Rattle.paper.specs.terms.Reading.{recordIn, roled, tailRoled}
@@ -125,13 +125,12 @@ module _ (order : Order) (base strings s : List ℕ) where
         let first = nameOkOver base strings rule (wordAt order s 0) in
         nothing (h .head) (h .name ∙ and-nothing (first && true) ∙ and-nothing first ∙ e) (tail-free (h .tail))
 
-    pub quiet-nameless : OneOf (33554432 ∷ 150994944 ∷ 167772160 ∷ 184549376 ∷ []) info → {r : Bool}
+    pub quiet-nameless : member info (33554432 ∷ 150994944 ∷ 167772160 ∷ 184549376 ∷ []) ≡ true → {r : Bool}
         → r ≡ nameOkOver base strings offset0 (wordAt order s 0) → r ≡ true → none ≡ firstDue (rulesOf base strings (recordIn order s))
     unfolding rowOf rows roled spareZero
     quiet-nameless one d e =
         bare offset0
-        (member-each (Bare order base strings s offset0) info (33554432 ∷ 150994944 ∷ 167772160 ∷ 184549376 ∷ [])
-        (sym (member-key info 33554432 (150994944 ∷ 167772160 ∷ 184549376 ∷ []) one)) (
+        (member-each (Bare order base strings s offset0) info (33554432 ∷ 150994944 ∷ 167772160 ∷ 184549376 ∷ []) one (
           record { head = refl; name = refl; tail = refl },
           (
             record { head = refl; name = refl; tail = refl },

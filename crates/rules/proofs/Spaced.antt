@@ -22,8 +22,8 @@ module _ (order : Order) (base strings s : List ℕ) (p : ℕ) where
   member-name read e = e ∙ ap (nameWordOver base strings (names offset0OrIdentifier)) read ∙ sym (and-nothing _)
 
   -- and it has three words
-  pub member-next : {n left : ℕ} → Entering order (nameWordOver base strings) s (rowOf STRUCT .each) 0 n p left → 0 < left → {t : Bool}
+  pub member-next : {from n left : ℕ} → Entering order (nameWordOver base strings) s (rowOf STRUCT .each) from n p left → 0 < left → {t : Bool}
       → t ≡ roled order (nameWordOver base strings) s p (rowOf STRUCT .each) → not t ≡ false
-      → Entering order (nameWordOver base strings) s (rowOf STRUCT .each) 0 n (p + 12) (left - 1)
+      → Entering order (nameWordOver base strings) s (rowOf STRUCT .each) from n (p + 12) (left - 1)
   unfolding rowOf rows
   member-next here some entry e = entering-next here some entry e refl (omega arith)

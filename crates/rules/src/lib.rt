@@ -4,3 +4,4 @@ mod quick; // records of which nothing is due
 
 pub use phase::Due;
 pub use phase::phase3;
+pub use quick::nameless;

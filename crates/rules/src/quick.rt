@@ -24,7 +24,7 @@ ghost use Rattle.rules.specs.Phase.{rulesOf};
 ghost use Rattle.rules.specs.Quick.{Deciding, IntGood};
 
 // The name of a record that may have none.
-fn nameless(order: Order, bytes: &[u8], base: &[u8], strings: &[u8]) -> bool
+pub fn nameless(order: Order, bytes: &[u8], base: &[u8], strings: &[u8]) -> bool
     ensures { λ r. ⌜ r ≡ nameOkOver (now (base .entry)) (now (strings .entry)) offset0 (wordAt order (now (bytes .entry)) 0) ⌝ }
 {
     if words::read(order, bytes, Place(0)) != 0 {

@@ -1,13 +1,15 @@
 -- What is left of writing the places: the words of the records to come, and their places.
 -- Assumes nothing.
-use Prim.Native.Nat.{ℕ, suc, _+_, _-_, _*_, _≤_, _<_}
+use Prim.Native.Nat.{ℕ, suc, _+_, _-_, _*_, _%_, _≤_, _<_}
 use mathlib.Core.Path.{_≡_, refl, sym, ap, ap₂, subst, _∙_}
+use mathlib.Core.Bool.{Bool, true, false}
 use mathlib.Core.List.{List, [], _∷_, _++_}
 use native.Mathlib.Numerals.{add-one}
 use native.Mathlib.Omega.{arith}
-use lib.ListN.{length, getD, drop, set, length-append}
+use borrow.Author.Tests.{ltb-true, ltb-false}
+use lib.Dec.{ltb}
+use lib.ListN.{length, getD, drop, set, length-append, drop-of-length-le}
 use lib.Seq.{drop-cons, drop-at}
-use Rattle.paper.specs.terms.Fit.{Whole}
 use Rattle.paper.specs.rules.Header.{orderOf, headerLength, typeLen}
 use Rattle.pairs.specs.Lean.{walkBehind}
 use Rattle.paper.specs.rules.Limits.{typeLimit, byteLimit}
@@ -97,6 +99,16 @@ module _ {b : List ℕ} {first n : ℕ} {start : List ℕ} {k at : ℕ} {index :
   pub placing-done : n ≤ k → index ≡ put start (suc first) ps
   placing-done h = copying-done (p .filled) (omega (arith, counts (p .done), p .numbered))
 
+  -- where more bytes are left, so is a record
+  pub placing-more : (headerLength + typeLen b - at) % 4 ≡ 0 → at < headerLength + typeLen b → k < n
+  placing-more whole some = go (ltb k n) refl
+    where
+      go : (z : Bool) → ltb k n ≡ z → k < n
+      go true e = ltb-true k n e
+      go false e =
+          let none = drop-of-length-le rs {i = j} (omega (arith, ltb-false k n e, counts (p .done), p .numbered)) in
+          absurd (omega (arith, left-length b _ (p .done .section .inside) at, ap length (p .words-left ∙ ap flat none)))
+
   module _ (more : k < n) where
     -- the record to come
     abbrev r : Record
@@ -114,17 +126,24 @@ module _ {b : List ℕ} {first n : ℕ} {start : List ℕ} {k at : ℕ} {index :
     heads : at ∷ placesFrom (at + 4 * length (wordsOf r)) (drop (suc j) rs) ≡ getD ps j 0 ∷ drop (suc j) ps
     heads = sym (ap (placesFrom at) front) ∙ p .places-left ∙ drop-cons ps j 0 (omega (arith, counts (p .done), inside))
 
-    -- its length is what its info word says
+    -- it has the words that its info word says
+    pub placing-tail : length (r .tail) ≡ tailLength (r .info)
+    placing-tail = whole-at rs (found (p .done) .whole-found) j inside .whole-tail
+
+    -- and so its length is
     length-here : at + (12 + 4 * tailLength (wordAt (orderOf b) b (at + 4))) ≡ at + 4 * length (wordsOf r)
     length-here =
-        let whole : Whole r = whole-at rs (found (p .done) .whole-found) j inside in
-        omega (arith, ap tailLength (record-info b _ (p .done .section .inside) at r _ next), whole .whole-tail)
+        omega (arith, ap tailLength (record-info b _ (p .done .section .inside) at r _ next), placing-tail)
 
     -- it ends within the byte limit
     pub placing-inside : at + (12 + 4 * tailLength (wordAt (orderOf b) b (at + 4))) ≤ byteLimit
     placing-inside =
         let s = p .done .section in
         omega (arith, length-here, record-inside b _ (s .inside) at r _ next, s .inside, s .short)
+
+    -- it stands where its place says
+    pub placing-here : getD ps j 0 ≡ at
+    placing-here = sym (ap (λ (l : List ℕ). getD l 0 0) heads)
 
     -- its number has a place in the index
     pub placing-room : k + 1 < length index
@@ -135,7 +154,6 @@ module _ {b : List ℕ} {first n : ℕ} {start : List ℕ} {k at : ℕ} {index :
     placing-step =
         let here : suc first + j ≡ k + 1 = omega (arith, p .numbered) in
         let room : suc first + length ps ≤ length start = omega (arith, counts (p .done), p .done .enough) in
-        let value : getD ps j 0 ≡ at = sym (ap (λ (l : List ℕ). getD l 0 0) heads) in
         record {
           done = p .done;
           passed = j + 1;
@@ -150,6 +168,6 @@ module _ {b : List ℕ} {first n : ℕ} {start : List ℕ} {k at : ℕ} {index :
               ∙ ap (drop 1) heads
               ∙ ap (λ (m : ℕ). drop m ps) (sym (add-one j));
           filled =
-              subst (λ (i : List ℕ). Copying start (suc first) ps i (j + 1)) (ap₂ (set index) here value)
+              subst (λ (i : List ℕ). Copying start (suc first) ps i (j + 1)) (ap₂ (set index) here placing-here)
               (copying-next (p .filled) room (omega (arith, counts (p .done), inside)));
         }

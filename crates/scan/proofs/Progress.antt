@@ -2,6 +2,7 @@
 -- Assumes nothing.
 use Prim.Native.Nat.{ℕ, suc, _+_, _-_, _*_, _%_, _≤_, _<_}
 use mathlib.Core.Path.{_≡_, refl, sym, ap, _∙_}
+use mathlib.Core.Bool.{true}
 use mathlib.Core.List.{List}
 use native.Mathlib.Numerals.{add-one}
 use native.Mathlib.Omega.{arith}
@@ -18,7 +19,7 @@ use Rattle.scan.specs.declared.walk.Behind.{Behind}
 use Rattle.scan.specs.declared.walk.Behind.the-variants.{Next, Cut, Unknown}
 use Rattle.scan.specs.Phase2.{WalkBegins, Finding, counted, refused, findingOf, behind, walkFinds, behindOf}
 use Rattle.scan.proofs.Left.{left, typeWords-left, left-length, left-head, left-drop, left-end}
-use Rattle.scan.proofs.WalkSteps.{Way, head-cut, unknown, tail-cut, onward, behindOf-way}
+use Rattle.scan.proofs.WalkSteps.{Way, head-cut, unknown, tail-cut, onward, behindOf-way, knownAt, nextPlace}
 use Rattle.scan.proofs.WalkSteps.{walkFrom-done, walkFrom-full, walkFrom-short, walkRecord-unknown, walkRecord-cut, walkRecord-onward}
 
 -- ── a finding behind some records ──
@@ -149,3 +150,7 @@ module _ {found : Finding} (b : List ℕ) (end count at : ℕ) (st : Standing fo
 
   pub standing-step : {s : Behind} → behindOf b at end ≡ s → Told found b end count at s
   standing-step e = told (rw e at (behindOf-way b at end))
+
+  -- past a whole record of a known kind
+  pub standing-onward : at + 12 ≤ end → knownAt b at ≡ true → nextPlace b at ≤ end → (at < nextPlace b at) × Standing found b end (count + 1) (nextPlace b at)
+  standing-onward h e n = told (onward h e n)

@@ -28,7 +28,7 @@ use Rattle.scan.specs.declared.walk.Walked.{Walked}
 use Rattle.scan.specs.declared.walk.Walked.the-variants.{Whole, Stopped}
 
 -- enough places for n types
-slices-enough : (n places work : ℕ) → n < places → n < work → shortSlices n places work ≡ none
+pub slices-enough : (n places work : ℕ) → n < places → n < work → shortSlices n places work ≡ none
 unfolding shortSlices
 slices-enough n places work h k =
     ap (λ (t : Bool). naming 0 (firstDue (9 when t ∷ []))) (false-or (le-ltb places (n + 1) (omega arith)) (le-ltb work (n + 1) (omega arith)))

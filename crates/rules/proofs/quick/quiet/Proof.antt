@@ -1,5 +1,8 @@
 -- `rules::quick::quiet` meets its contract: an arm for each sort of info word.
 -- Assumes nothing.
+use mathlib.Core.Path.{sym}
+use mathlib.Core.List.{[], _∷_}
+use Rattle.rows.proofs.Members.{member-key}
 use Rattle.rules.proofs.Quiet.{quiet-nameless, quiet-int, quiet-array}
 use borrow.Author.Needs.{needs}
 use Rattle.rules.proofs.quick.quiet.Statement.{statement}
@@ -23,7 +26,8 @@ names-good-requires c κs = search needs
 returns : tie.Need-returns
 returns c =
     let m = c .before in
-    quiet-nameless _ _ _ _ (m .before .info-of .ensures) (m .match .keys1) (c .nameless .ensures)
+    let one = member-key (m .before .info-of .result) 33554432 (150994944 ∷ 167772160 ∷ 184549376 ∷ []) (m .match .keys1) in
+    quiet-nameless _ _ _ _ (m .before .info-of .ensures) (sym one) (c .nameless .ensures)
 
 returns-2 : tie.Need-returns-2
 returns-2 c =

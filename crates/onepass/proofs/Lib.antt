@@ -1,0 +1,6 @@
+pub mod Telling
+pub mod ByKind
+pub mod Extents
+pub mod Passing
+pub mod Backing
+pub mod Ways

@@ -1,0 +1,3 @@
+pub mod Seen
+pub mod Forth
+pub mod Pass
