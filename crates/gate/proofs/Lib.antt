@@ -1,3 +1,4 @@
 pub mod Stands
 pub mod Checks
 pub mod Demands
+pub mod ReadOnce

@@ -3,18 +3,20 @@
 use Prim.Native.Nat.{ℕ, suc, _+_, _-_, _≤_, _<_}
 use native.Mathlib.Omega.{arith}
 use mathlib.Core.Path.{_≡_, refl, sym, ap, subst, _∙_}
-use mathlib.Core.Bool.{Bool, true, false, cond, _||_}
+use mathlib.Core.Bool.{Bool, true, false, not, cond, _||_, false≢true}
 use mathlib.Core.List.{List}
 use mathlib.Core.Logic.{_⊎_, inl, inr, ⊎-elim}
-use borrow.Author.Tests.{leb-true, leb-false}
+use borrow.Author.Tests.{leb-true, leb-false, not-true}
 use lib.Dec.{leb}
 use lib.ListN.{getD, length, set, length-set}
 use lib.ListN.{length, getD, length-replicate}
 use Rattle.glance.proofs.Ended.{held-types, held-ended, pointed-ended}
 use Rattle.glance.proofs.Layouts.{layout-good}
-use Rattle.glance.proofs.Referring.{looks-known, looks-refs}
+use Rattle.glance.proofs.Opens.{open-cases}
+use Rattle.glance.proofs.Classes.{looks-plain, plain-seen}
+use Rattle.glance.proofs.Referring.{looks-refs}
 use Rattle.glance.proofs.Settled.{walk-next, held-settled, pointed-settled, looks-later}
-use Rattle.glance.specs.Glance.{stateOf, strange, Looks, Glimpsed, Settled, Glancing, Went, All, SurelyGood}
+use Rattle.glance.specs.Glance.{awaiting, isOpen, Open, stateOf, through, strange, Looks, Glimpsed, Settled, Waiting, Glancing, Went, All, SurelyGood}
 use Rattle.links.proofs.Roots.{getD-zeros}
 use Rattle.links.proofs.Ways.{getD-set}
 use Rattle.paper.proofs.walks.Chains.{walks-longer}
@@ -34,70 +36,111 @@ next-high false n k h e = omega (arith, e)
 
 module _ (T : Table) (n : ℕ) where
   -- a type that is settled already, or is left open
-  pub went-still : {work : List ℕ} {t r : ℕ} → Glancing T n work → (r ≡ 2 → stateOf work t ≡ 0 → ⊥) → Went T n t work r work
+  pub went-still : {work : List ℕ} {t r : ℕ} → Glancing T n work → (r ≡ 2 → Open (stateOf work t) → ⊥) → Went T n t work r work
   went-still g h = record { now = g; here = h; keeps = λ x some. some }
 
-  module _ {work : List ℕ} (g : Glancing T n work) {t s : ℕ} (low : 1 ≤ t) (high : t ≤ n) (untold : stateOf work t ≡ 0)
+  pub went-settled : {work : List ℕ} {t r : ℕ} → Glancing T n work → {x : Bool} → x ≡ isOpen (stateOf work t) → not x ≡ true → Went T n t work r work
+  went-settled g {x} d e = went-still g (λ two o. false≢true (sym (sym d ∙ not-true x e) ∙ o))
+
+  -- no walk over pointers from a type of which anything is told is long
+  pointed-ends : {work : List ℕ} (g : Glancing T n work) (x : ℕ) → (stateOf work x ≡ 0 → ⊥) → walks (pointedBy T) (g .steps) x ≡ false
+  pointed-ends {work} g x some = go (isOpen (stateOf work x)) refl
+    where
+      go : (z : Bool) → isOpen (stateOf work x) ≡ z → walks (pointedBy T) (g .steps) x ≡ false
+      go true o = open-cases (stateOf work x) o (λ e. absurd (some e)) (λ e. g .waits x e .pointed)
+      go false o = g .told x (λ z. false≢true (sym o ∙ z)) .pointed
+
+  module _ {work : List ℕ} (g : Glancing T n work) {t s : ℕ} (low : 1 ≤ t) (high : t ≤ n) (untold : Open (stateOf work t))
       (tail : length (recordAt T t .tail) ≡ tailLength (recordAt T t .info))
       (looks : Looks work (recordAt T t) s) (some : s ≡ 0 → ⊥) where
     abbrev work′ : List ℕ
     work′ = set work t s
 
+    abbrev more : ℕ
+    more = suc (g .steps)
+
+    room : t < length work
+    room = let r = g .room in omega arith
+
     abbrev at : (x : ℕ) → ((x ≡ t) × (stateOf work′ x ≡ s)) ⊎ ((x ≡ t → ⊥) × (stateOf work′ x ≡ stateOf work x))
-    at x = getD-set work t s x (let r = g .room in omega arith)
+    at x = getD-set work t s x room
+
+    -- one that was known to be plain still is
+    still : stateOf work t ≡ awaiting → through s ≡ 0 → ⊥
+    still waits = plain-seen looks some (g .waits t waits .plain)
+
+    pointed-here : walks (pointedBy T) more t ≡ false
+    pointed-here = walk-next (pointedBy T) (g .steps) t (λ u m. pointed-ends g u (pointed-settled T work t u looks some m))
 
     -- the type itself
-    here : Settled T work′ (suc (g .steps)) t
-    here =
+    here : (Open s → ⊥) → Settled T work′ more t
+    here done =
         record {
-          refs = looks-refs T work t (λ u told. looks-known T work u (g .told u told .looks)) tail looks some;
-          looks = subst (Looks work′ (recordAt T t)) (sym own) (looks-later work t s untold looks some);
-          held = walk-next (heldBy T) (g .steps) t (λ u m. g .told u (held-settled T work t u tail looks some m) .held);
-          pointed = walk-next (pointedBy T) (g .steps) t (λ u m. g .told u (pointed-settled T work t u looks some m) .pointed);
+          refs = looks-refs T work t (λ u told. g .told u told .looks) (λ u waits. g .waits u waits .plain) tail looks done;
+          looks = subst (Looks work′ (recordAt T t)) (sym own) (looks-later work t s room untold still looks done);
+          held = walk-next (heldBy T) (g .steps) t (λ u m. g .told u (held-settled T work t u tail looks done m) .held);
+          pointed = pointed-here;
         }
       where
         own : stateOf work′ t ≡ s
         own = ⊎-elim (λ h. h .1) (λ h. absurd (h .0 refl)) (at t)
 
+    here-waits : s ≡ awaiting → Waiting T more t
+    here-waits e = record { plain = looks-plain looks (λ z. absurd (seen z)); pointed = pointed-here }
+      where
+        seen : through s ≡ 0 → ⊥
+        seen z = let w : awaiting ≡ 0 = sym (ap through e) ∙ z in omega arith
+
     -- one that was settled before
-    before : (x : ℕ) → (stateOf work x ≡ 0 → ⊥) → stateOf work′ x ≡ stateOf work x → Settled T work′ (suc (g .steps)) x
+    before : (x : ℕ) → (Open (stateOf work x) → ⊥) → stateOf work′ x ≡ stateOf work x → Settled T work′ more x
     before x told same =
         let old = g .told x told in
-        let longer : g .steps ≤ suc (g .steps) = omega arith in
+        let longer : g .steps ≤ more = omega arith in
         record {
           refs = old .refs;
-          looks = subst (Looks work′ (recordAt T x)) (sym same) (looks-later work t s untold (old .looks) told);
+          looks = subst (Looks work′ (recordAt T x)) (sym same) (looks-later work t s room untold still (old .looks) told);
           held = walks-longer (heldBy T) x longer (old .held);
           pointed = walks-longer (pointedBy T) x longer (old .pointed);
         }
 
-    pub went-on : {r : ℕ} → Went T n t work r work′
-    went-on =
+    before-waits : (x : ℕ) → stateOf work x ≡ awaiting → Waiting T more x
+    before-waits x waits =
+        let old = g .waits x waits in
+        let longer : g .steps ≤ more = omega arith in
+        record { plain = old .plain; pointed = walks-longer (pointedBy T) x longer (old .pointed) }
+
+    pub went-on : {r : ℕ} → (r ≡ 2 → s ≡ awaiting → ⊥) → Went T n t work r work′
+    went-on two =
         record {
           now =
               record {
                 counted = g .counted;
                 room = subst (λ (k : ℕ). n < k) (sym (length-set work t s)) (g .room);
-                steps = suc (g .steps);
+                steps = more;
                 told =
                     λ x told.
-                    ⊎-elim (λ h. subst (Settled T work′ (suc (g .steps))) (sym (h .0)) here)
-                    (λ h. before x (λ z. told (h .1 ∙ z)) (h .1)) (at x);
+                    ⊎-elim (λ h. subst (Settled T work′ more) (sym (h .0)) (here (λ o. told (ap isOpen (h .1) ∙ o))))
+                    (λ h. before x (λ o. told (ap isOpen (h .1) ∙ o)) (h .1)) (at x);
+                waits =
+                    λ x waits.
+                    ⊎-elim (λ h. subst (Waiting T more) (sym (h .0)) (here-waits (sym (h .1) ∙ waits)))
+                    (λ h. before-waits x (sym (h .1) ∙ waits)) (at x);
                 outside =
                     λ x far.
                     ⊎-elim (λ h. absurd (⊎-elim (λ z. let e = h .0 in omega arith) (λ z. let e = h .0 in omega arith) far))
                     (λ h. h .1 ∙ g .outside x far) (at x);
               };
-          here = λ two z. ⊎-elim (λ h. some (sym (h .1) ∙ z)) (λ h. h .0 refl) (at t);
-          keeps = λ x told z. ⊎-elim (λ h. some (sym (h .1) ∙ z)) (λ h. told (sym (h .1) ∙ z)) (at x);
+          here = λ e o. ⊎-elim (λ h. open-cases s (ap isOpen (sym (h .1)) ∙ o) some (two e)) (λ h. h .0 refl) (at t);
+          keeps = λ x told o.
+              ⊎-elim (λ h. told (ap (λ (x : ℕ). isOpen (stateOf work x)) (h .0) ∙ untold)) (λ h. told (ap isOpen (sym (h .1)) ∙ o)) (at x);
         }
 
   -- by what was read and asked
-  pub went-look : {work : List ℕ} → Glancing T n work → {t s : ℕ} → 1 ≤ t → t ≤ n → stateOf work t ≡ 0
+  pub went-look : {work : List ℕ} → Glancing T n work → {t s : ℕ} → 1 ≤ t → t ≤ n → Open (stateOf work t)
       → length (recordAt T t .tail) ≡ tailLength (recordAt T t .info) → {r : Record} → r ≡ recordAt T t
-      → Glimpsed work r s → (s ≡ strange → ⊥) → (s ≡ 0 → ⊥) → {q : ℕ} → Went T n t work q (set work t s)
-  went-look {work} g {s = s} low high untold tail {r} shows seen known some =
-      went-on g low high untold tail (subst (λ (r : Record). Looks work r s) shows looks) some
+      → Glimpsed work r s → (s ≡ strange → ⊥) → (s ≡ 0 → ⊥) → {q : ℕ} → (q ≡ 2 → s ≡ awaiting → ⊥) → Went T n t work q (set work t s)
+  went-look {work} g {s = s} low high untold tail {r} shows seen known some two =
+      went-on g low high untold tail (subst (λ (r : Record). Looks work r s) shows looks) some two
     where
       looks : Looks work r s
       looks = ⊎-elim (λ z. absurd (some z)) (λ h. ⊎-elim (λ z. absurd (known z)) (λ l. l) h) seen
@@ -110,7 +153,8 @@ module _ (T : Table) (n : ℕ) where
         counted = counted;
         room = (let long = ap length clear ∙ length-replicate {A = ℕ} size 0 in omega arith);
         steps = 0;
-        told = λ x some. absurd (some (still x));
+        told = λ x some. absurd (some (ap isOpen (still x)));
+        waits = λ x waits. absurd (let w = sym waits ∙ still x in omega arith);
         outside = λ x far. still x;
       }
     where
@@ -128,7 +172,7 @@ module _ (T : Table) (n : ℕ) where
   pub record Sweeping (back : Bool) (size k all : ℕ) (work : List ℕ) : Type 0 where
     pub size-kept : length work ≡ size
     pub now : Glancing T n work
-    pub passed : all ≡ 2 → (x : ℕ) → 1 ≤ x → x ≤ n → Behind back k x → stateOf work x ≡ 0 → ⊥
+    pub passed : all ≡ 2 → (x : ℕ) → 1 ≤ x → x ≤ n → Behind back k x → Open (stateOf work x) → ⊥
 
   pub sweeping-start : (back : Bool) {work : List ℕ} {all : ℕ} → Glancing T n work → Sweeping back (length work) 0 all work
   sweeping-start back g = record { size-kept = refl; now = g; passed = λ two x low high h. absurd (none-yet back x low high h) }
@@ -144,7 +188,7 @@ module _ (T : Table) (n : ℕ) where
         size-kept = kept ∙ s .size-kept;
         now = w .now;
         passed = λ two x low high far z. ⊎-elim
-            (λ same. w .here (both two .1) (ap (stateOf work′) (sym same) ∙ z))
+            (λ same. w .here (both two .1) (ap (λ (x : ℕ). isOpen (stateOf work′ x)) (sym same) ∙ z))
             (λ old. w .keeps x (s .passed (both two .0) x low high old) z)
             (one-more back e x far);
       }
@@ -194,5 +238,6 @@ module _ (T : Table) (n : ℕ) where
           layout =
               λ t low high.
               layout-good T work held (λ t low high. one t low high .looks) (held-types T refs)
-              (λ x far. g .outside x (⊎-elim (λ z. inl z) (λ h. inr (let c = g .counted in omega arith)) far)) t low (let c = g .counted in omega arith);
+              (λ x far. g .outside x (⊎-elim (λ z. inl z) (λ h. inr (let c = g .counted in omega arith)) far)) t low
+              (let c = g .counted in omega arith) (all t low high);
         }

@@ -1,42 +1,43 @@
 -- A type that has a state refers only to types that have one, and keeps it when another is told.
 -- Assumes nothing.
-use Prim.Native.Nat.{ℕ, zero, suc, _+_, _*_}
+use Prim.Native.Nat.{ℕ, zero, suc, _+_, _*_, _/_, _%_, _<_}
 use native.Mathlib.Omega.{arith}
 use mathlib.Core.Path.{_≡_, refl, sym, ap, subst, _∙_}
 use mathlib.Core.Bool.{Bool, true, false, cond, false≢true}
-use mathlib.Core.List.{List, [], _∷_, _++_, List·Memᴰ, List·Memᴰ·head, List·Memᴰ·tail, List·Memᴰ·cases-cons, List·Memᴰ·not-nil}
+use mathlib.Core.List.{List, [], _∷_, List·Memᴰ, List·Memᴰ·head, List·Memᴰ·tail, List·Memᴰ·cases-cons, List·Memᴰ·not-nil}
 use mathlib.Core.Logic.{⊎-elim}
-use borrow.Author.Tests.{eqb-false, ne-eqb}
+use borrow.Author.Tests.{ne-eqb}
 use lib.Dec.{eqb}
-use lib.ListN.{length, set}
+use lib.ListN.{length, getD, set}
 use lib.Seq.{getD-set-other}
-use Rattle.glance.specs.Glance.{unsized, stateOf, behind, fits, memberFits, scalarKinds, Looks, alias, pointer, int, scalar, group}
-use Rattle.paper.proofs.basics.Choices.{and-left, and-right, and-true, or-false, false-or, member-each}
-use Rattle.paper.proofs.basics.Rows.{isHeld}
+use Rattle.glance.specs.Glance.{whole, unsized, awaiting, stored, isSized, isOpen, Open, sizeEnd, stateOf, through, behind, fits, memberFits}
+use Rattle.glance.specs.Glance.{fieldFits, memberLies, entryFits, elementOf, indexOf, enumKinds, waitingKinds}
+use Rattle.glance.specs.Glance.{Looks, alias, pointer, int, float, enumeration, group, fields, array, variable, section, forward, prototype}
+use Rattle.glance.specs.Glance.{function, awaits}
+use Rattle.glance.proofs.Lists.{every-imp}
+use Rattle.glance.proofs.Opens.{open-cases, open-through, sized-told, integer-told, named-told, fits-told, field-told}
+use Rattle.glance.proofs.Parameters.{parameters-later}
+use Rattle.glance.proofs.Entries.{entries-later}
+use Rattle.glance.proofs.Holding.{stepTo-one, memberRoles, unheldKinds, holds-none, holds-third, holds-members, holds-element, holds-variable}
+use Rattle.glance.proofs.Holding.{group-tail}
+use Rattle.links.proofs.Ways.{getD-set}
+use Rattle.paper.proofs.basics.Choices.{and-left, and-right, and-true, false-or, member-each}
 use Rattle.paper.proofs.bytes.Reading.{length-wordsFrom}
 use Rattle.paper.proofs.walks.Chains.{pointedBy-cases}
-use Rattle.paper.specs.rules.Chain.{stepTo, heldWord, heldIn, heldBy, isLink, pointedBy, walks}
+use Rattle.paper.specs.rules.Chain.{stepTo, heldIn, heldBy, isLink, pointedBy, walks}
 use Rattle.paper.specs.rules.Choice.{every, any, member, times}
-use Rattle.paper.specs.rules.Kind.{Role, names, refers, holds, number, offset0OrIdentifier, plain, identifier, rowOf, rows}
-use Rattle.paper.specs.rules.KindNo.{INT, PTR, STRUCT, UNION, ENUM, FLOAT, ENUM64}
-use Rattle.paper.specs.rules.Span.{Member, membersIn, membersOf, isAlias, aliases}
-use Rattle.paper.specs.rules.Table.{Record, Table, recordAt, kindOf, vlenOf, tailLength, tailRoles, rolesOf, wordsOf}
+use Rattle.paper.specs.rules.KindNo.{STRUCT, UNION}
+use Rattle.paper.specs.rules.Section.{entriesOf}
+use Rattle.paper.specs.rules.Span.{Member, bitOffset, fieldWidth, membersIn, membersOf}
+use Rattle.paper.specs.rules.Tails.{parametersOf}
 use Rattle.paper.specs.rules.Word.{wordAt}
 use Rattle.paper.specs.terms.Reading.{recordIn}
 use Rattle.views.proofs.Shows.{bytesBy-record}
 use Rattle.views.specs.Shown.{tableBy, bytesBy}
 use Rattle.views.specs.declared.View.{View}
+use Rattle.paper.specs.rules.Table.{Record, Table, recordAt, kindOf, vlenOf, tailLength}
 
--- ── lists ──
-
-module _ {A : Type 0} (f : A → Bool) where
-  any-append : (xs ys : List A) → any f xs ≡ false → any f ys ≡ false → any f (xs ++ ys) ≡ false
-  any-append [] ys p q = q
-  any-append (x ∷ xs) ys p q = let h = or-false (f x) (any f xs) p in false-or (h .0) (any-append xs ys (h .1) q)
-
-  any-times : (n : ℕ) (xs : List A) → any f xs ≡ false → any f (times n xs) ≡ false
-  any-times zero xs p = refl
-  any-times (suc n) xs p = any-append xs (times n xs) p (any-times n xs p)
+-- ── walks ──
 
 any-none : (f : ℕ → Bool) (us : List ℕ) → ((u : ℕ) → List·Memᴰ u us → f u ≡ false) → any f us ≡ false
 any-none f [] h = refl
@@ -45,79 +46,6 @@ any-none f (u ∷ us) h = false-or (h u (List·Memᴰ·head refl)) (any-none f u
 -- where every walk of k steps from what a type leads to has ended, none of one more goes from it
 pub walk-next : (held : ℕ → List ℕ) (k t : ℕ) → ((u : ℕ) → List·Memᴰ u (held t) → walks held k u ≡ false) → walks held (suc k) t ≡ false
 walk-next held k t h = any-none (walks held k) (held t) h
-
--- the one type that a step goes to
-stepTo-one : (w u : ℕ) → List·Memᴰ u (stepTo w []) → (u ≡ w) × (w ≡ 0 → ⊥)
-stepTo-one w u m = go (eqb w 0) refl m
-  where
-    go : (z : Bool) → eqb w 0 ≡ z → List·Memᴰ u (cond z [] (w ∷ [])) → (u ≡ w) × (w ≡ 0 → ⊥)
-    go true x m = absurd (List·Memᴰ·not-nil m)
-    go false x m = ⊎-elim (λ (p : u ≡ w). (p, eqb-false w 0 x)) (λ n. absurd (List·Memᴰ·not-nil n)) (List·Memᴰ·cases-cons m)
-
--- ── what a record holds, by its kind ──
-
-unheld-word : (ρ : Role) (w : ℕ) (us : List ℕ) → isHeld ρ ≡ false → heldWord ρ w us ≡ us
-unheld-word (names rule) w us e = refl
-unheld-word (refers rule) w us e = refl
-unheld-word (holds rule) w us e = absurd (false≢true (sym e))
-unheld-word number w us e = refl
-
-unheld : (ρs : List Role) (ws : List ℕ) → any isHeld ρs ≡ false → heldIn ρs ws ≡ []
-unheld [] ws e = refl
-unheld (ρ ∷ ρs) [] e = refl
-unheld (ρ ∷ ρs) (w ∷ ws) e =
-    let h = or-false (isHeld ρ) (any isHeld ρs) e in
-    unheld-word ρ w (heldIn ρs ws) (h .0) ∙ unheld ρs ws (h .1)
-
-abbrev pub rolesFor : ℕ → ℕ → List Role
-rolesFor k v = names (rowOf k .name) ∷ number ∷ rowOf k .thirdRole ∷ (rowOf k .once ++ times v (rowOf k .each))
-
-abbrev pub memberRoles : List Role
-memberRoles = names offset0OrIdentifier ∷ holds plain ∷ number ∷ []
-
-abbrev heldOf : Record → List ℕ
-heldOf r = heldIn (rolesOf r) (wordsOf r)
-
-abbrev unheldKinds : List ℕ
-unheldKinds = INT ∷ PTR ∷ scalarKinds
-
-holds-none : (r : Record) → member (kindOf r) unheldKinds ≡ true → heldOf r ≡ []
-unfolding tailRoles rowOf rows
-holds-none r e =
-    let v = vlenOf r in
-    member-each (λ (k : ℕ). heldIn (rolesFor k v) (wordsOf r) ≡ []) (kindOf r) unheldKinds e (
-      unheld (rolesFor INT v) (wordsOf r) (any-times isHeld v [] refl),
-      (
-        unheld (rolesFor PTR v) (wordsOf r) (any-times isHeld v [] refl),
-        (
-          unheld (rolesFor ENUM v) (wordsOf r) (any-times isHeld v (names identifier ∷ number ∷ []) refl),
-          (
-            unheld (rolesFor FLOAT v) (wordsOf r) (any-times isHeld v [] refl),
-            (unheld (rolesFor ENUM64 v) (wordsOf r) (any-times isHeld v (names identifier ∷ number ∷ number ∷ []) refl), tt),
-          ),
-        ),
-      ),
-    )
-
-holds-third : (r : Record) → isAlias (kindOf r) ≡ true → heldOf r ≡ stepTo (r .third) []
-unfolding tailRoles rowOf rows
-holds-third r e =
-    let v = vlenOf r in
-    let one = ap (stepTo (r .third)) (unheld (times v []) (r .tail) (any-times isHeld v [] refl)) in
-    member-each (λ (k : ℕ). heldIn (rolesFor k v) (wordsOf r) ≡ stepTo (r .third) []) (kindOf r) aliases e (one, (one, (one, (one, (one, tt)))))
-
-holds-members : (r : Record) → member (kindOf r) (STRUCT ∷ UNION ∷ []) ≡ true → heldOf r ≡ heldIn (times (vlenOf r) memberRoles) (r .tail)
-unfolding tailRoles rowOf rows
-holds-members r e =
-    member-each (λ (k : ℕ). heldIn (rolesFor k (vlenOf r)) (wordsOf r) ≡ heldIn (times (vlenOf r) memberRoles) (r .tail)) (kindOf r) (STRUCT ∷ UNION ∷ []) e
-    (refl, (refl, tt))
-
-pub group-tail : (r : Record) → member (kindOf r) (STRUCT ∷ UNION ∷ []) ≡ true → tailLength (r .info) ≡ vlenOf r * 3
-unfolding tailLength rowOf rows
-group-tail r e =
-    let v = vlenOf r in
-    member-each (λ (k : ℕ). length (rowOf k .once) + v * length (rowOf k .each) ≡ v * 3) (kindOf r) (STRUCT ∷ UNION ∷ []) e
-    (omega arith, (omega arith, tt))
 
 -- a record that an index shows has the tail that its info word asks for
 pub shown-tail : (base b index : List ℕ) (v : View) (t : ℕ)
@@ -130,100 +58,162 @@ shown-tail base b index v t =
 
 -- ── members that fit ──
 
--- a member that fits has a type of which something is told
-pub fits-told : (s o z : ℕ) → fits s o z ≡ true → s ≡ 0 → ⊥
-fits-told s o z h e = false≢true (sym (ap (λ (s : ℕ). fits s o z) e) ∙ h)
-
--- every type held by whole members that fit is told
-members-told : (work : List ℕ) (r : Record) (u : ℕ) → stateOf work u ≡ 0 → (v : ℕ) (ws : List ℕ) → length ws ≡ v * 3
-    → every (memberFits work r) (membersIn ws) ≡ true → List·Memᴰ u (heldIn (times v memberRoles) ws) → ⊥
-members-told work r u untold zero ws e h m = List·Memᴰ·not-nil m
-members-told work r u untold (suc v) [] e h m = List·Memᴰ·not-nil m
-members-told work r u untold (suc v) (n ∷ []) e h m = omega arith
-members-told work r u untold (suc v) (n ∷ t ∷ []) e h m = omega arith
-members-told work r u untold (suc v) (n ∷ t ∷ o ∷ ws) e h m =
-    go (and-left (fits (stateOf work t) o (r .third)) (every (memberFits work r) (membersIn ws)) h)
-    (members-told work r u untold v ws (omega arith) (and-right (fits (stateOf work t) o (r .third)) (every (memberFits work r) (membersIn ws)) h))
-    (eqb t 0) m
+-- every type held by members that pass a test is settled, where that of each is
+members-told : (fit : Member → Bool) (work : List ℕ) (u : ℕ) → ((m : Member) → fit m ≡ true → Open (stateOf work (m .type)) → ⊥) → Open (stateOf work u)
+    → (v : ℕ) (ws : List ℕ) → length ws ≡ v * 3 → every fit (membersIn ws) ≡ true → List·Memᴰ u (heldIn (times v memberRoles) ws) → ⊥
+members-told fit work u told untold zero ws e h m = List·Memᴰ·not-nil m
+members-told fit work u told untold (suc v) [] e h m = List·Memᴰ·not-nil m
+members-told fit work u told untold (suc v) (n ∷ []) e h m = omega arith
+members-told fit work u told untold (suc v) (n ∷ t ∷ []) e h m = omega arith
+members-told fit work u told untold (suc v) (n ∷ t ∷ o ∷ ws) e h m =
+    go (told first (and-left (fit first) (every fit (membersIn ws)) h))
+    (members-told fit work u told untold v ws (omega arith) (and-right (fit first) (every fit (membersIn ws)) h)) (eqb t 0) m
   where
-    go : fits (stateOf work t) o (r .third) ≡ true → (List·Memᴰ u (heldIn (times v memberRoles) ws) → ⊥)
+    first : Member
+    first = record { name = n; type = t; offset = o }
+
+    go : (Open (stateOf work t) → ⊥) → (List·Memᴰ u (heldIn (times v memberRoles) ws) → ⊥)
         → (z : Bool) → List·Memᴰ u (cond z (heldIn (times v memberRoles) ws) (t ∷ heldIn (times v memberRoles) ws)) → ⊥
-    go first later true m = later m
-    go first later false m =
-        ⊎-elim (λ (p : u ≡ t). fits-told (stateOf work t) o (r .third) first (ap (stateOf work) (sym p) ∙ untold)) later (List·Memᴰ·cases-cons m)
+    go here later true m = later m
+    go here later false m =
+        ⊎-elim (λ (p : u ≡ t). here (ap (λ (x : ℕ). isOpen (stateOf work x)) (sym p) ∙ untold)) later (List·Memᴰ·cases-cons m)
 
 -- ── a type that is told refers to types that are ──
 
-behind-some : (work : List ℕ) (u : ℕ) → (u ≡ 0 → ⊥) → behind work u ≡ stateOf work u
-behind-some work u ne = ap (λ (z : Bool). cond z unsized (stateOf work u)) (ne-eqb u 0 ne)
+behind-some : (work : List ℕ) (u : ℕ) → (u ≡ 0 → ⊥) → behind work u ≡ through (stateOf work u)
+behind-some work u ne = ap (λ (z : Bool). cond z unsized (through (stateOf work u))) (ne-eqb u 0 ne)
 
--- the type that a step goes to is told, where what is behind the word is
-step-told : (work : List ℕ) (w u : ℕ) → (behind work w ≡ 0 → ⊥) → List·Memᴰ u (stepTo w []) → stateOf work u ≡ 0 → ⊥
-step-told work w u told m e =
-    let p = stepTo-one w u m in
-    told (behind-some work w (p .1) ∙ ap (stateOf work) (sym (p .0)) ∙ e)
+-- what is behind a word is told of the type that a step goes to
+step-seen : (work : List ℕ) (w u : ℕ) → List·Memᴰ u (stepTo w []) → behind work w ≡ through (stateOf work u)
+step-seen work w u m = let p = stepTo-one w u m in behind-some work w (p .1) ∙ ap (λ (x : ℕ). through (stateOf work x)) (sym (p .0))
 
 pub held-settled : (T : Table) (work : List ℕ) (t u : ℕ) {s : ℕ} → length (recordAt T t .tail) ≡ tailLength (recordAt T t .info)
-    → Looks work (recordAt T t) s → (s ≡ 0 → ⊥) → List·Memᴰ u (heldBy T t) → stateOf work u ≡ 0 → ⊥
+    → Looks work (recordAt T t) s → (Open s → ⊥) → List·Memᴰ u (heldBy T t) → Open (stateOf work u) → ⊥
 unfolding heldBy
 held-settled T work t u whole (alias a e) ne m z =
     let r = recordAt T t in
-    step-told work (r .third) u (λ n. ne (e ∙ n)) (subst (List·Memᴰ u) (holds-third r a) m) z
+    ne (ap isOpen (e ∙ step-seen work (r .third) u (subst (List·Memᴰ u) (holds-third r a) m)) ∙ open-through (stateOf work u) z)
 held-settled T work t u whole (pointer k b e) ne m z =
     let r = recordAt T t in
     List·Memᴰ·not-nil (subst (List·Memᴰ u) (holds-none r (ap (λ (k : ℕ). member k unheldKinds) k)) m)
 held-settled T work t u whole (int k o w h e) ne m z =
     let r = recordAt T t in
     List·Memᴰ·not-nil (subst (List·Memᴰ u) (holds-none r (ap (λ (k : ℕ). member k unheldKinds) k)) m)
-held-settled T work t u whole (scalar k h e) ne m z =
+held-settled T work t u whole (float k h e) ne m z =
+    List·Memᴰ·not-nil (subst (List·Memᴰ u) (holds-none (recordAt T t) (ap (λ (k : ℕ). member k unheldKinds) k)) m)
+held-settled T work t u whole (enumeration k h e) ne m z =
     let r = recordAt T t in
-    let among = member-each (λ (k : ℕ). member k unheldKinds ≡ true) (kindOf r) scalarKinds k (refl, (refl, (refl, tt))) in
+    let among = member-each (λ (k : ℕ). member k unheldKinds ≡ true) (kindOf r) enumKinds k (refl, (refl, tt)) in
     List·Memᴰ·not-nil (subst (List·Memᴰ u) (holds-none r among) m)
 held-settled T work t u whole (group k f h o small e) ne m z =
     let r = recordAt T t in
-    members-told work r u z (vlenOf r) (r .tail) (whole ∙ group-tail r k) h (subst (List·Memᴰ u) (holds-members r k) m)
+    members-told (memberFits work r) work u (λ m. fits-told (stateOf work (m .type)) (m .offset) (r .third)) z (vlenOf r) (r .tail)
+    (whole ∙ group-tail r k) h (subst (List·Memᴰ u) (holds-members r k) m)
+held-settled T work t u whole (fields k f h o small e) ne m z =
+    let r = recordAt T t in
+    members-told (memberLies work r) work u (λ m. field-told (stateOf work (m .type)) (fieldWidth m) (bitOffset 1 m) (r .third)) z (vlenOf r) (r .tail)
+    (whole ∙ group-tail r k) h (subst (List·Memᴰ u) (holds-members r k) m)
+held-settled T work t u whole (array k sized index small e) ne m z =
+    let r = recordAt T t in
+    sized-told (stateOf work (elementOf r)) sized (ap (λ (x : ℕ). isOpen (stateOf work x)) (sym (holds-element r u k m)) ∙ z)
+held-settled T work t u whole (variable k sized e) ne m z =
+    let r = recordAt T t in
+    sized-told (stateOf work (r .third)) sized (ap (λ (x : ℕ). isOpen (stateOf work x)) (sym (holds-variable r u k m)) ∙ z)
+held-settled T work t u whole (section k fit e) ne m z =
+    List·Memᴰ·not-nil (subst (List·Memᴰ u) (holds-none (recordAt T t) (ap (λ (k : ℕ). member k unheldKinds) k)) m)
+held-settled T work t u whole (forward k e) ne m z =
+    List·Memᴰ·not-nil (subst (List·Memᴰ u) (holds-none (recordAt T t) (ap (λ (k : ℕ). member k unheldKinds) k)) m)
+held-settled T work t u whole (prototype k b h e) ne m z =
+    List·Memᴰ·not-nil (subst (List·Memᴰ u) (holds-none (recordAt T t) (ap (λ (k : ℕ). member k unheldKinds) k)) m)
+held-settled T work t u whole (function k h e) ne m z =
+    List·Memᴰ·not-nil (subst (List·Memᴰ u) (holds-none (recordAt T t) (ap (λ (k : ℕ). member k unheldKinds) k)) m)
+held-settled T work t u whole (awaits k e) ne m z = ne (ap isOpen e)
 
 link-told : (work : List ℕ) (r : Record) {s : ℕ} → Looks work r s → (s ≡ 0 → ⊥) → isLink (kindOf r) ≡ true → behind work (r .third) ≡ 0 → ⊥
 link-told work r (alias a e) ne l z = ne (e ∙ z)
 link-told work r (pointer k b e) ne l z = b z
 link-told work r (int k o w h e) ne l z = false≢true (sym (ap isLink k) ∙ l)
-link-told work r (scalar k h e) ne l z =
-    false≢true (sym (member-each (λ (k : ℕ). isLink k ≡ false) (kindOf r) scalarKinds k (refl, (refl, (refl, tt)))) ∙ l)
+link-told work r (float k h e) ne l z = false≢true (sym (ap isLink k) ∙ l)
+link-told work r (enumeration k h e) ne l z =
+    false≢true (sym (member-each (λ (k : ℕ). isLink k ≡ false) (kindOf r) enumKinds k (refl, (refl, tt))) ∙ l)
 link-told work r (group k f h o small e) ne l z =
     false≢true (sym (member-each (λ (k : ℕ). isLink k ≡ false) (kindOf r) (STRUCT ∷ UNION ∷ []) k (refl, (refl, tt))) ∙ l)
+link-told work r (fields k f h o small e) ne l z =
+    false≢true (sym (member-each (λ (k : ℕ). isLink k ≡ false) (kindOf r) (STRUCT ∷ UNION ∷ []) k (refl, (refl, tt))) ∙ l)
+link-told work r (array k sized index small e) ne l z = false≢true (sym (ap isLink k) ∙ l)
+link-told work r (variable k sized e) ne l z = false≢true (sym (ap isLink k) ∙ l)
+link-told work r (section k fit e) ne l z = false≢true (sym (ap isLink k) ∙ l)
+link-told work r (forward k e) ne l z = false≢true (sym (ap isLink k) ∙ l)
+link-told work r (prototype k b h e) ne l z = false≢true (sym (ap isLink k) ∙ l)
+link-told work r (function k h e) ne l z = false≢true (sym (ap isLink k) ∙ l)
+link-told work r (awaits k e) ne l z =
+    false≢true (sym (member-each (λ (k : ℕ). isLink k ≡ false) (kindOf r) waitingKinds k (refl, (refl, (refl, (refl, tt))))) ∙ l)
 
 pub pointed-settled : (T : Table) (work : List ℕ) (t u : ℕ) {s : ℕ} → Looks work (recordAt T t) s → (s ≡ 0 → ⊥)
     → List·Memᴰ u (pointedBy T t) → stateOf work u ≡ 0 → ⊥
 pointed-settled T work t u {s} looks ne =
     pointedBy-cases T t (λ (us : List ℕ). List·Memᴰ u us → stateOf work u ≡ 0 → ⊥)
-    (λ l m z. step-told work (recordAt T t .third) u (link-told work (recordAt T t) looks ne l) m z)
+    (λ l m z. link-told work (recordAt T t) looks ne l (step-seen work (recordAt T t .third) u m ∙ ap through z))
     (λ l m z. List·Memᴰ·not-nil m)
 
 -- ── and keeps its state when another is told ──
 
-module _ (work : List ℕ) (i v : ℕ) (untold : stateOf work i ≡ 0) where
-  told-later : (u : ℕ) → (stateOf work u ≡ 0 → ⊥) → stateOf (set work i v) u ≡ stateOf work u
-  told-later u told = getD-set-other work i u v 0 (λ same. told (ap (stateOf work) same ∙ untold))
+-- a type that was open is told: where it was known to be plain, it still is
+module _ (work : List ℕ) (i v : ℕ) (room : i < length work) (untold : Open (stateOf work i)) (still : stateOf work i ≡ awaiting → through v ≡ 0 → ⊥) where
+  told-later : (u : ℕ) → (Open (stateOf work u) → ⊥) → stateOf (set work i v) u ≡ stateOf work u
+  told-later u told = getD-set-other work i u v 0 (λ same. told (ap (λ (x : ℕ). isOpen (stateOf work x)) same ∙ untold))
 
-  behind-later : (u : ℕ) → (behind work u ≡ 0 → ⊥) → behind (set work i v) u ≡ behind work u
+  behind-later : (u : ℕ) → (Open (behind work u) → ⊥) → behind (set work i v) u ≡ behind work u
   behind-later u = go (eqb u 0)
     where
-      go : (z : Bool) → (cond z unsized (stateOf work u) ≡ 0 → ⊥) → cond z unsized (stateOf (set work i v) u) ≡ cond z unsized (stateOf work u)
+      go : (z : Bool) → (Open (cond z unsized (through (stateOf work u))) → ⊥)
+          → cond z unsized (through (stateOf (set work i v) u)) ≡ cond z unsized (through (stateOf work u))
       go true told = refl
-      go false told = told-later u told
+      go false told = ap through (told-later u (λ o. told (open-through (stateOf work u) o)))
 
-  members-later : (r : Record) (ms : List Member) → every (memberFits work r) ms ≡ true → every (memberFits (set work i v) r) ms ≡ true
-  members-later r [] h = refl
-  members-later r (m ∷ ms) h =
-      let first = and-left (memberFits work r m) (every (memberFits work r) ms) h in
-      and-true
-      (ap (λ (s : ℕ). fits s (m .offset) (r .third)) (told-later (m .type) (fits-told (stateOf work (m .type)) (m .offset) (r .third) first)) ∙ first)
-      (members-later r ms (and-right (memberFits work r m) (every (memberFits work r) ms) h))
+  -- what a pointer points at stays plain
+  seen-later : (u : ℕ) → (behind work u ≡ 0 → ⊥) → behind (set work i v) u ≡ 0 → ⊥
+  seen-later u = go (eqb u 0)
+    where
+      go : (z : Bool) → (cond z unsized (through (stateOf work u)) ≡ 0 → ⊥) → cond z unsized (through (stateOf (set work i v) u)) ≡ 0 → ⊥
+      go true seen e = seen e
+      go false seen e =
+          ⊎-elim (λ h. open-cases (stateOf work i) untold
+          (λ zero. seen (ap through (ap (stateOf work) (h .0) ∙ zero)))
+          (λ waits. still waits (ap through (sym (h .1)) ∙ e)))
+          (λ h. seen (ap through (sym (h .1)) ∙ e)) (getD-set work i v u room)
 
-  -- what is told of a type stays when one is told of which nothing was
-  pub looks-later : {r : Record} {s : ℕ} → Looks work r s → (s ≡ 0 → ⊥) → Looks (set work i v) r s
-  looks-later {r} (alias a e) ne = alias a (e ∙ sym (behind-later (r .third) (λ z. ne (e ∙ z))))
-  looks-later {r} (pointer k b e) ne = pointer k (λ z. b (sym (behind-later (r .third) b) ∙ z)) e
+  -- what is told of a type stays when one is told that was open
+  pub looks-later : {r : Record} {s : ℕ} → Looks work r s → (Open s → ⊥) → Looks (set work i v) r s
+  looks-later {r} (alias a e) ne = alias a (e ∙ sym (behind-later (r .third) (λ o. ne (ap isOpen e ∙ o))))
+  looks-later {r} (pointer k b e) ne = pointer k (seen-later (r .third) b) e
   looks-later (int k o w h e) ne = int k o w h e
-  looks-later (scalar k h e) ne = scalar k h e
-  looks-later {r} (group k f h o small e) ne = group k f (members-later r (membersOf r) h) o small e
+  looks-later (float k h e) ne = float k h e
+  looks-later (enumeration k h e) ne = enumeration k h e
+  looks-later {r} (group k f h o small e) ne =
+      let same : (m : Member) → memberFits work r m ≡ true → memberFits (set work i v) r m ≡ true =
+      λ m one. ap (λ (s : ℕ). fits s (m .offset) (r .third)) (told-later (m .type) (fits-told (stateOf work (m .type)) (m .offset) (r .third) one)) ∙ one in
+      group k f (every-imp (memberFits work r) (memberFits (set work i v) r) same (membersOf r) h) o small e
+  looks-later {r} (fields k f h o small e) ne =
+      let same : (m : Member) → memberLies work r m ≡ true → memberLies (set work i v) r m ≡ true =
+      λ m one.
+      ap (λ (s : ℕ). fieldFits s (fieldWidth m) (bitOffset 1 m) (r .third))
+      (told-later (m .type) (field-told (stateOf work (m .type)) (fieldWidth m) (bitOffset 1 m) (r .third) one)) ∙ one in
+      fields k f (every-imp (memberLies work r) (memberLies (set work i v) r) same (membersOf r) h) o small e
+  looks-later {r} (array k sized index small e) ne =
+      let element = told-later (elementOf r) (sized-told (stateOf work (elementOf r)) sized) in
+      let by = told-later (indexOf r) (integer-told (stateOf work (indexOf r)) index) in
+      let size = ap (λ (s : ℕ). getD (r .tail) 2 0 * (s / 16)) element in
+      array k (ap (λ (s : ℕ). isSized (s % 16)) element ∙ sized) (ap (λ (s : ℕ). s % 16) by ∙ index) (subst (λ (z : ℕ). z < sizeEnd) (sym size) small)
+      (e ∙ ap (λ (z : ℕ). 16 * z + whole) (sym size))
+  looks-later {r} (variable k sized e) ne =
+      let of = told-later (r .third) (sized-told (stateOf work (r .third)) sized) in
+      variable k (ap (λ (s : ℕ). isSized (s % 16)) of ∙ sized) (e ∙ ap (λ (s : ℕ). 16 * (s / 16) + stored) (sym of))
+  looks-later {r} (section k fit e) ne =
+      let all = every (entryFits work) (entriesOf r) in
+      section k (and-true (entries-later work (set work i v) told-later (entriesOf r) (and-left all _ fit)) (and-right all _ fit)) e
+  looks-later (forward k e) ne = forward k e
+  looks-later {r} (prototype k b h e) ne =
+      prototype k (seen-later (r .third) b) (parameters-later work (set work i v) seen-later (parametersOf r) h) e
+  looks-later {r} (function k h e) ne = function k (told-later (r .third) (named-told (stateOf work (r .third)) h) ∙ h) e
+  looks-later (awaits k e) ne = absurd (ne (ap isOpen e))

@@ -1,5 +1,7 @@
 // One look at each type, from the first to the last, and once more from the last to the first for those that refer to later ones.
+use crate::looks::AWAITING;
 use crate::looks::STRANGE;
+use crate::looks::is_open;
 use crate::looks::look;
 use paper::TYPE_LIMIT;
 use paper::TypeNo;
@@ -25,7 +27,7 @@ fn settle<'a>(
     ensures { λ r. ⌜ Went (tableBy (now (base .entry)) (now (b .entry)) (now (index .entry)) view) (view .n) (t .0) (now (work .entry)) r (now (work .exit)) ⌝ }
 {
     let at = t.0 as usize;
-    if work[at] != 0 {
+    if !is_open(work[at]) {
         return 2;
     }
     let bytes = record_of(base, b, index, view, t);
@@ -38,6 +40,9 @@ fn settle<'a>(
         return 1;
     }
     work[at] = s;
+    if s == AWAITING {
+        return 1;
+    }
     2
 }
 

@@ -41,16 +41,16 @@ module _ (end free from size : ℕ) where
 
 module _ (order : Order) (s : List ℕ) where
   -- the entries in so many words from a place on
-  abbrev entriesFrom : ℕ → ℕ → List Entry
+  abbrev pub entriesFrom : ℕ → ℕ → List Entry
   entriesFrom p n = entriesIn (wordsFrom order s p n)
 
-  entries-few : (p n : ℕ) → n < 3 → entriesFrom p n ≡ []
+  pub entries-few : (p n : ℕ) → n < 3 → entriesFrom p n ≡ []
   entries-few p zero h = refl
   entries-few p (suc zero) h = refl
   entries-few p (suc (suc zero)) h = refl
   entries-few p (suc (suc (suc n))) h = absurd (omega arith)
 
-  entries-first : (p n : ℕ)
+  pub entries-first : (p n : ℕ)
       → entriesFrom p (suc (suc (suc n)))
       ≡ record { variable = wordAt order s p; offset = wordAt order s (p + 4); size = wordAt order s (p + 8) } ∷ entriesFrom (p + 12) n
   entries-first p n =
@@ -62,7 +62,7 @@ module _ (order : Order) (s : List ℕ) where
 abbrev set : Recalled → ℕ → ℕ → List Entry → Bool
 set X end free es = every (entryTold X) es && (eqb end 0 || placedFrom end free es)
 
-or-true : (z : Bool) → z || true ≡ true
+pub or-true : (z : Bool) → z || true ≡ true
 or-true true = refl
 or-true false = refl
 
@@ -72,7 +72,7 @@ place-refused true a rest e = e
 place-refused false true rest e = absurd (false≢true (sym e))
 place-refused false false rest e = refl
 
-place-taken : (z a rest : Bool) → z || a ≡ true → z || (a && rest) ≡ z || rest
+pub place-taken : (z a rest : Bool) → z || a ≡ true → z || (a && rest) ≡ z || rest
 place-taken true a rest e = refl
 place-taken false true rest e = refl
 place-taken false false rest e = absurd (false≢true e)

@@ -7,3 +7,4 @@ mod sections; // sections
 
 pub use kinds::layout_ok;
 pub use members::follows;
+pub use sections::placed;

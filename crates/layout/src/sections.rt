@@ -12,7 +12,7 @@ ghost use Rattle.paper.specs.terms.Reading.{recordIn};
 ghost use Rattle.layout.specs.Told.{sectionTold, recalled};
 
 // Where the section's size is not 0, an entry begins where the one before ends or later, and ends inside.
-fn placed(end: u32, free: u64, from: u32, size: u32) -> bool
+pub fn placed(end: u32, free: u64, from: u32, size: u32) -> bool
     ensures { λ r. ⌜ r ≡ (eqb end 0 || (leb free from && leb (from + size) end)) ⌝ }
 {
     if end == 0 {

@@ -3,16 +3,16 @@
 use Prim.Native.Nat.{ℕ, zero, suc, _-_, _≤_, _<_}
 use native.Mathlib.Omega.{arith}
 use mathlib.Core.Path.{_≡_, refl, sym, ap, subst, _∙_}
-use mathlib.Core.Bool.{Bool, true, false, not}
+use mathlib.Core.Bool.{Bool, true, false, false≢true}
 use mathlib.Core.List.{List, [], _++_}
 use mathlib.Core.Logic.{_⊎_, inl, inr, ⊎-elim}
 use borrow.Author.Tests.{eqb-true, eqb-false, not-false}
 use lib.Dec.{eqb}
 use lib.ListN.{drop, getD, length}
 use Rattle.glance.proofs.Glances.{all-good}
-use Rattle.glance.specs.Glance.{All, Glancing, SurelyGood, Went, stateOf}
+use Rattle.glance.specs.Glance.{All, Glancing, Open, SurelyGood, Went, awaiting, isOpen, stateOf}
 use Rattle.onepass.specs.Forth.{Indexed, Through}
-use Rattle.onepass.specs.Pass.{GoodOf}
+use Rattle.onepass.specs.Pass.{GoodOf, ReadOf}
 use Rattle.pairs.proofs.NamesOver.{namesOver-one}
 use Rattle.paper.proofs.Outcomes.{getD-indexOf}
 use Rattle.paper.proofs.basics.Choices.{firstDue-none}
@@ -29,6 +29,13 @@ use Rattle.paper.specs.rules.Walk.{tableOf}
 use Rattle.paper.specs.terms.Good.{SoundAt}
 use Rattle.paper.specs.terms.Reading.{recordIn}
 use Rattle.rules.specs.Phase.{rulesOf}
+
+-- a state that is not open
+pub not-open : {s : ℕ} {z : Bool} → z ≡ isOpen s → z ≡ false → (s ≡ 0 → ⊥) × (s ≡ awaiting → ⊥)
+not-open told e = (
+  λ d. false≢true (sym e ∙ told ∙ ap isOpen d),
+  λ d. false≢true (sym e ∙ told ∙ ap isOpen d),
+)
 
 -- ── the record of a type ──
 
@@ -58,7 +65,7 @@ pub record Backing (T : Table) (size t : ℕ) (work : List ℕ) : Type 0 where
   pub size-kept : length work ≡ size
   pub now : Glancing T (count T) work
   pub high : t ≤ count T
-  pub passed : (x : ℕ) → t < x → x ≤ count T → stateOf work x ≡ 0 → ⊥
+  pub passed : (x : ℕ) → t < x → x ≤ count T → Open (stateOf work x) → ⊥
 
 pub backing-start : {T : Table} {n : ℕ} {work : List ℕ} → n ≡ count T → Glancing T n work → Backing T (length work) n work
 backing-start {T} {n} {work} e g =
@@ -79,8 +86,8 @@ backing-next {T} {size} {t} {work} {work′} b some kept w two =
       passed = λ x low high. go x low high (eqb x t) refl;
     }
   where
-    go : (x : ℕ) → t - 1 < x → x ≤ count T → (z : Bool) → eqb x t ≡ z → stateOf work′ x ≡ 0 → ⊥
-    go x low high true e = λ z. w .here two (ap (stateOf work′) (sym (eqb-true x t e)) ∙ z)
+    go : (x : ℕ) → t - 1 < x → x ≤ count T → (z : Bool) → eqb x t ≡ z → Open (stateOf work′ x) → ⊥
+    go x low high true e = λ z. w .here two (ap (λ (y : ℕ). isOpen (stateOf work′ y)) (sym (eqb-true x t e)) ∙ z)
     go x low high false e = let other = eqb-false x t e in w .keeps x (b .passed x (omega arith) high)
 
 pub backing-done : {T : Table} {size t n : ℕ} {work : List ℕ} → Backing T size t work → t ≤ 0 → n ≡ count T → SurelyGood T n
@@ -119,3 +126,14 @@ module _ {n : ℕ} {b : List ℕ} {places room : ℕ} {index work : List ℕ} (t
 
   pub settled-good : All n work → GoodOf n b places room index
   settled-good all = through-good (all-good T n (t .told) all)
+
+  -- ── or read to its end ──
+
+  pub through-read : ReadOf n b places room index
+  through-read =
+      record {
+        readable = t .indexed .readable;
+        counted = t .counted;
+        placed = t .indexed .placed;
+        quiet = t .quiet;
+      }

@@ -3,7 +3,7 @@
 use Prim.Native.Nat.{ℕ, _+_, _*_, _/_}
 use native.Mathlib.Numerals.{add-one}
 use native.Mathlib.Omega.{arith}
-use mathlib.Core.Path.{_≡_, refl, sym, ap, _∙_}
+use mathlib.Core.Path.{_≡_, refl, sym, ap, subst, _∙_}
 use mathlib.Core.Bool.{Bool, true, false, not, _&&_}
 use mathlib.Core.List.{List, [], _∷_}
 use mathlib.Core.Logic.{_⊎_, inl, inr, ⊎-elim}
@@ -11,8 +11,8 @@ use mathlib.Core.Option.{none}
 use borrow.Author.Tests.{eq-eqb, not-false}
 use lib.Dec.{eqb, ltb}
 use lib.ListN.{length}
-use Rattle.glance.proofs.Looking.{looks-alias, looks-group, looks-int, looks-pointer}
-use Rattle.glance.specs.Glance.{Glimpsed, Stated, behind, integer}
+use Rattle.glance.proofs.Looking.{group-waits, looks-alias, looks-awaits, looks-group, looks-int, looks-pointer}
+use Rattle.glance.specs.Glance.{Glimpsed, Looks, Stated, behind, integer, strange, wholeInt}
 use Rattle.onepass.specs.Seen.{MembersTold, Tells}
 use Rattle.pairs.specs.Lean.{nameOkOver, nameWordOver}
 use Rattle.paper.proofs.basics.Choices.{and-true, member-every, or-left, or-right}
@@ -24,7 +24,7 @@ use Rattle.paper.specs.rules.Kind.{names, offset0, offset0OrIdentifier, rowOf, 
 use Rattle.paper.specs.rules.KindNo.{INT, STRUCT, UNION}
 use Rattle.paper.specs.rules.Span.{isAlias}
 use Rattle.paper.specs.rules.Table.{kindIn, kindOf, vlenIn}
-use Rattle.paper.specs.rules.Tails.{intWordOk, offsetIn, widthIn}
+use Rattle.paper.specs.rules.Tails.{intWordOk}
 use Rattle.paper.specs.rules.Word.{wordAt}
 use Rattle.paper.specs.terms.Reading.{recordIn, roled}
 use Rattle.rows.proofs.Groups.{group-half}
@@ -39,11 +39,12 @@ module _ (order : Order) (base strings work s : List ℕ) where
   -- ── by the rules of phase 3 and a look ──
 
   pub told-look : none ≡ firstDue (rulesOf base strings (recordIn order s)) → {v : ℕ} → Glimpsed work (recordIn order s) v
-      → Tells order base strings work s v
-  told-look quiet g =
-      ⊎-elim (λ e. inr (record { quiet = quiet; looks = inl e }))
-      (λ h. ⊎-elim (λ e. inl e) (λ l. inr (record { quiet = quiet; looks = inr l })) h)
-      g
+      → {r : ℕ} → (r ≡ 0) ⊎ ((v ≡ strange → ⊥) × (r ≡ v)) → Tells order base strings work s r
+  told-look quiet {v} g {r} told =
+      inr (record { quiet = quiet; looks = ⊎-elim (λ e. inl e) (λ h. ⊎-elim (λ e. inl (h .1 ∙ e)) (λ k. ⊎-elim (λ e. absurd (h .0 e)) (λ l. inr (seen h l)) k) g) told })
+    where
+      seen : (v ≡ strange → ⊥) × (r ≡ v) → Looks work (recordIn order s) v → Looks work (recordIn order s) r
+      seen h l = subst (Looks work (recordIn order s)) (sym (h .1)) l
 
   -- ── no name ──
 
@@ -60,7 +61,7 @@ module _ (order : Order) (base strings work s : List ℕ) where
     told-open e = inr (record { quiet = pointer-quiet e; looks = inl refl })
 
     pub told-pointer : wordAt order s 4 ≡ 33554432 → {u : ℕ} → u ≡ wordAt order s 8 → {v : ℕ} → v ≡ behind work u → (v ≡ 0 → ⊥)
-        → Tells order base strings work s 65
+        → Tells order base strings work s 129
     told-pointer e third d n =
         inr
         (record {
@@ -112,7 +113,8 @@ module _ (order : Order) (base strings work s : List ℕ) where
           quiet =
               quiet-names order base strings s at (grouped (plain-half info half .0) refl) read (λ z. omega arith) refl (one-more (vlenIn info) (m .named));
           looks =
-              ⊎-elim (λ e. inl e) (λ f. looks-group order s work kind (flagless order s at half) refl (ap not (f .0)) refl (f .1)) (m .fit);
+              ⊎-elim (λ e. inr (subst (Looks work (recordIn order s)) (sym e) (looks-awaits order s work (group-waits kind))))
+              (λ f. looks-group order s work kind (flagless order s at half) refl (ap not (f .0)) refl (f .1)) (m .fit);
         })
       where
         half : member (info / 65536) (1024 ∷ 1280 ∷ []) ≡ true
@@ -125,13 +127,16 @@ module _ (order : Order) (base strings work s : List ℕ) where
 
   -- ── an INT ──
 
-  pub told-int : wordAt order s 4 ≡ 16777216 → {w z off : ℕ} → w ≡ wordAt order s 12 → z ≡ wordAt order s 8 → off ≡ wordAt order s 0
-      → {a b c x : Bool} → a ≡ allowed (rowOf INT .thirdValues) z → not a ≡ false → b ≡ ltb off (length base + length strings) → not b ≡ false
-      → c ≡ intWordOk w z → not c ≡ false → x ≡ (eqb (offsetIn w) 0 && eqb (widthIn w) (8 * z)) → not x ≡ false → {v : ℕ} → Stated z integer v
-      → Tells order base strings work s v
-  told-int e word third first {c = c} sized good named there asked passed whole all stated =
-      inr
-      (record {
-        quiet = quiet-int order base strings s (sym e) refl (int-words word third first sized good named there asked (not-false c passed));
-        looks = looks-int order s work (sym (kind-read order s refl (sym e) refl)) word third whole all stated;
-      })
+  module _ (e : wordAt order s 4 ≡ 16777216) {w z off : ℕ} (word : w ≡ wordAt order s 12) (third : z ≡ wordAt order s 8) (first : off ≡ wordAt order s 0)
+      {a b c : Bool} (sized : a ≡ allowed (rowOf INT .thirdValues) z) (good : not a ≡ false)
+      (named : b ≡ ltb off (length base + length strings)) (there : not b ≡ false) (asked : c ≡ intWordOk w z) (passed : not c ≡ false) where
+    int-quiet : none ≡ firstDue (rulesOf base strings (recordIn order s))
+    int-quiet = quiet-int order base strings s (sym e) refl (int-words word third first sized good named there asked (not-false c passed))
+
+    -- one with other bits than those of its size
+    pub told-odd : Tells order base strings work s 0
+    told-odd = inr (record { quiet = int-quiet; looks = inl refl })
+
+    pub told-int : {x : Bool} → x ≡ wholeInt w z → not x ≡ false → {v : ℕ} → Stated z integer v → Tells order base strings work s v
+    told-int whole all stated =
+        inr (record { quiet = int-quiet; looks = looks-int order s work (sym (kind-read order s refl (sym e) refl)) word third whole all stated })

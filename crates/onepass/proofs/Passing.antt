@@ -4,7 +4,7 @@ use Prim.Native.Nat.{ℕ, zero, suc, _+_, _-_, _*_, _%_, _≤_, _<_}
 use native.Mathlib.Numerals.{add-one}
 use native.Mathlib.Omega.{arith}
 use mathlib.Core.Path.{_≡_, refl, sym, ap, subst, _∙_}
-use mathlib.Core.Bool.{Bool, true, false, _||_}
+use mathlib.Core.Bool.{Bool, true, false, _||_, false≢true}
 use mathlib.Core.List.{List, [], _∷_}
 use mathlib.Core.Logic.{_⊎_, inl, inr, ⊎-elim}
 use mathlib.Core.Option.{none}
@@ -13,7 +13,7 @@ use lib.Dec.{eqb}
 use lib.ListN.{length, getD, drop, set, length-set}
 use lib.Seq.{getD-set-same, getD-set-other}
 use Rattle.glance.proofs.Glances.{glancing-start, went-on}
-use Rattle.glance.specs.Glance.{All, Glancing, Looks, stateOf}
+use Rattle.glance.specs.Glance.{All, Glancing, Looks, Open, isOpen, stateOf}
 use Rattle.links.proofs.Roots.{getD-zeros}
 use Rattle.onepass.specs.Forth.{Begins, Stepped, Through, extent}
 use Rattle.onepass.specs.Seen.{Told}
@@ -60,7 +60,7 @@ pub record Going (b start : List ℕ) (n k at : ℕ) (unsettled : Bool) (index w
   pub quiet : (t : ℕ) → 1 ≤ t → t ≤ k → quietIn b (recordAt (tableOf b) t)
   pub told : Glancing (tableOf b) n work
   pub ahead : (x : ℕ) → k < x → stateOf work x ≡ 0
-  pub all : unsettled ≡ false → (x : ℕ) → 1 ≤ x → x ≤ k → stateOf work x ≡ 0 → ⊥
+  pub all : unsettled ≡ false → (x : ℕ) → 1 ≤ x → x ≤ k → Open (stateOf work x) → ⊥
 
 -- a whole walk has found the table's records
 counted-table : (b : List ℕ) {n places : ℕ} → WalkDone b 0 n places → n ≡ count (tableOf b)
@@ -107,7 +107,7 @@ module _ {b start : List ℕ} {n k at : ℕ} {unsettled : Bool} {index work : Li
 
   -- one more is told
   module _ {next : ℕ} {index′ work′ : List ℕ} (s : Stepped (orderOf b) [] (stringsIn b) (drop at b) (headerLength + typeLen b - at) at (k + 1) index work next index′ work′)
-      {unsettled′ : Bool} (some : unsettled′ ≡ (unsettled || eqb (stateOf work′ (k + 1)) 0)) where
+      {z unsettled′ : Bool} (asked : z ≡ isOpen (stateOf work′ (k + 1))) (some : unsettled′ ≡ (unsettled || z)) where
     abbrev t : ℕ
     t = k + 1
 
@@ -136,8 +136,8 @@ module _ {b start : List ℕ} {n k at : ℕ} {unsettled : Bool} {index work : Li
         go false e =
             ⊎-elim still
             (λ (l : Looks work (recordIn (orderOf b) (drop at b)) (s .state)).
-            went-on (tableOf b) n (g .told) {t = t} {s = s .state} (omega arith) (omega arith) (g .ahead t (omega arith)) tail-here
-            (subst (λ (r : Record). Looks work r (s .state)) record-here l) (eqb-false (s .state) 0 e) {r = 0} .now)
+            went-on (tableOf b) n (g .told) {t = t} {s = s .state} (omega arith) (omega arith) (ap isOpen (g .ahead t (omega arith))) tail-here
+            (subst (λ (r : Record). Looks work r (s .state)) record-here l) (eqb-false (s .state) 0 e) {r = 0} (λ two. absurd (omega arith)) .now)
             (s .told .looks)
 
     -- those of the others are as they were
@@ -152,9 +152,9 @@ module _ {b start : List ℕ} {n k at : ℕ} {unsettled : Bool} {index work : Li
               (λ (h : x ≤ k). g .quiet x low h) (last-or x high);
           told = told-next;
           ahead = λ x far. others x (λ e. omega arith) ∙ g .ahead x (omega arith);
-          all = λ e x low high. let both = or-false unsettled (eqb (stateOf work′ t) 0) (sym some ∙ e) in
-              ⊎-elim (λ (h : x ≡ t). subst (λ (y : ℕ). stateOf work′ y ≡ 0 → ⊥) (sym h) (eqb-false (stateOf work′ t) 0 (both .1)))
-              (λ (h : x ≤ k). λ z. g .all (both .0) x low h (sym (others x (λ q. omega arith)) ∙ z)) (last-or x high);
+          all = λ e x low high. let both = or-false unsettled z (sym some ∙ e) in
+              ⊎-elim (λ (h : x ≡ t). subst (λ (y : ℕ). Open (stateOf work′ y) → ⊥) (sym h) (λ o. false≢true (sym (sym asked ∙ both .1) ∙ o)))
+              (λ (h : x ≤ k). λ z. g .all (both .0) x low h (ap isOpen (sym (others x (λ q. omega arith))) ∙ z)) (last-or x high);
         }
       where
         last-or : (x : ℕ) → x ≤ t → (x ≡ t) ⊎ (x ≤ k)
@@ -230,7 +230,7 @@ module _ {b start : List ℕ} {room most end k at : ℕ} {unsettled : Bool} {ind
 
   module _ (more : at < end) (fits : k + 1 < most) {next : ℕ} {index′ work′ : List ℕ}
       (s : Stepped (orderOf b) [] (stringsIn b) (drop at b) (end - at) at (k + 1) index work next index′ work′)
-      {unsettled′ : Bool} (some : unsettled′ ≡ (unsettled || eqb (stateOf work′ (k + 1)) 0)) where
+      {z unsettled′ : Bool} (asked : z ≡ isOpen (stateOf work′ (k + 1))) (some : unsettled′ ≡ (unsettled || z)) where
     there : next ≡ nextPlace b at
     there = s .behind ∙ let word = ap extent (wordAt-drop (orderOf b) b at 4) in omega (arith, word)
 
@@ -265,7 +265,7 @@ module _ {b start : List ℕ} {room most end k at : ℕ} {unsettled : Bool} {ind
               let g = p .going n done few in
               let whole : (headerLength + typeLen b - at) % 4 ≡ 0 = ap (λ (e : ℕ). (e - at) % 4) (sym (p .section)) ∙ p .stands .whole in
               going-next (p .bytes) header-silent g (placing-more (g .placing) whole (omega (arith, p .section)))
-              (subst (λ (e : ℕ). Stepped (orderOf b) [] (stringsIn b) (drop at b) (e - at) at (k + 1) index work next index′ work′) (p .section) s) some;
+              (subst (λ (e : ℕ). Stepped (orderOf b) [] (stringsIn b) (drop at b) (e - at) at (k + 1) index work next index′ work′) (p .section) s) asked some;
         }
 
   -- ── at the end ──

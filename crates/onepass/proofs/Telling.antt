@@ -10,7 +10,7 @@ use borrow.Author.Tests.{not-false}
 use lib.Dec.{eqb, leb}
 use lib.ListN.{length}
 use Rattle.glance.proofs.FitsLeft.{Fitting, fitting-start, fitting-next, fitting-done}
-use Rattle.glance.specs.Glance.{Stated, fits, stateOf, whole}
+use Rattle.glance.specs.Glance.{Stated, awaiting, fits, stateOf, whole}
 use Rattle.onepass.specs.Seen.{MembersTold}
 use Rattle.pairs.specs.Lean.{nameWordOver}
 use Rattle.paper.proofs.basics.Choices.{and-left, and-right, member-each, member-every}
@@ -91,7 +91,7 @@ module _ {order : Order} {base strings work s : List ℕ} {info p left before : 
       }
 
   -- none is left: one that does not fit, or is open, leaves the state open
-  pub telling-open : left ≤ 0 → MembersTold order base strings work s info 0
+  pub telling-open : left ≤ 0 → MembersTold order base strings work s info awaiting
   telling-open h = inr (record { named = sym (entering-done (now .named) h); fit = inl refl })
 
   pub telling-done : left ≤ 0 → not all ≡ false → {z : ℕ} → z ≡ wordAt order s 8 → {v : ℕ} → Stated z whole v

@@ -1,5 +1,6 @@
 // The pass from the last type to the first, for those that refer to later ones: their records are looked at once more.
 use glance::STRANGE;
+use glance::is_open;
 use glance::look;
 use paper::Order;
 use words::rest_from;
@@ -19,7 +20,7 @@ fn settle(order: Order, b: &[u8], index: &[u32], t: u32, work: &mut [u32]) -> u3
     ensures { λ r. ⌜ Went (tableOf (now (b .entry))) (count (tableOf (now (b .entry)))) t (now (work .entry)) r (now (work .exit)) ⌝ }
 {
     let k = t as usize;
-    if work[k] != 0 {
+    if !is_open(work[k]) {
         return 2;
     }
     let place = index[k];
@@ -28,7 +29,7 @@ fn settle(order: Order, b: &[u8], index: &[u32], t: u32, work: &mut [u32]) -> u3
     if s == STRANGE {
         return 0;
     }
-    if s == 0 {
+    if is_open(s) {
         return 0;
     }
     work[k] = s;

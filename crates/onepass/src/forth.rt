@@ -4,6 +4,7 @@ use crate::seen::group;
 use crate::seen::int;
 use crate::seen::other;
 use glance::STRANGE;
+use glance::is_open;
 use paper::Order;
 use paper::Place;
 use paper::TYPE_LIMIT;
@@ -173,7 +174,7 @@ pub(crate) fn forth<'a>(
         if next == 0 {
             return Ran::Untold;
         }
-        unsettled = unsettled | (work[k as usize] == 0);
+        unsettled = unsettled | is_open(work[k as usize]);
         at = next;
     }
     if unsettled {

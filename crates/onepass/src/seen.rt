@@ -1,5 +1,6 @@
-// One record, by its words: nothing is due of it in phase 3, and its type has a state, or 0 where one that it refers to is open. STRANGE where
+// One record, by its words: nothing is due of it in phase 3, and its type has a state, or is open where one that it refers to is. STRANGE where
 // that is not told. Each sort of record has a function of its own, which asks what its info word leaves to ask.
+use glance::AWAITING;
 use glance::POINTER;
 use glance::STRANGE;
 use glance::behind_of;
@@ -27,7 +28,9 @@ use tails::int_ok;
 ghost use mathlib.Core.Path.{_≡_};
 ghost use mathlib.Core.Bool.{true};
 ghost use mathlib.Core.List.{[], _∷_};
+ghost use mathlib.Core.Logic.{_⊎_};
 ghost use Prim.Native.Nat.{_/_};
+ghost use Rattle.glance.specs.Glance.{strange};
 ghost use Rattle.onepass.specs.Seen.{MembersTold, Tells};
 ghost use Rattle.paper.specs.rules.Choice.{member};
 ghost use Rattle.paper.specs.rules.Word.{wordAt};
@@ -108,7 +111,7 @@ pub(crate) fn int(order: Order, bytes: &[u8], base: &[u8], strings: &[u8], work:
         return STRANGE;
     }
     if !int_whole(word, size) {
-        return STRANGE;
+        return 0;
     }
     whole_int(size)
 }
@@ -145,7 +148,7 @@ fn members<'a>(
         left -= 1;
     }
     if !all {
-        return 0;
+        return AWAITING;
     }
     whole_bytes(size)
 }
@@ -169,6 +172,16 @@ pub(crate) fn group<'a>(
     members(order, bytes, base, strings, info, size, work)
 }
 
+// A state, or 0 for a kind that is not looked at: its type stays open, and phases 4 to 6 speak of it.
+fn told_or_open(s: u32) -> u32
+    ensures { λ r. ⌜ (r ≡ 0) ⊎ ((s ≡ strange → ⊥) × (r ≡ s)) ⌝ }
+{
+    if s == STRANGE {
+        return 0;
+    }
+    s
+}
+
 // Any other record, by the rules of phase 3 and a look.
 pub(crate) fn other<'a>(
     order: Order,
@@ -180,7 +193,7 @@ pub(crate) fn other<'a>(
     ensures { λ r. ⌜ Tells order (now (base .entry)) (now (strings .entry)) (now (work .entry)) (now (bytes .entry)) r ⌝ }
 {
     match phase3(order, bytes, base, strings) {
-        Due::Nothing => look(order, bytes, work),
+        Due::Nothing => told_or_open(look(order, bytes, work)),
         Due::Head => STRANGE,
         Due::Named => STRANGE,
         Due::Tail => STRANGE,

@@ -13,9 +13,10 @@ ghost use Rattle.paper.specs.declared.Order.the-variants.{LowFirst};
 ghost use Rattle.paper.specs.rules.Header.{stringsIn};
 ghost use mathlib.Core.List.{[]};
 
-// Whether a table is good for sure, and of how many types.
+// A table that is good for sure, or one of which phases 1 to 3 have nothing to say, with its count of types; or nothing is told.
 pub enum Sure {
     Good(u32),
+    Read(u32),
     Unsure,
 }
 
@@ -31,13 +32,13 @@ fn both_ways(b: &[u8], end: u32, index: &mut [u32], work: &mut [u32]) -> Sure
             if back(Order::LowFirst, b, index, n, work) {
                 return Sure::Good(n);
             }
-            Sure::Unsure
+            Sure::Read(n)
         }
     }
 }
 
-// A table that is good for sure: its count of types, with the places of its records in the index. Of any other nothing is told, and both
-// slices may hold anything; so of a big-endian one.
+// A table that is good for sure, or read to its end: its count of types, with the places of its records in the index. Of any other nothing is
+// told, and both slices may hold anything; so of a big-endian one.
 pub fn pass(b: &[u8], index: &mut [u32], work: &mut [u32]) -> Sure
     ensures { λ r. ⌜ SureOf r (now (b .entry)) (length (now (index .entry))) (length (now (work .entry))) (now (index .exit)) ⌝ }
 {

@@ -1,4 +1,4 @@
--- Of a table that is good at a glance phases 4 to 6 say nothing.
+-- Of a table that is good at a glance phases 4 to 6 say nothing; and of one that is quiet phase 3.
 -- Assumes nothing.
 use Prim.Native.Nat.{ℕ, zero, suc, _+_, _≤_, _<_}
 use native.Mathlib.Omega.{arith}
@@ -7,12 +7,15 @@ use mathlib.Core.Bool.{Bool, not}
 use mathlib.Core.List.{List, [], _∷_}
 use mathlib.Core.Option.{Option, none}
 use Rattle.glance.specs.Glance.{SurelyGood}
+use Rattle.paper.specs.rules.Answer.{Answer}
 use Rattle.paper.specs.rules.Choice.{Rule, _when_, firstDue, orElse}
 use Rattle.paper.specs.rules.Gate.{firstOf, namingAt, phase4, phase5, phase6}
 use Rattle.paper.specs.rules.Layout.{layoutBad}
 use Rattle.paper.specs.rules.References.{refBad}
-use Rattle.paper.specs.rules.Table.{Table}
-use Rattle.phases.specs.Said.{overShown, behindThird}
+use Rattle.paper.specs.rules.Header.{stringsIn}
+use Rattle.paper.specs.rules.Table.{Table, recordAt}
+use Rattle.phases.specs.Said.{behindThird, judged, laterSays, overShown, phase3By}
+use Rattle.rules.specs.Phase.{rulesOf}
 use Rattle.views.specs.Shown.{tableBy}
 use Rattle.views.specs.declared.View.{View}
 
@@ -44,3 +47,13 @@ module _ (base b index : List ℕ) (v : View) (good : SurelyGood (tableBy base b
   pub behind-glance : none ≡ behindThird base b index v
   unfolding behindThird
   behind-glance = sym (λ i. orElse (fourth i) (orElse (fifth i) (last i)))
+
+-- where phase 3 has nothing to say of any type, the later ones judge
+pub quiet-judged : (base b index : List ℕ) (v : View) (room : ℕ)
+    → ((t : ℕ) → 1 ≤ t → t ≤ v .n → none ≡ firstDue (rulesOf (stringsIn base) (stringsIn b) (recordAt (tableBy base b index v) t)))
+    → laterSays base b index v room ≡ judged base b index v room
+unfolding judged overShown phase3By
+quiet-judged base b index v room quiet =
+    sym
+    (ap (λ (o : Option Answer). orElse o (laterSays base b index v room))
+    (none-first _ (phase3By (stringsIn base) (stringsIn b) (tableBy base b index v)) (v .n) 1 (λ t low high. sym (quiet t low (omega arith)))))

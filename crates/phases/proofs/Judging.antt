@@ -2,7 +2,7 @@
 -- Assumes nothing.
 use Prim.Native.Nat.{ℕ, _-_, _≤_, _<_}
 use mathlib.Core.Path.{_≡_, refl, sym, ap, ap₂, _∙_, subst}
-use mathlib.Core.Bool.{Bool, false, not, cond, _&&_}
+use mathlib.Core.Bool.{Bool, true, false, not, cond, _&&_}
 use mathlib.Core.List.{List, [], _∷_}
 use mathlib.Core.Option.{Option, none, some}
 use borrow.Author.Tests.{le-leb, lt-leb, le-ltb, lt-ltb}
@@ -17,7 +17,7 @@ use Rattle.paper.specs.rules.Answer.{Answer, reportAt}
 use Rattle.pairs.proofs.NamesOver.{namesOver-one}
 use Rattle.pairs.proofs.Replaced.{replaced, replaced-firstOf, replaced-orElse}
 use Rattle.paper.specs.rules.Choice.{Rule, _when_, orElse}
-use Rattle.paper.specs.rules.Gate.{firstOf, overTypes, phase3, phase4, phase5, phase6}
+use Rattle.paper.specs.rules.Gate.{firstOf, overTypes, phase3, phase4, phase5, phase6, zeros}
 use Rattle.paper.specs.rules.Heads.{headOk, headBad}
 use Rattle.paper.specs.rules.Names.{nameBad}
 use Rattle.paper.specs.rules.Tails.{tailOk, tailBad}
@@ -27,7 +27,7 @@ use Rattle.paper.specs.rules.Table.{Table, count, recordAt}
 use Rattle.paper.specs.rules.Walk.{placeAt}
 use Rattle.paper.specs.declared.Report.{Report}
 use Rattle.paper.specs.declared.TypeNo.{TypeNo}
-use Rattle.phases.specs.Said.{saidAsPaper, phase3By, phase6Told, overShown, behindThird, judged, JudgeOf}
+use Rattle.phases.specs.Said.{saidAsPaper, phase3By, phase6Told, overShown, behindThird, laterSays, judged, LaterOf, JudgeOf}
 use Rattle.phases.proofs.Recalls.{sixth-same}
 use Rattle.phases.specs.declared.types.Said.{Said}
 use Rattle.phases.specs.declared.types.Said.the-variants.{Nothing, Says}
@@ -68,14 +68,16 @@ module _ (base b index : List ℕ) (v : View) (room : ℕ) where
 
     pub judged-over : getD (stringsIn base) (length (stringsIn base) - 1) 0 ≡ 0 → v .n ≤ typeLimit → v .n < room
         → judged base b index v room ≡ orElse (over phase3) (orElse (over phase4) (orElse (over phase5) (over phase6)))
-    unfolding judged behindThird overShown
+    unfolding judged laterSays behindThird overShown
     judged-over last few enough =
-        (λ i. orElse (firstOf (placeBy index v) (λ t. phase3-one last t i) (v .n) 1)
-        (cond (leb (v .n) typeLimit && ltb (v .n) room) (behindThird base b index v) none))
+        (λ i. orElse (firstOf (placeBy index v) (λ t. phase3-one last t i) (v .n) 1) (laterSays base b index v room))
         ∙ rw (le-leb (v .n) typeLimit few, lt-ltb (v .n) room enough)
         (λ i. orElse (shown-phase phase3 i) (orElse (shown-phase phase4 i) (orElse (shown-phase phase5 i) (shown-phase phase6 i))))
 
   -- ── phases 4 to 6 ──
+
+  asked : v .n ≤ typeLimit → v .n < room → leb (v .n) typeLimit && ltb (v .n) room ≡ true
+  asked few enough = ap₂ (λ (x y : Bool). x && y) (le-leb (v .n) typeLimit few) (lt-ltb (v .n) room enough)
 
   module _ (few : v .n ≤ typeLimit) (enough : v .n < room) (w : Linked) {memo : List ℕ} (linked : LinksOf T (v .n) room w memo) where
     -- what phases 4 and 5 say, at the index's places
@@ -84,8 +86,7 @@ module _ (base b index : List ℕ) (v : View) (room : ℕ) where
     links-shown =
         ap (replaced (placeBy index v))
         (linked .says
-        ∙ ap (λ (z : Bool). cond z (orElse (overTypes phase4 T) (overTypes phase5 T)) none)
-        (ap₂ (λ (x y : Bool). x && y) (le-leb (v .n) typeLimit few) (lt-ltb (v .n) room enough)))
+        ∙ ap (λ (z : Bool). cond z (orElse (overTypes phase4 T) (overTypes phase5 T)) none) (asked few enough))
         ∙ sym (replaced-orElse (placeBy index v) (overTypes phase4 T) (overTypes phase5 T))
         ∙ sym (λ i. orElse (shown-over phase4 i) (shown-over phase5 i))
 
@@ -93,7 +94,8 @@ module _ (base b index : List ℕ) (v : View) (room : ℕ) where
     grouped none y z = refl
     grouped (some a) y z = refl
 
-    behind-links : {x : Linked} → w ≡ x → orElse (replaced (placeBy index v) (linkedAsPaper T x)) (overShown base b index v phase6) ≡ behindThird base b index v
+    behind-links : {x : Linked} → w ≡ x
+        → orElse (replaced (placeBy index v) (linkedAsPaper T x)) (overShown base b index v phase6) ≡ behindThird base b index v
     unfolding behindThird
     behind-links {x} q =
         ap (λ (o : Option Answer). orElse o (overShown base b index v phase6))
@@ -110,37 +112,49 @@ module _ (base b index : List ℕ) (v : View) (room : ℕ) where
     behind-sixth low high q e =
         e ∙ sixth-same base b index v low high few enough (subst (λ (y : Linked). LinksOf T (v .n) room y memo) q linked) ∙ behind-links q
 
+  -- ── phases 4 to 6, of so many types and places ──
+
+  by-test : {test : Bool} → leb (v .n) typeLimit && ltb (v .n) room ≡ test → cond test (behindThird base b index v) none ≡ laterSays base b index v room
+  unfolding laterSays
+  by-test e = ap (λ (z : Bool). cond z (behindThird base b index v) none) (sym e)
+
+  pub later-many : typeLimit < v .n → none ≡ laterSays base b index v room
+  later-many h = by-test (ap (λ (z : Bool). z && ltb (v .n) room) (lt-leb (v .n) typeLimit h))
+
+  pub later-short : v .n ≤ typeLimit → room ≤ v .n → none ≡ laterSays base b index v room
+  later-short few h = by-test (ap₂ (λ (x y : Bool). x && y) (le-leb (v .n) typeLimit few) (le-ltb (v .n) room h))
+
+  pub later-behind : v .n ≤ typeLimit → v .n < room → {o : Option Answer} → o ≡ behindThird base b index v → o ≡ laterSays base b index v room
+  later-behind few enough e = e ∙ by-test (asked few enough)
+
+  -- a table of which they have nothing to say, whatever its types and the places
+  later-none : none ≡ behindThird base b index v → none ≡ laterSays base b index v room
+  later-none e = go (leb (v .n) typeLimit && ltb (v .n) room) refl
+    where
+      go : (test : Bool) → leb (v .n) typeLimit && ltb (v .n) room ≡ test → none ≡ laterSays base b index v room
+      go true q = e ∙ by-test q
+      go false q = by-test q
+
   -- ── all of them ──
 
   module _ (s₃ : Said) (e₃ : saidAsPaper s₃ ≡ overShown base b index v (phase3By (stringsIn base) (stringsIn b))) where
-    abbrev test : Bool
-    test = leb (v .n) typeLimit && ltb (v .n) room
-
-    by-third : {o : Option Answer} → saidAsPaper s₃ ≡ o → orElse o (cond test (behindThird base b index v) none) ≡ judged base b index v room
+    by-third : {o : Option Answer} → saidAsPaper s₃ ≡ o → orElse o (laterSays base b index v room) ≡ judged base b index v room
     unfolding judged
-    by-third {o} e = ap (λ (x : Option Answer). orElse x (cond test (behindThird base b index v) none)) (sym e ∙ e₃)
+    by-third {o} e = ap (λ (x : Option Answer). orElse x (laterSays base b index v room)) (sym e ∙ e₃)
 
     pub judge-third : {r : Report} → s₃ ≡ Says r → saidAsPaper s₃ ≡ judged base b index v room
     judge-third p = ap saidAsPaper p ∙ by-third (ap saidAsPaper p)
 
     module _ (n₃ : s₃ ≡ Nothing) where
-      unasked : test ≡ false → saidAsPaper s₃ ≡ judged base b index v room
-      unasked off =
-          ap saidAsPaper n₃ ∙ sym (ap (λ (z : Bool). cond z (behindThird base b index v) none) off) ∙ by-third (ap saidAsPaper n₃)
+      pub judge-glance : none ≡ behindThird base b index v → none ≡ judged base b index v room
+      judge-glance e = later-none e ∙ by-third (ap saidAsPaper n₃)
 
-      pub judge-many : typeLimit < v .n → saidAsPaper s₃ ≡ judged base b index v room
-      judge-many h = unasked (ap (λ (z : Bool). z && ltb (v .n) room) (lt-leb (v .n) typeLimit h))
-
-      module _ (few : v .n ≤ typeLimit) where
-        pub judge-short : room ≤ v .n → saidAsPaper s₃ ≡ judged base b index v room
-        judge-short h = unasked (ap₂ (λ (x y : Bool). x && y) (le-leb (v .n) typeLimit few) (le-ltb (v .n) room h))
-
-        pub judge-behind : v .n < room → {o : Option Answer} → o ≡ behindThird base b index v → o ≡ judged base b index v room
-        judge-behind enough e =
-            e
-            ∙ sym (ap (λ (z : Bool). cond z (behindThird base b index v) none)
-            (ap₂ (λ (x y : Bool). x && y) (le-leb (v .n) typeLimit few) (lt-ltb (v .n) room enough)))
-            ∙ by-third (ap saidAsPaper n₃)
+      pub judge-later : {r : Said} {places : ℕ} {work : List ℕ} → places ≡ room → LaterOf base b index v places r work → JudgeOf base b index v room r work
+      judge-later {r} same h =
+          record {
+            says = h .says ∙ ap (laterSays base b index v) same ∙ by-third (ap saidAsPaper n₃);
+            cleared = h .cleared ∙ ap zeros same;
+          }
 
 -- ── any two results that the contract allows are the same ──
 
@@ -149,6 +163,10 @@ said-one Nothing Nothing e = refl
 said-one Nothing (Says r) e = absurd (some≢none (sym e))
 said-one (Says r) Nothing e = absurd (some≢none e)
 said-one (Says r) (Says q) e = ap Says (report-one r q (some-one e))
+
+pub later-one : {base b index : List ℕ} {v : View} {room : ℕ} {r r′ : Said} {work work′ : List ℕ} → LaterOf base b index v room r work
+    → LaterOf base b index v room r′ work′ → (r ≡ r′) × (work ≡ work′)
+later-one {r = r} {r′ = r′} h k = (said-one r r′ (h .says ∙ sym (k .says)), h .cleared ∙ sym (k .cleared))
 
 pub judge-one : {base b index : List ℕ} {v : View} {room : ℕ} {r r′ : Said} {work work′ : List ℕ} → JudgeOf base b index v room r work
     → JudgeOf base b index v room r′ work′ → (r ≡ r′) × (work ≡ work′)

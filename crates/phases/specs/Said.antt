@@ -39,11 +39,20 @@ module _ (base b index : List ℕ) (v : View) where
   unfoldable pub behindThird : Option Answer
   behindThird = orElse (overShown phase4) (orElse (overShown phase5) (overShown phase6))
 
-  -- and phase 3 before them. Of more types than the limit, or than a work slice has places for, it alone speaks
-  unfoldable pub judged : ℕ → Option Answer
-  judged room = orElse (overShown (phase3By (stringsIn base) (stringsIn b))) (cond (leb (v .n) typeLimit && ltb (v .n) room) behindThird none)
+  -- of more types than the limit, or than a work slice has places for, nothing
+  unfoldable pub laterSays : ℕ → Option Answer
+  laterSays room = cond (leb (v .n) typeLimit && ltb (v .n) room) behindThird none
 
--- that, and a work slice that is all 0
+  -- and phase 3 before them
+  unfoldable pub judged : ℕ → Option Answer
+  judged room = orElse (overShown (phase3By (stringsIn base) (stringsIn b))) (laterSays room)
+
+-- phases 4 to 6, and a work slice that is all 0
+pub record LaterOf (base b index : List ℕ) (v : View) (room : ℕ) (r : Said) (work : List ℕ) : Type 0 where
+  pub says : saidAsPaper r ≡ laterSays base b index v room
+  pub cleared : work ≡ zeros room
+
+-- phases 3 to 6, and a work slice that is all 0
 pub record JudgeOf (base b index : List ℕ) (v : View) (room : ℕ) (r : Said) (work : List ℕ) : Type 0 where
   pub says : saidAsPaper r ≡ judged base b index v room
   pub cleared : work ≡ zeros room

@@ -14,17 +14,13 @@ ghost use lib.ListN.{length};
 ghost use mathlib.Core.Path.{_≡_};
 ghost use Prim.Native.Nat.{_<_, _≤_};
 ghost use Rattle.paper.specs.rules.Limits.{typeLimit};
-ghost use Rattle.phases.specs.Said.{JudgeOf, behindThird, saidAsPaper};
+ghost use Rattle.phases.specs.Said.{JudgeOf, LaterOf, behindThird, saidAsPaper};
 
-// What phases 4 to 6 say; the work slice may hold anything. Most good tables are told at a glance; of any other each phase speaks, and
-// phase 6 asks of the slice what phase 5 has left there.
+// What phases 4 to 6 say; the work slice may hold anything. Phase 6 asks of the slice what phase 5 has left there.
 fn behind<'a>(base: &'a [u8], b: &'a [u8], index: &[u32], view: View, work: &mut [u32]) -> Said
     requires { ⌜ (view .n ≤ typeLimit) × (view .n < length (now work)) ⌝ }
     ensures { λ r. ⌜ saidAsPaper r ≡ behindThird (now (base .entry)) (now (b .entry)) (now (index .entry)) view ⌝ }
 {
-    if glance(base, b, index, view, work) {
-        return Said::Nothing;
-    }
     match links(base, b, index, view, work) {
         Linked::Good => sixth(base, b, index, view, work),
         Linked::Reference(t) => Said::Says(Report::Reference(t, place_of(index, view, t))),
@@ -32,8 +28,27 @@ fn behind<'a>(base: &'a [u8], b: &'a [u8], index: &[u32], view: View, work: &mut
     }
 }
 
+// What phases 4 to 6 say, one after the other. Of more types than the limit, or than the work slice has places for, nothing. The work slice
+// ends all 0.
+pub fn later<'a>(base: &'a [u8], b: &'a [u8], index: &[u32], view: View, work: &mut [u32]) -> Said
+    ensures { λ r. ⌜ LaterOf (now (base .entry)) (now (b .entry)) (now (index .entry)) view (length (now (work .entry))) r (now (work .exit)) ⌝ }
+{
+    let n = view.n;
+    if TYPE_LIMIT < n {
+        clear(work);
+        return Said::Nothing;
+    }
+    if work.len() <= n as usize {
+        clear(work);
+        return Said::Nothing;
+    }
+    let said = behind(base, b, index, view, work);
+    clear(work); // what is remembered ends with phase 6
+    said
+}
+
 // What phases 3 to 6 say: the earliest speaks. Of more types than the limit, or than the work slice has places for, phase 3 alone speaks.
-// The work slice ends all 0.
+// The work slice ends all 0. Most good tables are told at a glance.
 pub fn judge<'a>(base: &'a [u8], b: &'a [u8], index: &[u32], view: View, work: &mut [u32]) -> Said
     ensures { λ r. ⌜ JudgeOf (now (base .entry)) (now (b .entry)) (now (index .entry)) view (length (now (work .entry))) r (now (work .exit)) ⌝ }
 {
@@ -45,16 +60,9 @@ pub fn judge<'a>(base: &'a [u8], b: &'a [u8], index: &[u32], view: View, work: &
             return heads;
         }
     }
-    let n = view.n;
-    if TYPE_LIMIT < n {
+    if glance(base, b, index, view, work) {
         clear(work);
-        return heads;
+        return Said::Nothing;
     }
-    if work.len() <= n as usize {
-        clear(work);
-        return heads;
-    }
-    let said = behind(base, b, index, view, work);
-    clear(work); // what is remembered ends with phase 6
-    said
+    later(base, b, index, view, work)
 }

@@ -19,15 +19,15 @@ use Rattle.rows.proofs.RoleCodes.{tailLength-few}
 
 module _ (order : Order) (s : List ℕ) where
   -- the parameters in so many words from a place on
-  abbrev parametersFrom : ℕ → ℕ → List Parameter
+  abbrev pub parametersFrom : ℕ → ℕ → List Parameter
   parametersFrom p n = parametersIn (wordsFrom order s p n)
 
-  parameters-few : (p n : ℕ) → n < 2 → parametersFrom p n ≡ []
+  pub parameters-few : (p n : ℕ) → n < 2 → parametersFrom p n ≡ []
   parameters-few p zero h = refl
   parameters-few p (suc zero) h = refl
   parameters-few p (suc (suc n)) h = absurd (omega arith)
 
-  parameters-first : (p n : ℕ)
+  pub parameters-first : (p n : ℕ)
       → parametersFrom p (suc (suc n)) ≡ record { name = wordAt order s p; type = wordAt order s (p + 4) } ∷ parametersFrom (p + 8) n
   parameters-first p n =
       let behind : p + 4 + 4 ≡ p + 8 = omega arith in

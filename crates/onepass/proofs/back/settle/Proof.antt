@@ -1,21 +1,27 @@
 -- `onepass::back::settle` meets its contract.
 -- Assumes nothing.
 use native.Mathlib.Omega.{arith}
-use mathlib.Core.Path.{refl}
-use Rattle.glance.proofs.Glances.{went-look}
-use Rattle.onepass.proofs.Backing.{indexed-record, indexed-tail}
+use mathlib.Core.Path.{refl, sym, _∙_}
+use borrow.Author.Tests.{not-false}
+use Rattle.glance.proofs.Glances.{went-look, went-settled}
+use Rattle.onepass.proofs.Backing.{indexed-record, indexed-tail, not-open}
 use borrow.Author.Needs.{needs}
 use Rattle.onepass.proofs.back.settle.Statement.{statement}
 use Rattle.onepass.proofs.back.settle.Tie as tie
 
-mul-if1 : tie.Need-mul-if1
-mul-if1 c = search needs
+mul-is-open : tie.Need-mul-is-open
+mul-is-open c = search needs
 
-slice-read-if1 : tie.Need-slice-read-if1
-slice-read-if1 c = search needs
+slice-read-is-open : tie.Need-slice-read-is-open
+slice-read-is-open c = search needs
+
+is-open-requires : tie.Need-is-open-requires
+is-open-requires c κs = search needs
 
 returns : tie.Need-returns
-returns c = search needs
+returns c =
+    let o = c .before in
+    went-settled _ _ (o .before .before .before .before .before .pre .1) (o .is-open .ensures) (c .if1 .taken)
 
 mul-place : tie.Need-mul-place
 mul-place c = search needs
@@ -24,7 +30,7 @@ shared-slice-read-place : tie.Need-shared-slice-read-place
 shared-slice-read-place c = search needs
 
 cast-rest-from : tie.Need-cast-rest-from
-cast-rest-from c = omega (arith, c .shared-slice-known3 .given (c .before .before .before .before .before .before .args .t))
+cast-rest-from c = omega (arith, c .shared-slice-known3 .given (c .before .before .before .before .before .before .before .args .t))
 
 rest-from-requires : tie.Need-rest-from-requires
 rest-from-requires c κs = search needs
@@ -37,6 +43,9 @@ same-length c = search needs
 
 returns-2 : tie.Need-returns-2
 returns-2 c = search needs
+
+is-open-requires-2 : tie.Need-is-open-requires-2
+is-open-requires-2 c κs = search needs
 
 same-length-2 : tie.Need-same-length-2
 same-length-2 c = search needs
@@ -55,24 +64,28 @@ same-length-3 c = search needs
 
 returns-4 : tie.Need-returns-4
 returns-4 c =
-    let l = c .before .before in
+    let q = c .before in
+    let l = q .before .before in
     let f = l .before .before in
     let i = f .before .before in
-    let start = i .before .before .before .before .before in
+    let o = i .before in
+    let start = o .before .before .before .before .before in
     let x = start .pre .0 in
     let t = start .args .t in
     let low = start .pre .3 in
     let high = start .pre .4 in
-    went-look _ _ (start .pre .1) low high (i .if1 .left) (indexed-tail x t low high)
-    (indexed-record x t low high refl (f .rest-from .ensures .bytes) (start .pre .2)) (l .look .ensures) (c .before .if2 .left)
-    (c .if3 .left)
+    let closed = not-open (q .is-open2 .ensures) (c .if3 .left) in
+    went-look _ _ (start .pre .1) low high (sym (o .is-open .ensures) ∙ not-false _ (i .if1 .left)) (indexed-tail x t low high)
+    (indexed-record x t low high refl (f .rest-from .ensures .bytes) (start .pre .2)) (l .look .ensures) (q .before .if2 .left) (closed .0)
+    (λ two. closed .1)
 
 pub settle-spec : {M : Type 1} → statement M
 settle-spec =
     tie.close
     (tie.spec
-    mul-if1
-    slice-read-if1
+    mul-is-open
+    slice-read-is-open
+    is-open-requires
     returns
     mul-place
     shared-slice-read-place
@@ -81,6 +94,7 @@ settle-spec =
     look-requires
     same-length
     returns-2
+    is-open-requires-2
     same-length-2
     returns-3
     mul-work

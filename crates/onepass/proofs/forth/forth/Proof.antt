@@ -77,38 +77,42 @@ same-length-4 c =
 returns-3 : tie.Need-returns-3 Inv-loop μ-loop
 returns-3 c = tt
 
-cast-unsettled : tie.Need-cast-unsettled Inv-loop μ-loop
-cast-unsettled c = search needs
+cast-is-open : tie.Need-cast-is-open Inv-loop μ-loop
+cast-is-open c = search needs
 
-mul-unsettled : tie.Need-mul-unsettled Inv-loop μ-loop
-mul-unsettled c = search needs
+mul-is-open : tie.Need-mul-is-open Inv-loop μ-loop
+mul-is-open c = search needs
 
-slice-read-unsettled : tie.Need-slice-read-unsettled Inv-loop μ-loop
-slice-read-unsettled c =
+slice-read-is-open : tie.Need-slice-read-is-open Inv-loop μ-loop
+slice-read-is-open c =
     let s = c .before .before .before .before .before .before in
     let i = s .before .before .before in
     let inv = i .before .before .loop .inv in
     omega (arith, s .step .kept .1 .1 .1 .1 .1 .1 .1 .1 .0, i .if2 .left, inv .work-kept, inv .most-work)
 
+is-open-requires : tie.Need-is-open-requires Inv-loop μ-loop
+is-open-requires c κs = search needs
+
 loop-less : tie.Need-loop-less Inv-loop μ-loop
 loop-less c =
-    let e = c .before in
+    let e = c .before .before in
     let s = e .before .before .before .before .before in
     let i = s .before .before .before in
     let l = i .before .before in
     let start = l .before .before .before .before .before .before .before .before .before in
     let more = i .before .loop-test .taken in
-    let further = passing-further (l .loop .inv) more (omega (arith, i .if2 .left)) (stepped-own (start .pre) (s .step .ensures) (e .if3 .left)) refl in
+    let further = passing-further (l .loop .inv) more (omega (arith, i .if2 .left)) (stepped-own (start .pre) (s .step .ensures) (e .if3 .left)) (c .is-open .ensures) refl in
     omega (arith, further, more)
 
 loop-again : tie.Need-loop-again Inv-loop μ-loop
 loop-again c =
-    let e = c .before in
+    let e = c .before .before in
     let s = e .before .before .before .before .before in
     let i = s .before .before .before in
     let l = i .before .before in
     let start = l .before .before .before .before .before .before .before .before .before in
-    passing-next (l .loop .inv) (i .before .loop-test .taken) (omega (arith, i .if2 .left)) (stepped-own (start .pre) (s .step .ensures) (e .if3 .left)) refl
+    passing-next (l .loop .inv) (i .before .loop-test .taken) (omega (arith, i .if2 .left)) (stepped-own (start .pre) (s .step .ensures) (e .if3 .left))
+    (c .is-open .ensures) refl
 
 same-length-5 : tie.Need-same-length-5 Inv-loop μ-loop
 same-length-5 c = c .before .before .loop .inv .index-kept
@@ -151,9 +155,10 @@ forth-spec =
     same-length-3
     same-length-4
     returns-3
-    cast-unsettled
-    mul-unsettled
-    slice-read-unsettled
+    cast-is-open
+    mul-is-open
+    slice-read-is-open
+    is-open-requires
     loop-less
     loop-again
     same-length-5

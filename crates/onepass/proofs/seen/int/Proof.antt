@@ -2,7 +2,7 @@
 -- Assumes nothing.
 use mathlib.Core.Logic.{inl}
 use mathlib.Core.Path.{refl}
-use Rattle.onepass.proofs.ByKind.{told-int}
+use Rattle.onepass.proofs.ByKind.{told-int, told-odd}
 use borrow.Author.Needs.{needs}
 use Rattle.onepass.proofs.seen.int.Statement.{statement}
 use Rattle.onepass.proofs.seen.int.Tie as tie
@@ -38,7 +38,19 @@ int-whole-requires : tie.Need-int-whole-requires
 int-whole-requires c κs = search needs
 
 returns-4 : tie.Need-returns-4
-returns-4 c = inl refl
+returns-4 c =
+    let x = c .before in
+    let g = x .before in
+    let k = g .before in
+    let h = k .before in
+    let n = h .before in
+    let i = n .before in
+    let t = i .before in
+    let r = t .before in
+    let z = r .before in
+    let w = z .before in
+    told-odd _ _ _ _ _ (w .before .before .before .before .before .pre) (w .read .ensures) (z .read2 .ensures) (r .read3 .ensures) (t .third-allowed .ensures)
+    (i .if1 .left) (n .inside .ensures) (h .if2 .left) (k .int-ok .ensures) (g .if3 .left)
 
 whole-int-requires : tie.Need-whole-int-requires
 whole-int-requires c κs = search needs

@@ -17,6 +17,9 @@ enum-told c = search needs
 look-requires : tie.Need-look-requires
 look-requires c κs = search needs
 
+told-or-open-requires : tie.Need-told-or-open-requires
+told-or-open-requires c κs = search needs
+
 enum-told-2 : tie.Need-enum-told-2
 enum-told-2 c = search needs
 
@@ -28,8 +31,9 @@ enum-told-4 c = search needs
 
 returns : tie.Need-returns
 returns c =
-    let e = c .before in
-    told-look _ _ _ _ _ (sym (ap dueAsPaper (e .enum-told .given .1)) ∙ e .before .before .phase3 .ensures) (c .look .ensures)
+    let l = c .before in
+    let e = l .before in
+    told-look _ _ _ _ _ (sym (ap dueAsPaper (e .enum-told .given .1)) ∙ e .before .before .phase3 .ensures) (l .look .ensures) (c .told-or-open .ensures)
 
 returns-2 : tie.Need-returns-2
 returns-2 c = inl refl
@@ -47,6 +51,7 @@ other-spec =
     phase3-requires
     enum-told
     look-requires
+    told-or-open-requires
     enum-told-2
     enum-told-3
     enum-told-4

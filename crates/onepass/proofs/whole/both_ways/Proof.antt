@@ -1,6 +1,6 @@
 -- `onepass::whole::both_ways` meets its contract.
 -- Assumes nothing.
-use Rattle.onepass.proofs.Backing.{settled-good, through-good}
+use Rattle.onepass.proofs.Backing.{settled-good, through-good, through-read}
 use Rattle.onepass.proofs.Ways.{ran-open, ran-settled, through-lengths}
 use borrow.Author.Needs.{needs}
 use Rattle.onepass.proofs.whole.both_ways.Statement.{statement}
@@ -73,7 +73,11 @@ same-length-8 : tie.Need-same-length-8
 same-length-8 c = search needs
 
 returns-4 : tie.Need-returns-4
-returns-4 c = search needs
+returns-4 c =
+    let k = c .before .before .before in
+    let n = k .before .before .before .before in
+    let f = n .before .before .before .before .before .before in
+    through-read (ran-open (f .forth .ensures) (n .n2 .given .1))
 
 pub both-ways-spec : {M : Type 1} → statement M
 both-ways-spec =
