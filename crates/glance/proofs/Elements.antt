@@ -9,7 +9,7 @@ use mathlib.Core.Logic.{_⊎_, inl, inr, ⊎-elim}
 use borrow.Author.Tests.{ne-eqb, not-false}
 use lib.Dec.{eqb}
 use lib.ListN.{getD}
-use Rattle.glance.specs.Glance.{whole, integer, integerAlias, enumerated, isSized, stateOf, Stated, elementOf, arraySize, waitingKinds, Looks, array}
+use Rattle.glance.specs.Glance.{whole, integer, integerAlias, enumerated, isSized, stateOf, Stated, elementTypeOf, arraySize, waitingKinds, Looks, array}
 use Rattle.paper.specs.declared.Order.{Order}
 use Rattle.paper.specs.rules.Choice.{member}
 use Rattle.paper.specs.rules.Kind.{rows, rowOf}
@@ -57,7 +57,7 @@ module _ (order : Order) (s : List ℕ) (work : List ℕ) where
       (k .1 ∙ ap (λ (z : ℕ). 16 * z + whole) size)))
       h
     where
-      state : x ≡ stateOf work (elementOf r)
+      state : x ≡ stateOf work (elementTypeOf r)
       state = of ∙ ap (stateOf work) (element-read order s kind element)
 
       size : n * (x / 16) ≡ arraySize work r

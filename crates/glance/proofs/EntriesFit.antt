@@ -7,7 +7,7 @@ use mathlib.Core.Bool.{Bool, true, false, not, _&&_, _||_}
 use mathlib.Core.List.{List}
 use borrow.Author.Tests.{eq-eqb, ne-eqb, not-false}
 use lib.Dec.{eqb, leb}
-use Rattle.glance.specs.Glance.{stored, other, stateOf, covers, entryFits, sectionFits, Looks, section}
+use Rattle.glance.specs.Glance.{stored, notPlain, stateOf, covers, entryFits, sectionFits, Looks, section}
 use Rattle.layout.proofs.EntriesLeft.{entriesFrom, entries-few, entries-first, or-true, place-taken}
 use Rattle.paper.proofs.basics.Choices.{and-left, and-right, and-true}
 use Rattle.paper.specs.declared.Order.{Order}
@@ -89,5 +89,5 @@ module _ {work : List ℕ} {r : Record} {order : Order} {s : List ℕ} {p left f
 -- ── the record ──
 
 pub looks-section : (order : Order) (s : List ℕ) (work : List ℕ) → kindOf (recordIn order s) ≡ DATASEC
-    → {x : Bool} → (x ≡ true → sectionFits work (recordIn order s) ≡ true) → not x ≡ false → Looks work (recordIn order s) other
+    → {x : Bool} → (x ≡ true → sectionFits work (recordIn order s) ≡ true) → not x ≡ false → Looks work (recordIn order s) notPlain
 looks-section order s work kind {x} fits good = section kind (fits (not-false x good)) refl

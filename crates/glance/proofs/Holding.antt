@@ -9,7 +9,7 @@ use mathlib.Core.Logic.{⊎-elim}
 use borrow.Author.Tests.{eqb-false}
 use lib.Dec.{eqb}
 use lib.ListN.{length, getD}
-use Rattle.glance.specs.Glance.{enumKinds, elementOf}
+use Rattle.glance.specs.Glance.{enumKinds, elementTypeOf}
 use Rattle.paper.proofs.basics.Choices.{or-false, false-or, member-each}
 use Rattle.paper.proofs.basics.Rows.{isHeld}
 use Rattle.paper.specs.rules.Chain.{stepTo, heldWord, heldIn}
@@ -97,7 +97,7 @@ held-first : (rule : RefRule) (ρs : List Role) (ws : List ℕ) (u : ℕ) → an
 held-first rule ρs [] u e m = absurd (List·Memᴰ·not-nil m)
 held-first rule ρs (w ∷ ws) u e m = stepTo-one w u (subst (λ (us : List ℕ). List·Memᴰ u (stepTo w us)) (unheld ρs ws e) m) .0
 
-pub holds-element : (r : Record) (u : ℕ) → kindOf r ≡ ARRAY → List·Memᴰ u (heldOf r) → u ≡ elementOf r
+pub holds-element : (r : Record) (u : ℕ) → kindOf r ≡ ARRAY → List·Memᴰ u (heldOf r) → u ≡ elementTypeOf r
 unfolding tailRoles rowOf rows
 holds-element r u e m =
     let v = vlenOf r in

@@ -8,7 +8,7 @@ use mathlib.Core.List.{List, [], _∷_, _++_, List·Memᴰ}
 use mathlib.Core.Logic.{_⊎_, inl, inr}
 use borrow.Author.Tests.{eqb-true, eqb-false, leb-true, leb-false}
 use lib.Dec.{eqb, leb}
-use Rattle.glance.specs.Glance.{integer, named, isSized, isOpen, Open, stateOf, memberFits, memberLies, entryFits, sectionFits, elementOf, indexOf}
+use Rattle.glance.specs.Glance.{integer, named, isSized, isOpen, Open, stateOf, memberFits, memberLies, entryFits, sectionFits, elementTypeOf, indexTypeOf}
 use Rattle.glance.specs.Glance.{enumKinds}
 use Rattle.glance.specs.Glance.{Looks, alias, pointer, int, float, enumeration, group, fields, array, variable, section, forward, prototype}
 use Rattle.glance.specs.Glance.{function, awaits}
@@ -104,11 +104,11 @@ module _ (T : Table) (work : List ℕ) (ends : (t : ℕ) → 1 ≤ t → t ≤ c
       ap (λ (f : ℕ). endsBy (8 * r .third) (spanOf T f m)) flag
       ∙ field-ends T (r .third) m (told-says (m .type) (field-told (stateOf work (m .type)) (fieldWidth m) (bitOffset 1 m) (r .third) ok)) ok
 
-  array-good : (r : Record) → isSized (stateOf work (elementOf r) % 16) ≡ true → stateOf work (indexOf r) % 16 ≡ integer → arrayOk T r ≡ true
+  array-good : (r : Record) → isSized (stateOf work (elementTypeOf r) % 16) ≡ true → stateOf work (indexTypeOf r) % 16 ≡ integer → arrayOk T r ≡ true
   unfolding arrayOk hasSize
   array-good r sized index =
-      let u = elementOf r in
-      let i = indexOf r in
+      let u = elementTypeOf r in
+      let i = indexTypeOf r in
       and-true (ap isSome (says-size sized (told-says u (sized-told (stateOf work u) sized))))
       (looks-integer (told-looks i (integer-told (stateOf work i) index)) index)
 

@@ -6,7 +6,7 @@ use mathlib.Core.Path.{_≡_, refl, sym, ap, _∙_}
 use mathlib.Core.Bool.{Bool, true, false, not, cond}
 use mathlib.Core.List.{List}
 use borrow.Author.Tests.{not-false}
-use Rattle.glance.specs.Glance.{unsized, named, other, waitingKinds, stateOf, behind, parameterSeen, Looks, prototype, function}
+use Rattle.glance.specs.Glance.{unsized, named, notPlain, waitingKinds, stateOf, behind, parameterSeen, Looks, prototype, function}
 use Rattle.glance.proofs.Parameters.{some-seen}
 use Rattle.paper.proofs.basics.Choices.{and-true}
 use Rattle.paper.specs.declared.Order.{Order}
@@ -67,5 +67,5 @@ module _ (order : Order) (s : List ℕ) (work : List ℕ) where
       prototype kind (λ z. n (d ∙ ap (behind work) (third-read order s refl third) ∙ z)) (seen (not-false x good))
       (ap (λ (b : Bool). cond b named unsized) (sym is ∙ names))
 
-  pub looks-function : kindOf r ≡ FUNC → {u v : ℕ} → u ≡ wordAt order s 8 → v ≡ stateOf work u → v ≡ named → Looks work r other
+  pub looks-function : kindOf r ≡ FUNC → {u v : ℕ} → u ≡ wordAt order s 8 → v ≡ stateOf work u → v ≡ named → Looks work r notPlain
   looks-function kind third d e = function kind (ap (stateOf work) (sym (third-read order s refl third)) ∙ sym d ∙ e) refl

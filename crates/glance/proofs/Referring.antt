@@ -8,7 +8,7 @@ use mathlib.Core.List.{List, [], _∷_, _++_}
 use lib.Dec.{eqb}
 use lib.ListN.{length, getD}
 use Rattle.glance.proofs.Holding.{rolesFor, memberRoles, group-tail, section-tail, proto-tail}
-use Rattle.glance.specs.Glance.{unsized, awaiting, isOpen, Open, stateOf, through, behind, memberFits, memberLies, entryFits, elementOf, indexOf}
+use Rattle.glance.specs.Glance.{unsized, awaiting, isOpen, Open, stateOf, through, behind, memberFits, memberLies, entryFits, elementTypeOf, indexTypeOf}
 use Rattle.glance.specs.Glance.{enumKinds}
 use Rattle.glance.specs.Glance.{Looks, alias, pointer, int, float, enumeration, group, fields, array, variable, section, forward, prototype}
 use Rattle.glance.specs.Glance.{function, awaits}
@@ -112,7 +112,7 @@ module _ (T : Table) where
   refs-members r e h =
       member-each (λ (k : ℕ). good (rolesFor k (vlenOf r)) (wordsOf r) ≡ true) (kindOf r) (STRUCT ∷ UNION ∷ []) e (h, (h, tt))
 
-  refs-array : (r : Record) → kindOf r ≡ ARRAY → refOk T plain (elementOf r) ≡ true → refOk T anInt (indexOf r) ≡ true → refsOk T r ≡ true
+  refs-array : (r : Record) → kindOf r ≡ ARRAY → refOk T plain (elementTypeOf r) ≡ true → refOk T anInt (indexTypeOf r) ≡ true → refsOk T r ≡ true
   unfolding refsOk tailRoles rowOf rows
   refs-array r e one two =
       let v = vlenOf r in
@@ -195,8 +195,8 @@ module _ (T : Table) where
         (λ m one. known (m .type) (sized-plain (stateOf work (m .type)) (field-sized (stateOf work (m .type)) (fieldWidth m) (bitOffset 1 m) (r .third) one)))
         (vlenOf r) (r .tail) (whole ∙ group-tail r k) h)
     record-refs r whole (array k sized index small e) ne =
-        refs-array r k (known (elementOf r) (sized-plain (stateOf work (elementOf r)) sized))
-        (int-known T (indexOf r) (looks-integer (looks (indexOf r) (integer-told (stateOf work (indexOf r)) index)) index))
+        refs-array r k (known (elementTypeOf r) (sized-plain (stateOf work (elementTypeOf r)) sized))
+        (int-known T (indexTypeOf r) (looks-integer (looks (indexTypeOf r) (integer-told (stateOf work (indexTypeOf r)) index)) index))
     record-refs r whole (variable k sized e) ne = refs-variable r k (known (r .third) (sized-plain (stateOf work (r .third)) sized))
     record-refs r whole (section k fit e) ne =
         refs-section r k

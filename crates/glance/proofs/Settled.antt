@@ -11,7 +11,7 @@ use lib.Dec.{eqb}
 use lib.ListN.{length, getD, set}
 use lib.Seq.{getD-set-other}
 use Rattle.glance.specs.Glance.{whole, unsized, awaiting, stored, isSized, isOpen, Open, sizeEnd, stateOf, through, behind, fits, memberFits}
-use Rattle.glance.specs.Glance.{fieldFits, memberLies, entryFits, elementOf, indexOf, enumKinds, waitingKinds}
+use Rattle.glance.specs.Glance.{fieldFits, memberLies, entryFits, elementTypeOf, indexTypeOf, enumKinds, waitingKinds}
 use Rattle.glance.specs.Glance.{Looks, alias, pointer, int, float, enumeration, group, fields, array, variable, section, forward, prototype}
 use Rattle.glance.specs.Glance.{function, awaits}
 use Rattle.glance.proofs.Lists.{every-imp}
@@ -115,7 +115,7 @@ held-settled T work t u whole (fields k f h o small e) ne m z =
     (whole ∙ group-tail r k) h (subst (List·Memᴰ u) (holds-members r k) m)
 held-settled T work t u whole (array k sized index small e) ne m z =
     let r = recordAt T t in
-    sized-told (stateOf work (elementOf r)) sized (ap (λ (x : ℕ). isOpen (stateOf work x)) (sym (holds-element r u k m)) ∙ z)
+    sized-told (stateOf work (elementTypeOf r)) sized (ap (λ (x : ℕ). isOpen (stateOf work x)) (sym (holds-element r u k m)) ∙ z)
 held-settled T work t u whole (variable k sized e) ne m z =
     let r = recordAt T t in
     sized-told (stateOf work (r .third)) sized (ap (λ (x : ℕ). isOpen (stateOf work x)) (sym (holds-variable r u k m)) ∙ z)
@@ -201,8 +201,8 @@ module _ (work : List ℕ) (i v : ℕ) (room : i < length work) (untold : Open (
       (told-later (m .type) (field-told (stateOf work (m .type)) (fieldWidth m) (bitOffset 1 m) (r .third) one)) ∙ one in
       fields k f (every-imp (memberLies work r) (memberLies (set work i v) r) same (membersOf r) h) o small e
   looks-later {r} (array k sized index small e) ne =
-      let element = told-later (elementOf r) (sized-told (stateOf work (elementOf r)) sized) in
-      let by = told-later (indexOf r) (integer-told (stateOf work (indexOf r)) index) in
+      let element = told-later (elementTypeOf r) (sized-told (stateOf work (elementTypeOf r)) sized) in
+      let by = told-later (indexTypeOf r) (integer-told (stateOf work (indexTypeOf r)) index) in
       let size = ap (λ (s : ℕ). getD (r .tail) 2 0 * (s / 16)) element in
       array k (ap (λ (s : ℕ). isSized (s % 16)) element ∙ sized) (ap (λ (s : ℕ). s % 16) by ∙ index) (subst (λ (z : ℕ). z < sizeEnd) (sym size) small)
       (e ∙ ap (λ (z : ℕ). 16 * z + whole) (sym size))

@@ -12,7 +12,7 @@ use lib.ListN.{getD}
 use Rattle.glance.proofs.Opens.{sized-told}
 use Rattle.glance.proofs.Parameters.{proto-cases}
 use Rattle.glance.specs.Glance.{whole, integer, unsized, integerAlias, isInteger, named, enumerated, isBytes, stored, isSized, isOpen, stateOf}
-use Rattle.glance.specs.Glance.{through, elementOf, sizeEnd, enumKinds}
+use Rattle.glance.specs.Glance.{through, elementTypeOf, sizeEnd, enumKinds}
 use Rattle.glance.specs.Glance.{Looks, alias, pointer, int, float, enumeration, group, fields, array, variable, section, forward, prototype}
 use Rattle.glance.specs.Glance.{function, awaits}
 use Rattle.paper.proofs.basics.Choices.{and-true, member-each}
@@ -180,7 +180,7 @@ module _ (T : Table) (t : ℕ) (low : 1 ≤ t) (ends : Ends T t) where
       says-whole (member-each (λ (k : ℕ). member k wholeKinds ≡ true) (kindOf r) (STRUCT ∷ UNION ∷ []) k (refl, (refl, tt))) small whole refl (omega arith)
       (λ z. absurd (omega arith))
 
-  says-array : kindOf r ≡ ARRAY → {z : ℕ} → exactSize T (elementOf r) ≡ some z → getD (r .tail) 2 0 * z < sizeEnd
+  says-array : kindOf r ≡ ARRAY → {z : ℕ} → exactSize T (elementTypeOf r) ≡ some z → getD (r .tail) 2 0 * z < sizeEnd
       → Says T t (16 * (getD (r .tail) 2 0 * z) + whole)
   unfolding rowOf rows
   says-array k {z} size small =
@@ -204,7 +204,7 @@ module _ (T : Table) (t : ℕ) (low : 1 ≤ t) (ends : Ends T t) where
       let step = ap stepOf k in
       subst (λ (s : Step). List·Memᴰ (goesTo s) (heldBy T t)) step (goes-held T t (λ z. ne (sym (ap goesTo step) ∙ z)))
 
-  element-held : kindOf r ≡ ARRAY → (elementOf r ≡ 0 → ⊥) → List·Memᴰ (elementOf r) (heldBy T t)
+  element-held : kindOf r ≡ ARRAY → (elementTypeOf r ≡ 0 → ⊥) → List·Memᴰ (elementTypeOf r) (heldBy T t)
   unfolding rowOf rows
   element-held k ne = goes k ne
 
@@ -229,7 +229,7 @@ module _ (T : Table) (t : ℕ) (low : 1 ≤ t) (ends : Ends T t) where
   says-look work void before (group k f h o small e) = subst (Says T t) (sym e) (says-group k small)
   says-look work void before (fields k f h o small e) = subst (Says T t) (sym e) (says-group k small)
   says-look work void before (array k sized index small e) =
-      let u = elementOf r in
+      let u = elementTypeOf r in
       let held = element-held k (λ z. sized-told (stateOf work u) sized (ap (λ (x : ℕ). isOpen (stateOf work x)) z ∙ ap isOpen void)) in
       subst (Says T t) (sym e) (says-array k (says-size sized (before u held)) small)
   says-look work void before (variable k sized e) =

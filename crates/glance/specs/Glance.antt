@@ -54,8 +54,8 @@ abbrev pub stored : ℕ
 stored = 9
 
 -- any other type's that is not plain
-abbrev pub other : ℕ
-other = 10
+abbrev pub notPlain : ℕ
+notPlain = 10
 
 -- classes of types that have a size and are plain
 abbrev pub isSized : ℕ → Bool
@@ -122,15 +122,15 @@ abbrev pub enumKinds : List ℕ
 enumKinds = ENUM ∷ ENUM64 ∷ []
 
 -- an ARRAY's element and index
-abbrev pub elementOf : Record → ℕ
-elementOf r = getD (r .tail) 0 0
+abbrev pub elementTypeOf : Record → ℕ
+elementTypeOf r = getD (r .tail) 0 0
 
-abbrev pub indexOf : Record → ℕ
-indexOf r = getD (r .tail) 1 0
+abbrev pub indexTypeOf : Record → ℕ
+indexTypeOf r = getD (r .tail) 1 0
 
 -- and its size, by its element's
 abbrev pub arraySize : List ℕ → Record → ℕ
-arraySize work r = getD (r .tail) 2 0 * (stateOf work (elementOf r) / 16)
+arraySize work r = getD (r .tail) 2 0 * (stateOf work (elementTypeOf r) / 16)
 
 -- an entry is at least as large as its variable
 abbrev pub covers : ℕ → ℕ → Bool
@@ -162,14 +162,14 @@ pub data Looks (work : List ℕ) (r : Record) (s : ℕ) : Type 0 where
       → r .third < sizeEnd → s ≡ 16 * r .third + whole → Looks work r s
   fields : member (kindOf r) (STRUCT ∷ UNION ∷ []) ≡ true → flagOf r ≡ 1 → every (memberLies work r) (membersOf r) ≡ true → offsetsOk r ≡ true
       → r .third < sizeEnd → s ≡ 16 * r .third + whole → Looks work r s
-  array : kindOf r ≡ ARRAY → isSized (stateOf work (elementOf r) % 16) ≡ true → stateOf work (indexOf r) % 16 ≡ integer → arraySize work r < sizeEnd
+  array : kindOf r ≡ ARRAY → isSized (stateOf work (elementTypeOf r) % 16) ≡ true → stateOf work (indexTypeOf r) % 16 ≡ integer → arraySize work r < sizeEnd
       → s ≡ 16 * arraySize work r + whole → Looks work r s
   variable : kindOf r ≡ VAR → isSized (stateOf work (r .third) % 16) ≡ true → s ≡ 16 * (stateOf work (r .third) / 16) + stored → Looks work r s
-  section : kindOf r ≡ DATASEC → sectionFits work r ≡ true → s ≡ other → Looks work r s
+  section : kindOf r ≡ DATASEC → sectionFits work r ≡ true → s ≡ notPlain → Looks work r s
   forward : kindOf r ≡ FWD → s ≡ unsized → Looks work r s
   prototype : kindOf r ≡ FUNC-PROTO → (behind work (r .third) ≡ 0 → ⊥) → every (parameterSeen work) (parametersOf r) ≡ true
       → s ≡ cond (allNamed (parametersOf r)) named unsized → Looks work r s
-  function : kindOf r ≡ FUNC → stateOf work (r .third) ≡ named → s ≡ other → Looks work r s
+  function : kindOf r ≡ FUNC → stateOf work (r .third) ≡ named → s ≡ notPlain → Looks work r s
   awaits : member (kindOf r) waitingKinds ≡ true → s ≡ awaiting → Looks work r s
 
 -- a record of a kind that is not looked at, told from one that is still open

@@ -58,7 +58,7 @@ pub(crate) const ENUMERATED: u32 = 8;
 pub(crate) const STORED: u32 = 9;
 
 // Any other type's that is not plain.
-pub(crate) const OTHER: u32 = 10;
+pub(crate) const NOT_PLAIN: u32 = 10;
 
 // That of eight whole bytes.
 pub const POINTER: u32 = 129;

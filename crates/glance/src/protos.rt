@@ -1,7 +1,7 @@
 // One look at a FUNC_PROTO, or at a FUNC.
 use crate::looks::AWAITING;
 use crate::looks::NAMED;
-use crate::looks::OTHER;
+use crate::looks::NOT_PLAIN;
 use crate::looks::UNSIZED;
 use crate::looks::behind_of;
 use crate::looks::state_of;
@@ -61,5 +61,5 @@ pub(crate) fn function(order: Order, bytes: &[u8], work: &[u32]) -> u32
     if state_of(work, words::read(order, bytes, Place(8))) != NAMED {
         return 0;
     }
-    OTHER
+    NOT_PLAIN
 }

@@ -1,6 +1,6 @@
 // One look at a VAR, or at a DATASEC.
 use crate::arrays::is_sized;
-use crate::looks::OTHER;
+use crate::looks::NOT_PLAIN;
 use crate::looks::STORED;
 use crate::looks::state_of;
 use layout::placed;
@@ -73,5 +73,5 @@ pub(crate) fn section(order: Order, bytes: &[u8], work: &[u32]) -> u32
     if !entries_fit(order, bytes, work) {
         return 0;
     }
-    OTHER
+    NOT_PLAIN
 }

@@ -4,8 +4,7 @@ use Prim.Native.Nat.{ℕ, zero, suc, _-_, _≤_, _<_}
 use native.Mathlib.Omega.{arith}
 use mathlib.Core.Path.{_≡_, refl, sym, ap, subst, _∙_}
 use mathlib.Core.Bool.{Bool, true, false, false≢true}
-use mathlib.Core.List.{List, [], _++_}
-use mathlib.Core.Logic.{_⊎_, inl, inr, ⊎-elim}
+use mathlib.Core.List.{List, []}
 use borrow.Author.Tests.{eqb-true, eqb-false, not-false}
 use lib.Dec.{eqb}
 use lib.ListN.{drop, getD, length}
@@ -24,7 +23,7 @@ use Rattle.paper.proofs.gates.Acceptance.{readable-walk}
 use Rattle.paper.specs.declared.Order.{Order}
 use Rattle.paper.specs.rules.Header.{orderOf, stringsIn}
 use Rattle.paper.specs.rules.Names.{namesOk}
-use Rattle.paper.specs.rules.Table.{Record, Table, count, recordAt, tailLength}
+use Rattle.paper.specs.rules.Table.{Table, count, recordAt, tailLength}
 use Rattle.paper.specs.rules.Walk.{tableOf}
 use Rattle.paper.specs.terms.Good.{SoundAt}
 use Rattle.paper.specs.terms.Reading.{recordIn}

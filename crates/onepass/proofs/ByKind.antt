@@ -1,10 +1,10 @@
 -- Laws of a record that one pass tells, kind by kind: nothing is due of it, and what its type has for a state.
 -- Assumes nothing.
-use Prim.Native.Nat.{ℕ, _+_, _*_, _/_}
+use Prim.Native.Nat.{ℕ, _+_, _/_}
 use native.Mathlib.Numerals.{add-one}
 use native.Mathlib.Omega.{arith}
 use mathlib.Core.Path.{_≡_, refl, sym, ap, subst, _∙_}
-use mathlib.Core.Bool.{Bool, true, false, not, _&&_}
+use mathlib.Core.Bool.{Bool, true, false, not}
 use mathlib.Core.List.{List, [], _∷_}
 use mathlib.Core.Logic.{_⊎_, inl, inr, ⊎-elim}
 use mathlib.Core.Option.{none}
@@ -41,7 +41,14 @@ module _ (order : Order) (base strings work s : List ℕ) where
   pub told-look : none ≡ firstDue (rulesOf base strings (recordIn order s)) → {v : ℕ} → Glimpsed work (recordIn order s) v
       → {r : ℕ} → (r ≡ 0) ⊎ ((v ≡ strange → ⊥) × (r ≡ v)) → Tells order base strings work s r
   told-look quiet {v} g {r} told =
-      inr (record { quiet = quiet; looks = ⊎-elim (λ e. inl e) (λ h. ⊎-elim (λ e. inl (h .1 ∙ e)) (λ k. ⊎-elim (λ e. absurd (h .0 e)) (λ l. inr (seen h l)) k) g) told })
+      inr
+      (record {
+        quiet = quiet;
+        looks =
+            ⊎-elim (λ e. inl e)
+            (λ h. ⊎-elim (λ e. inl (h .1 ∙ e)) (λ k. ⊎-elim (λ e. absurd (h .0 e)) (λ l. inr (seen h l)) k) g)
+            told;
+      })
     where
       seen : (v ≡ strange → ⊥) × (r ≡ v) → Looks work (recordIn order s) v → Looks work (recordIn order s) r
       seen h l = subst (Looks work (recordIn order s)) (sym (h .1)) l

@@ -1,9 +1,8 @@
 -- What the pass from the first record to the last asks and answers.
-use Prim.Native.Nat.{ℕ, _+_, _*_, _≤_, _<_}
+use Prim.Native.Nat.{ℕ, _+_, _*_, _≤_}
 use mathlib.Core.Path.{_≡_}
 use mathlib.Core.Bool.{true}
 use mathlib.Core.List.{List, []}
-use mathlib.Core.Logic.{_⊎_}
 use mathlib.Core.Option.{none}
 use lib.ListN.{length, set}
 use Rattle.glance.specs.Glance.{All, Glancing, strange}

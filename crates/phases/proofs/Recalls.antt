@@ -3,16 +3,15 @@
 use Prim.Native.Nat.{ℕ, zero, suc, _+_, _≤_, _<_}
 use mathlib.Core.Path.{_≡_, refl, sym, ap, ap₂, _∙_, subst}
 use mathlib.Core.Bool.{Bool, true, false, not, cond, _&&_}
-use mathlib.Core.List.{List, [], _∷_, List·Memᴰ}
+use mathlib.Core.List.{List, [], _∷_}
 use mathlib.Core.Logic.{inl, inr}
 use mathlib.Core.Option.{Option, none, some}
 use native.Mathlib.Omega.{arith}
 use borrow.Author.Tests.{eqb-true, eqb-false, le-leb, lt-ltb, not-false}
-use lib.Dec.{eqb, leb, ltb}
-use lib.ListN.{length, getD, drop}
+use lib.Dec.{eqb, leb}
+use lib.ListN.{drop}
 use Rattle.layout.proofs.Telling.{Right, layout-same}
-use Rattle.layout.specs.Told.{Recalled}
-use Rattle.links.specs.Links.{searched, linksSay, LinksOf, remainsAt}
+use Rattle.links.specs.Links.{searched, linksSay, LinksOf}
 use Rattle.links.specs.Search.{done, markAt}
 use Rattle.links.specs.declared.whole.Linked.the-variants.{Good}
 use Rattle.paper.proofs.bytes.Bytes.{below-drop}
@@ -22,8 +21,8 @@ use Rattle.paper.proofs.walks.Chains.{ends-held}
 use Rattle.paper.proofs.walks.Insides.{held-inside}
 use Rattle.paper.specs.declared.Order.{Order}
 use Rattle.paper.specs.rules.Answer.{Answer}
-use Rattle.paper.specs.rules.Chain.{heldBy, endless}
-use Rattle.paper.specs.rules.Choice.{Rule, _when_, orElse}
+use Rattle.paper.specs.rules.Chain.{endless}
+use Rattle.paper.specs.rules.Choice.{_when_, orElse}
 use Rattle.paper.specs.rules.Gate.{firstOf, overTypes, phase4, phase5, phase6}
 use Rattle.paper.specs.rules.Layout.{layoutBad}
 use Rattle.paper.specs.rules.Limits.{typeLimit}
@@ -38,7 +37,7 @@ use Rattle.recall.proofs.Everywhere.{Inside, base-everywhere, size-everywhere, 
 use Rattle.recall.proofs.Lines.{OrVoid}
 use Rattle.recall.proofs.Recalling.{Kept}
 use Rattle.recall.proofs.Steps.{goes-held}
-use Rattle.recall.specs.Recall.{firstTelling, told, goesTo, codeAt}
+use Rattle.recall.specs.Recall.{told, goesTo, codeAt}
 use Rattle.views.proofs.Shows.{tableBy-count, bytesBy-record}
 use Rattle.views.specs.Shown.{placeBy, tableBy, bytesBy, startIn, holder}
 use Rattle.views.specs.declared.View.{View}

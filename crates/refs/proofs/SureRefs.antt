@@ -7,11 +7,11 @@ use mathlib.Core.Bool.{Bool, true, false, not, _&&_}
 use mathlib.Core.List.{List, [], _∷_}
 use lib.ListN.{length}
 use types.Run.{OneOf}
-use Rattle.paper.proofs.basics.Choices.{Each, and-nothing, member-each}
+use Rattle.paper.proofs.basics.Choices.{and-nothing, member-each}
 use Rattle.paper.proofs.bytes.Reading.{everyWord-recordIn}
 use Rattle.paper.specs.declared.Order.{Order}
 use Rattle.paper.specs.rules.Choice.{times}
-use Rattle.paper.specs.rules.Kind.{Row, Role, names, number, plain, voidOrPlain, rowOf, rows}
+use Rattle.paper.specs.rules.Kind.{Role, names, number, plain, voidOrPlain, rowOf, rows}
 use Rattle.paper.specs.rules.KindNo.{STRUCT}
 use Rattle.paper.specs.rules.References.{refOk, refWordOk, refsOk}
 use Rattle.paper.specs.rules.Table.{Table, kindAt, kindIn, vlenIn}

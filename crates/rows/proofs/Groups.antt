@@ -4,13 +4,13 @@ use Prim.Native.Nat.{ℕ, _/_}
 use native.Mathlib.Omega.{arith}
 use mathlib.Core.Path.{_≡_, refl, ap}
 use mathlib.Core.Bool.{true}
-use mathlib.Core.List.{List, [], _∷_}
+use mathlib.Core.List.{[], _∷_}
 use mathlib.Core.Logic.{_⊎_, inl, inr, ⊎-elim}
 use borrow.Author.Tests.{eq-eqb}
-use Rattle.paper.proofs.basics.Choices.{Each, and-true, member-each}
+use Rattle.paper.proofs.basics.Choices.{and-true, member-each}
 use Rattle.paper.specs.rules.Choice.{member}
 use Rattle.paper.specs.rules.Heads.{spareZero}
-use Rattle.paper.specs.rules.Kind.{Row, rowOf, rows}
+use Rattle.paper.specs.rules.Kind.{rowOf, rows}
 use Rattle.paper.specs.rules.KindNo.{STRUCT, UNION}
 use Rattle.paper.specs.rules.Table.{bits, kindIn}
 

@@ -1,6 +1,5 @@
 -- `onepass::forth::extent_of` meets its contract.
 -- Assumes nothing.
-use mathlib.Core.Bool.{true, not}
 use mathlib.Core.Logic.{inl, inr}
 use mathlib.Core.Path.{refl, sym, ap, _∙_}
 use native.Mathlib.Omega.{arith}
@@ -33,7 +32,10 @@ add-result c = omega (arith, c .tail-words .ensures, tailLength-few (c .before .
 returns-2 : tie.Need-returns-2
 returns-2 c =
     let k = c .before .before in
-    inr (sym (k .is-known .ensures ∙ ap known (k .before .kind-of .ensures)) ∙ not-false _ (c .before .if1 .left), ap (λ (n : ℕ). 12 + 4 * n) (c .tail-words .ensures))
+    inr (
+      sym (k .is-known .ensures ∙ ap known (k .before .kind-of .ensures)) ∙ not-false _ (c .before .if1 .left),
+      ap (λ (n : ℕ). 12 + 4 * n) (c .tail-words .ensures),
+    )
 
 pub extent-of-spec : {M : Type 1} → statement M
 extent-of-spec =

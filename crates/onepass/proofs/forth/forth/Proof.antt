@@ -1,10 +1,9 @@
 -- `onepass::forth::forth` meets its contract. The loop's invariant: `Passing`.
 -- Assumes nothing.
-use Prim.Native.Nat.{_+_, _-_}
+use Prim.Native.Nat.{_-_}
 use mathlib.Core.Path.{refl, _∙_}
 use native.Mathlib.Omega.{arith}
 use lib.ListN.{length}
-use denote.Ref.{now}
 use Rattle.onepass.proofs.Passing.{Passing, passing-start, stepped-own, passing-further, passing-next, passing-done, passing-all}
 use borrow.Author.Needs.{needs}
 use Rattle.onepass.proofs.forth.forth.Statement.{statement}
@@ -101,7 +100,8 @@ loop-less c =
     let l = i .before .before in
     let start = l .before .before .before .before .before .before .before .before .before in
     let more = i .before .loop-test .taken in
-    let further = passing-further (l .loop .inv) more (omega (arith, i .if2 .left)) (stepped-own (start .pre) (s .step .ensures) (e .if3 .left)) (c .is-open .ensures) refl in
+    let told = stepped-own (start .pre) (s .step .ensures) (e .if3 .left) in
+    let further = passing-further (l .loop .inv) more (omega (arith, i .if2 .left)) told (c .is-open .ensures) refl in
     omega (arith, further, more)
 
 loop-again : tie.Need-loop-again Inv-loop μ-loop
