@@ -167,7 +167,7 @@ join-one {j} {j′} h k =
 
 -- what a join in code hands back is what the paper's join of full size does
 module _ {a b out index left output : List ℕ} where
-  handed-full : (j : Joined) → JoinOf j a b fullPlaces fullPlaces out index left output → handedBack j output ≡ joinFull out a b
+  pub handed-full : (j : Joined) → JoinOf j a b fullPlaces fullPlaces out index left output → handedBack j output ≡ joinFull out a b
   unfolding joinFull joinedAsPaper
   handed-full j h =
       by-answer j

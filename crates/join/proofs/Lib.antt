@@ -1,3 +1,4 @@
 pub mod JoinedParts
 pub mod JoinAnswers
 pub mod Demands
+pub mod Bracketing

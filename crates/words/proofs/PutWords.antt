@@ -50,7 +50,7 @@ bytes-above : (order : Order) (x r : ℕ) → wordBytes order r ≡ wordBytes or
 bytes-above LowFirst x r = λ i. byte-first x r i ∷ byte-second x r i ∷ byte-third x r i ∷ byte-fourth x r i ∷ []
 bytes-above HighFirst x r = λ i. byte-fourth x r i ∷ byte-third x r i ∷ byte-second x r i ∷ byte-first x r i ∷ []
 
-wordBytes-cut : (order : Order) (w : ℕ) → wordBytes order (w % wordBound) ≡ wordBytes order w
+pub wordBytes-cut : (order : Order) (w : ℕ) → wordBytes order (w % wordBound) ≡ wordBytes order w
 wordBytes-cut order w =
     let whole : w / wordBound * wordBound + w % wordBound ≡ w = omega arith in
     bytes-above order (w / wordBound) (w % wordBound) ∙ ap (wordBytes order) whole

@@ -75,7 +75,7 @@ whole-append : (rs ss : List Record) → EveryWhole rs → EveryWhole ss → Eve
 whole-append [] ss p q = q
 whole-append (r ∷ rs) ss p q = (p .0, whole-append rs ss (p .1) q)
 
-whole-rename : (type name : ℕ → ℕ) (rs : List Record) → EveryWhole rs → EveryWhole (map (rename type name) rs)
+pub whole-rename : (type name : ℕ → ℕ) (rs : List Record) → EveryWhole rs → EveryWhole (map (rename type name) rs)
 unfolding rename
 whole-rename type name [] p = tt
 whole-rename type name (r ∷ rs) p = (

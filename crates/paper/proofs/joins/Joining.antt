@@ -2,22 +2,26 @@
 -- Assumes nothing.
 use Prim.Native.Nat.{ℕ, zero, suc, _+_, _-_, _≤_, _<_}
 use mathlib.Core.Path.{_≡_, refl, sym, ap, _∙_}
+use mathlib.Core.Bool.{Bool, true, false, false≢true}
 use mathlib.Core.List.{List, _++_, map}
+use mathlib.Core.Logic.{⊎-elim}
 use native.Mathlib.Nat.{suc-add, add-comm}
 use native.Mathlib.Omega.{arith}
 use lib.ListN.{length, getD, drop, length-append, length-drop, length-map, List·getD-append, List·getD-map}
 use lib.Seq.{getD-append-add}
 use Rattle.paper.proofs.bytes.Sections.{whole-at}
-use Rattle.paper.proofs.walks.Chains.{endless-rename}
-use Rattle.paper.proofs.walks.Insides.{sound-refs, sound-ends, sound-inside}
+use Rattle.paper.proofs.walks.Chains.{ends-held, ends-pointed, held-walks-rename, pointed-walks-rename, endless-rename}
+use Rattle.paper.proofs.walks.Endless.{chain-walks}
+use Rattle.paper.proofs.walks.Insides.{sound-refs, sound-ends, sound-inside, chain-at}
 use Rattle.paper.proofs.renaming.Names.{nameIn-append, nameIn-behind, nameIn-zero}
 use Rattle.paper.proofs.renaming.Rename.{raise-eqb, rename-id, rename-nothing}
-use Rattle.paper.proofs.renaming.Renaming.{Renaming, headOk-rename, namesOk-rename, refsOk-rename}
+use Rattle.paper.proofs.renaming.Renaming.{Renaming, Inside, headOk-rename, namesOk-rename, refsOk-rename}
 use Rattle.paper.proofs.renaming.RenamingLayout.{layoutOk-rename}
 use Rattle.paper.proofs.renaming.RenamingSizes.{exactSize-rename}
 use Rattle.paper.proofs.renaming.RenamingTails.{tailOk-rename}
 use Rattle.paper.specs.terms.Fit.{Whole}
-use Rattle.paper.specs.terms.Good.{Closed, SoundAt, Good}
+use Rattle.paper.specs.terms.Good.{Closed, SoundAt, Sound, Good}
+use Rattle.paper.specs.rules.Chain.{heldBy, pointedBy, Chain, endless}
 use Rattle.paper.specs.rules.Heads.{headOk}
 use Rattle.paper.specs.rules.Join.{raised, joinTables}
 use Rattle.paper.specs.rules.Layout.{layoutOk}
@@ -56,6 +60,45 @@ module _ {A B : Table} {type name : ℕ → ℕ} (R : Renaming A B type name) (g
 
   pub size-rename : (t : ℕ) → t ≤ count A → exactSize B (type t) ≡ exactSize A t
   size-rename = exactSize-rename R (sound-refs (g .sound)) (sound-ends (g .sound))
+
+-- ── and the way back: a table whose words all point inside it is judged as its renamed table is ──
+
+module _ {A B : Table} {type name : ℕ → ℕ} (R : Renaming A B type name) (in-A : (t : ℕ) → t ≤ count A → Inside A (recordAt A t)) where
+  -- what is said of a record by itself, and of what it refers to
+  refs-back : (t : ℕ) → t ≤ count A → refsOk B (recordAt B (type t)) ≡ true → refsOk A (recordAt A t) ≡ true
+  refs-back t high ok = sym (ap (refsOk B) (R .same-record t high) ∙ refsOk-rename R (recordAt A t) (in-A t high)) ∙ ok
+
+  -- a walk of n steps among n types goes on for ever, and so does its renamed one
+  endless-back : ((t : ℕ) → 1 ≤ t → t ≤ count A → refsOk A (recordAt A t) ≡ true)
+      → (t : ℕ) → 1 ≤ t → t ≤ count A → endless B (type t) ≡ false → endless A t ≡ false
+  endless-back refs t low high ends = go (endless A t) refl
+    where
+      go : (e : Bool) → endless A t ≡ e → e ≡ false
+      go false e = refl
+      go true e =
+          absurd (⊎-elim
+          (λ (c : Chain (heldBy A) t). false≢true (sym (ends-held B (type t) ends) ∙ held-walks-rename R in-A (count B) t high ∙ chain-walks c (count B)))
+          (λ (c : Chain (pointedBy A) t).
+          false≢true (sym (ends-pointed B (type t) ends) ∙ pointed-walks-rename R in-A (count B) t high ∙ chain-walks c (count B)))
+          (chain-at A refs t low high e))
+
+  module _ (whole : (t : ℕ) → 1 ≤ t → t ≤ count A → Whole (recordAt A t)) (s : (t : ℕ) → 1 ≤ t → t ≤ count A → SoundAt B (type t)) where
+    pub sound-back : Sound A
+    sound-back t low high =
+        let r = recordAt A t in
+        let e = R .same-record t high in
+        let refs : (u : ℕ) → 1 ≤ u → u ≤ count A → refsOk A (recordAt A u) ≡ true = λ u l h. refs-back u h (s u l h .refs) in
+        let ends : (u : ℕ) → 1 ≤ u → u ≤ count A → endless A u ≡ false = λ u l h. endless-back refs u l h (s u l h .ends) in
+        record {
+          heads = sym (ap headOk e ∙ headOk-rename type name r) ∙ s t low high .heads;
+          names = sym (ap (namesOk (B .strings)) e ∙ namesOk-rename R r (in-A t high)) ∙ s t low high .names;
+          tails = sym (ap tailOk e ∙ tailOk-rename R r (whole t low high)) ∙ s t low high .tails;
+          refs = refs t low high;
+          ends = ends t low high;
+          layouts =
+              sym (ap (layoutOk B) e ∙ layoutOk-rename R refs ends in-A whole r (refs t low high) (in-A t high) (whole t low high))
+              ∙ s t low high .layouts;
+        }
 
 -- ── the two renamings of a join ──
 

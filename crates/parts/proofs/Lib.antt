@@ -1,0 +1,6 @@
+pub mod Lowering
+pub mod Cutting
+pub mod Rejoining
+pub mod Cuts
+pub mod Refusals
+pub mod Bracketing
