@@ -1,30 +1,15 @@
 // The joined blob is written: "the header, the first's records, the second's as demand 3 raises them, the first's strings,
 // the second's strings without their first byte". Its words are in the order of both.
 use paper::NameOff;
-use paper::Order;
 use paper::Place;
 use paper::TypeNo;
 use shift::Shift;
+use shift::put_header;
 use shift::raise_records;
 ghost use mathlib.Core.Path.{_≡_};
-ghost use mathlib.Core.List.{[], _∷_, _++_};
-ghost use Prim.Native.Nat.{_≤_};
-ghost use lib.ListN.{length, take};
+ghost use lib.ListN.{length};
 ghost use Rattle.join.specs.Joins.{WriteAsk};
 ghost use Rattle.paper.specs.rules.Join.{joinedBytes};
-ghost use Rattle.paper.specs.terms.Put.{put};
-ghost use Rattle.paper.specs.rules.Word.{bytesOfWords};
-
-// The header is the first's but for its last three words, the lengths of the sections.
-fn write_header(order: Order, a: &[u8], types: u32, strings: u32, out: &mut [u8])
-    requires { ⌜ (24 ≤ length (now a)) × (24 ≤ length (now out)) ⌝ }
-    ensures { λ r. ⌜ now (out .exit) ≡ put (now (out .entry)) 0 (take 12 (now (a .entry)) ++ bytesOfWords order (types ∷ types ∷ strings ∷ [])) ⌝ }
-{
-    words::lay(out, 0, &a[..12]);
-    words::write(order, out, Place(12), types);
-    words::write(order, out, Place(16), types);
-    words::write(order, out, Place(20), strings);
-}
 
 // Into an output of just that length, each part behind the one before.
 pub(crate) fn write(a: &[u8], b: &[u8], n: u32, m: u32, out: &mut [u8])
@@ -38,7 +23,7 @@ pub(crate) fn write(a: &[u8], b: &[u8], n: u32, m: u32, out: &mut [u8])
     let second_strings = words::blob_word(b, Place(20));
     let types = first + second;
     let strings = first_strings + (second_strings - 1);
-    write_header(order, a, types, strings, out);
+    put_header(order, a, types, strings, out);
     let end = 24 + first as usize;
     words::lay(out, 24, &a[24..end]);
     let names = first_strings - 1;

@@ -1,3 +1,4 @@
 pub mod RaisedWords
 pub mod Entries
 pub mod RaisedRecords
+pub mod MadeHeaders

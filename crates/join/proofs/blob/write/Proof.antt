@@ -1,11 +1,12 @@
 -- `join::blob::write` meets its contract: each part is put behind the one before.
 -- Assumes nothing.
 use Prim.Native.Nat.{ℕ, _+_, _-_}
-use mathlib.Core.Path.{refl, ap, ap₂}
+use mathlib.Core.Path.{refl, sym, ap, ap₂, _∙_}
 use native.Mathlib.Omega.{arith}
 use denote.Ref.{now}
 use lib.ListN.{length}
 use Rattle.join.proofs.JoinedParts.{Lengths, write-lengths, write-parts}
+use Rattle.shift.proofs.MadeHeaders.{header-put}
 use borrow.Author.Needs.{needs}
 use Rattle.join.proofs.blob.write.Statement.{statement}
 use Rattle.join.proofs.blob.write.Tie as tie
@@ -43,8 +44,8 @@ sub-strings c = let l = lengths c in omega arith
 add-strings : tie.Need-add-strings
 add-strings c = let l = lengths c in omega arith
 
-write-header-requires : tie.Need-write-header-requires
-write-header-requires c κs = let l = lengths (c .before) in (omega arith, omega arith)
+put-header-requires : tie.Need-put-header-requires
+put-header-requires c κs = search needs
 
 cast-end : tie.Need-cast-end
 cast-end c = search needs
@@ -81,14 +82,14 @@ sub-raise-records-2 c =
     let l1 = c .before .before .before in
     let h = l1 .before .before .before .before .before in
     let l = lengths (h .before .before) in
-    omega (arith, l1 .lay .kept .0, h .write-header .kept .1 .1 .1 .1 .0)
+    omega (arith, l1 .lay .kept .0, h .put-header .kept .1 .1 .1 .1 .0)
 
 part-raise-records-start-2 : tie.Need-part-raise-records-start-2
 part-raise-records-start-2 c =
     let l1 = c .before .before .before in
     let h = l1 .before .before .before .before .before in
     let l = lengths (h .before .before) in
-    omega (arith, l1 .lay .kept .0, h .write-header .kept .1 .1 .1 .1 .0)
+    omega (arith, l1 .lay .kept .0, h .put-header .kept .1 .1 .1 .1 .0)
 
 part-raise-records-end-2 : tie.Need-part-raise-records-end-2
 part-raise-records-end-2 c = search needs
@@ -165,12 +166,14 @@ returns c =
     let r = h .before .before in
     let f = r .before .before .before in
     let a = f .before .before .before .before .before in
+    let l = lengths r in
+    let headed = sym (header-put _ (now (a .args .a)) _ _ (now (a .args .out)) (omega arith) (omega arith)) in
     write-parts (a .pre) _ (f .before .order-of .ensures) refl (ap (λ (n : ℕ). n - 1) (r .before .before .blob-word2 .ensures))
     (ap₂ (λ (x y : ℕ). x + y) (f .blob-word .ensures) (r .before .blob-word3 .ensures))
     (ap₂ (λ (x y : ℕ). x + (y - 1)) (r .before .before .blob-word2 .ensures) (r .blob-word4 .ensures))
     (now (a .args .out)) (f .blob-word .ensures) (r .before .blob-word3 .ensures) (r .before .before .blob-word2 .ensures) refl
-    (h .write-header .ensures) (l1 .lay .ensures) (rr .raise-records .ensures) (l2 .lay2 .ensures) (l3 .lay3 .ensures)
-    (h .write-header .kept .1 .1 .1 .1 .0) (l1 .lay .kept .0) (l2 .lay2 .kept .0)
+    (h .put-header .ensures ∙ headed) (l1 .lay .ensures) (rr .raise-records .ensures) (l2 .lay2 .ensures) (l3 .lay3 .ensures)
+    (h .put-header .kept .1 .1 .1 .1 .0) (l1 .lay .kept .0) (l2 .lay2 .kept .0)
 
 pub write-spec : {M : Type 1} → statement M
 write-spec =
@@ -184,7 +187,7 @@ write-spec =
     add-types
     sub-strings
     add-strings
-    write-header-requires
+    put-header-requires
     cast-end
     add-end
     sub-lay
