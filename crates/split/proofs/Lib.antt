@@ -1,0 +1,6 @@
+pub mod LoweredBytes
+pub mod Pieces
+pub mod PartPuts
+pub mod TwoParts
+pub mod Aparts
+pub mod Demands
