@@ -11,6 +11,7 @@ use lib.Dec.{eqb, leb}
 use lib.ListN.{length, getD, take, drop, length-drop}
 use lib.Seq.{drop-cons, take-all}
 use Rattle.cuts.specs.Sides.{endsAt}
+use Rattle.paper.proofs.basics.Choices.{and-nothing}
 use Rattle.paper.specs.rules.Choice.{every}
 use Rattle.paper.specs.rules.Header.{stringsIn}
 use Rattle.paper.specs.rules.Table.{Record, Table, count, nothing, recordAt, everyWord}
@@ -74,9 +75,13 @@ module _ (strings : List ℕ) (s : ℕ) where
 
 -- ── the whole test ──
 
-regroup : (a b c d e f : Bool) → a && b && c && d && e && f ≡ a && (b && c && d) && e && f
-regroup true b c d e f = refl
+regroup : (a b c d e f : Bool) → a && (b && c && d) && e && f ≡ a && (b && (c && (d && (e && (f && true)))))
 regroup false b c d e f = refl
+regroup true false c d e f = refl
+regroup true true false d e f = refl
+regroup true true true false e f = refl
+regroup true true true true false f = refl
+regroup true true true true true f = sym (and-nothing f)
 
 module _ (b index : List ℕ) (v : View) (n s : ℕ) where
   abbrev T : Table
@@ -103,8 +108,8 @@ module _ (b index : List ℕ) (v : View) (n s : ℕ) where
       ap₂ (λ (x : ℕ) (y : List ℕ). leb n x && endsAt y s && before && behind) (sym c) (sym strings-shown)
       ∙ ap₂ (λ (k : ℕ) (rs : List Record).
       leb n (count T) && endsAt (T .strings) s && every (everyWord (pointsBefore n s)) (take k (T .records)) && every (everyWord (pointsBehind n s)) rs) zero-less all-behind
-      ∙ sym (regroup (leb n (count T)) (leb 1 s) (leb s (length (T .strings))) (eqb (getD (T .strings) (s - 1) 0) 0)
-      (every (everyWord (pointsBefore n s)) (take n (T .records))) (every (everyWord (pointsBehind n s)) (drop n (T .records))))
+      ∙ regroup (leb n (count T)) (leb 1 s) (leb s (length (T .strings))) (eqb (getD (T .strings) (s - 1) 0) 0)
+      (every (everyWord (pointsBefore n s)) (take n (T .records))) (every (everyWord (pointsBehind n s)) (drop n (T .records)))
 
   pub cut-many : v .n < n → false ≡ cutOk n s (tableBy [] b index v)
   cut-many h = sym (ap (λ (x : Bool). x && endsAt (stringsIn b) s && before && behind) (lt-leb n (v .n) h)) ∙ by-parts

@@ -10,7 +10,7 @@ use lib.Dec.{eqb, leb, ltb}
 use lib.ListN.{length, getD, take, drop, take-append-drop, length-drop, length-map, List·getD-map}
 use lib.Seq.{length-take-le, getD-take, getD-drop}
 use Rattle.parts.proofs.Lowering.{raised-lowered}
-use Rattle.parts.specs.Cut.{pointsBefore, pointsBehind, cutOk, firstPart, lowered, secondPart}
+use Rattle.parts.specs.Cut.{pointsBefore, pointsBehind, cutTests, cutOk, firstPart, lowered, secondPart}
 use Rattle.paper.proofs.basics.Choices.{and-left, and-right, and-true, every-getD}
 use Rattle.paper.proofs.bytes.Sections.{whole-at}
 use Rattle.paper.proofs.joins.JoinFits.{whole-rename}
@@ -36,39 +36,38 @@ pub record CutFacts (n s : ℕ) (T : Table) : Type 0 where
   pub before : every (everyWord (pointsBefore n s)) (take n (T .records)) ≡ true
   pub behind : every (everyWord (pointsBehind n s)) (drop n (T .records)) ≡ true
 
+-- all tests of a list pass
+abbrev Each : List Bool → Type 0
+Each [] = Unit {0}
+Each (t ∷ ts) = (t ≡ true) × Each ts
+
+every-each : (ts : List Bool) → every (λ (t : Bool). t) ts ≡ true → Each ts
+every-each [] e = tt
+every-each (t ∷ ts) e = (and-left t (every (λ (t : Bool). t) ts) e, every-each ts (and-right t (every (λ (t : Bool). t) ts) e))
+
+each-every : (ts : List Bool) → Each ts → every (λ (t : Bool). t) ts ≡ true
+each-every [] h = refl
+each-every (t ∷ ts) h = and-true (h .0) (each-every ts (h .1))
+
 module _ (n s : ℕ) (T : Table) where
   pub cutOk-facts : cutOk n s T ≡ true → CutFacts n s T
   unfolding cutOk
   cutOk-facts e =
-      let a = leb n (count T) in
-      let b = leb 1 s in
-      let c = leb s (length (T .strings)) in
-      let d = eqb (getD (T .strings) (s - 1) 0) 0 in
-      let f = every (everyWord (pointsBefore n s)) (take n (T .records)) in
-      let g = every (everyWord (pointsBehind n s)) (drop n (T .records)) in
-      let e5 = and-left (a && b && c && d && f) g e in
-      let e4 = and-left (a && b && c && d) f e5 in
-      let e3 = and-left (a && b && c) d e4 in
-      let e2 = and-left (a && b) c e3 in
+      let each = every-each (cutTests n s T) e in
       record {
-        few = leb-true n (count T) (and-left a b e2);
-        filled = leb-true 1 s (and-right a b e2);
-        long = leb-true s (length (T .strings)) (and-right (a && b) c e3);
-        zero-before = eqb-true (getD (T .strings) (s - 1) 0) 0 (and-right (a && b && c) d e4);
-        before = and-right (a && b && c && d) f e5;
-        behind = and-right (a && b && c && d && f) g e;
+        few = leb-true _ _ (each .0);
+        filled = leb-true _ _ (each .1 .0);
+        long = leb-true _ _ (each .1 .1 .0);
+        zero-before = eqb-true _ _ (each .1 .1 .1 .0);
+        before = each .1 .1 .1 .1 .0;
+        behind = each .1 .1 .1 .1 .1 .0;
       }
 
   pub facts-cutOk : CutFacts n s T → cutOk n s T ≡ true
   unfolding cutOk
   facts-cutOk c =
-      and-true
-      (and-true
-      (and-true
-      (and-true (and-true (le-leb n (count T) (c .few)) (le-leb 1 s (c .filled))) (le-leb s (length (T .strings)) (c .long)))
-      (eq-eqb (getD (T .strings) (s - 1) 0) 0 (c .zero-before)))
-      (c .before))
-      (c .behind)
+      each-every (cutTests n s T)
+      (le-leb _ _ (c .few), (le-leb _ _ (c .filled), (le-leb _ _ (c .long), (eq-eqb _ _ (c .zero-before), (c .before, (c .behind, tt))))))
 
 -- ── the parts of a table that a cut goes through ──
 

@@ -2,13 +2,13 @@
 -- Assumes nothing.
 use Prim.Native.Nat.{ℕ, zero, suc, _+_, _-_, _≤_, _<_}
 use mathlib.Core.Path.{_≡_, refl, sym, ap, ap₂, _∙_}
-use mathlib.Core.Bool.{true, _||_}
+use mathlib.Core.Bool.{true}
 use mathlib.Core.List.{List, [], _∷_}
 use mathlib.Core.Logic.{_⊎_, inl, inr}
 use native.Mathlib.Omega.{arith}
 use borrow.Author.Tests.{eqb-true, leb-true, ltb-true, le-leb, lt-ltb}
 use lib.Dec.{eqb, leb, ltb}
-use Rattle.parts.specs.Cut.{pointsBehind, lowered}
+use Rattle.parts.specs.Cut.{nameBehind, typeBehind, pointsBehind, lowered}
 use Rattle.paper.proofs.basics.Choices.{and-left, and-right, and-true, or-cases, or-right}
 use Rattle.paper.proofs.renaming.Rename.{raise-zero, rename-id, rename-compose}
 use Rattle.paper.specs.rules.Kind.{Role, names, refers, holds, number}
@@ -29,20 +29,20 @@ raise-lower : (by w : ℕ) → (w ≡ 0) ⊎ (by < w) → raise by (w - by) ≡ 
 raise-lower by w (inl e) = let z : w - by ≡ 0 = omega arith in raise-zero by z ∙ sym e
 raise-lower by w (inr h) = raise-above by (w - by) (omega arith) ∙ omega arith
 
-pub behind-type : (n w : ℕ) → (eqb w 0 || ltb n w) ≡ true → (w ≡ 0) ⊎ (n < w)
-behind-type n w e = or-cases (eqb w 0) (ltb n w) e (λ p. inl (eqb-true w 0 p)) (λ q. inr (ltb-true n w q))
+pub behind-type : (n s w : ℕ) → typeBehind n s w ≡ true → (w ≡ 0) ⊎ (n < w)
+behind-type n s w e = or-cases (eqb w 0) (ltb n w) e (λ p. inl (eqb-true w 0 p)) (λ q. inr (ltb-true n w q))
 
-pub behind-name : (s w : ℕ) → 1 ≤ s → (eqb w 0 || leb s w) ≡ true → (w ≡ 0) ⊎ (s - 1 < w)
-behind-name s w filled e =
+pub behind-name : (n s w : ℕ) → 1 ≤ s → nameBehind n s w ≡ true → (w ≡ 0) ⊎ (s - 1 < w)
+behind-name n s w filled e =
     or-cases (eqb w 0) (leb s w) e (λ p. inl (eqb-true w 0 p)) (λ q. let far = leb-true s w q in inr (omega arith))
 
-raised-type : (n w : ℕ) → (eqb (raise n w) 0 || ltb n (raise n w)) ≡ true
-raised-type n zero = refl
-raised-type n (suc w) = or-right (eqb (suc w + n) 0) (lt-ltb n (suc w + n) (omega arith))
+raised-type : (n s w : ℕ) → typeBehind n s (raise n w) ≡ true
+raised-type n s zero = refl
+raised-type n s (suc w) = or-right (eqb (suc w + n) 0) (lt-ltb n (suc w + n) (omega arith))
 
-raised-name : (s w : ℕ) → 1 ≤ s → (eqb (raise (s - 1) w) 0 || leb s (raise (s - 1) w)) ≡ true
-raised-name s zero filled = refl
-raised-name s (suc w) filled = or-right (eqb (suc w + (s - 1)) 0) (le-leb s (suc w + (s - 1)) (omega arith))
+raised-name : (n s w : ℕ) → 1 ≤ s → nameBehind n s (raise (s - 1) w) ≡ true
+raised-name n s zero filled = refl
+raised-name n s (suc w) filled = or-right (eqb (suc w + (s - 1)) 0) (le-leb s (suc w + (s - 1)) (omega arith))
 
 -- ── a record ──
 
@@ -57,9 +57,9 @@ module _ (n s : ℕ) where
   module _ (filled : 1 ≤ s) where
     word-back : (ρ : Role) (w : ℕ) → pointsBehind n s ρ w ≡ true
         → renameWord (raise n) (raise (s - 1)) ρ (renameWord (λ v. v - n) (λ v. v - (s - 1)) ρ w) ≡ w
-    word-back (names rule) w h = raise-lower (s - 1) w (behind-name s w filled h)
-    word-back (refers rule) w h = raise-lower n w (behind-type n w h)
-    word-back (holds rule) w h = raise-lower n w (behind-type n w h)
+    word-back (names rule) w h = raise-lower (s - 1) w (behind-name n s w filled h)
+    word-back (refers rule) w h = raise-lower n w (behind-type n s w h)
+    word-back (holds rule) w h = raise-lower n w (behind-type n s w h)
     word-back number w h = refl
 
     words-back : (ρs : List Role) (ws : List ℕ) → everyRoled (pointsBehind n s) ρs ws ≡ true
@@ -76,7 +76,7 @@ module _ (n s : ℕ) where
         let behind-first = and-right (f (names (rowIn r .name)) (r .nameOff)) _ h in
         let behind-info = and-right (f number (r .info)) _ behind-first in
         λ i. record {
-          nameOff = raise-lower (s - 1) (r .nameOff) (behind-name s (r .nameOff) filled (and-left (f (names (rowIn r .name)) (r .nameOff)) _ h)) i;
+          nameOff = raise-lower (s - 1) (r .nameOff) (behind-name n s (r .nameOff) filled (and-left (f (names (rowIn r .name)) (r .nameOff)) _ h)) i;
           info = r .info;
           third = word-back (rowIn r .thirdRole) (r .third) (and-left (f (rowIn r .thirdRole) (r .third)) _ behind-info) i;
           tail = words-back (tailRoles r) (r .tail) (and-right (f (rowIn r .thirdRole) (r .third)) _ behind-info) i;
@@ -84,9 +84,9 @@ module _ (n s : ℕ) where
 
     -- whatever is raised points behind the cut
     word-behind : (ρ : Role) (w : ℕ) → pointsBehind n s ρ (renameWord (raise n) (raise (s - 1)) ρ w) ≡ true
-    word-behind (names rule) w = raised-name s w filled
-    word-behind (refers rule) w = raised-type n w
-    word-behind (holds rule) w = raised-type n w
+    word-behind (names rule) w = raised-name n s w filled
+    word-behind (refers rule) w = raised-type n s w
+    word-behind (holds rule) w = raised-type n s w
     word-behind number w = refl
 
     words-behind : (ρs : List Role) (ws : List ℕ) → everyRoled (pointsBehind n s) ρs (renameWords (raise n) (raise (s - 1)) ρs ws) ≡ true

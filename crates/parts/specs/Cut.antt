@@ -1,6 +1,6 @@
 -- Order 14: "Given a joined table, a type count and a string length, give back the two tables." Of tables, then of any blob and any slices.
 use Prim.Native.Nat.{ℕ, _-_}
-use mathlib.Core.Bool.{Bool, true, not, cond, _&&_, _||_}
+use mathlib.Core.Bool.{Bool, true, not, cond, _||_}
 use mathlib.Core.List.{List, [], _∷_, _++_, map}
 use mathlib.Core.Option.{Option, none, some}
 use lib.Dec.{eqb, leb, ltb}
@@ -26,11 +26,18 @@ module _ (n s : ℕ) where
   pointsBefore (holds rule) w = leb w n
   pointsBefore number w = true
 
-  -- one of a later record that points at a later one, or is 0
+  -- a name and a type behind the cut, or none
+  abbrev pub nameBehind : ℕ → Bool
+  nameBehind w = eqb w 0 || leb s w
+
+  abbrev pub typeBehind : ℕ → Bool
+  typeBehind w = eqb w 0 || ltb n w
+
+  -- a word of a later record that points at one of these
   abbrev pub pointsBehind : Role → ℕ → Bool
-  pointsBehind (names rule) w = eqb w 0 || leb s w
-  pointsBehind (refers rule) w = eqb w 0 || ltb n w
-  pointsBehind (holds rule) w = eqb w 0 || ltb n w
+  pointsBehind (names rule) w = nameBehind w
+  pointsBehind (refers rule) w = typeBehind w
+  pointsBehind (holds rule) w = typeBehind w
   pointsBehind number w = true
 
   -- a word of a record on either side
@@ -38,14 +45,18 @@ module _ (n s : ℕ) where
   points behind ρ w = cond behind (pointsBehind ρ w) (pointsBefore ρ w)
 
   -- there are so many types and so many bytes of strings, "the byte before the cut in the strings is zero", and nothing crosses it
-  unfoldable pub cutOk : Table → Bool
-  cutOk T =
+  abbrev pub cutTests : Table → List Bool
+  cutTests T =
       leb n (count T)
-      && leb 1 s
-      && leb s (length (T .strings))
-      && eqb (getD (T .strings) (s - 1) 0) 0
-      && every (everyWord pointsBefore) (take n (T .records))
-      && every (everyWord pointsBehind) (drop n (T .records))
+      ∷ leb 1 s
+      ∷ leb s (length (T .strings))
+      ∷ eqb (getD (T .strings) (s - 1) 0) 0
+      ∷ every (everyWord pointsBefore) (take n (T .records))
+      ∷ every (everyWord pointsBehind) (drop n (T .records))
+      ∷ []
+
+  unfoldable pub cutOk : Table → Bool
+  cutOk T = every (λ (passes : Bool). passes) (cutTests T)
 
   -- the first's records and strings stand as they are
   unfoldable pub firstPart : Table → Table

@@ -49,9 +49,9 @@ word-lowered order n w small (inr h) =
 module _ (order : Order) (n s : ℕ) (few : n < 4294967296) (filled : 1 ≤ s) (short : s < 4294967296) where
   role-lowered : (ρ : Role) (w : ℕ) → pointsBehind n s ρ w ≡ true
       → wordBytes order (renameWord (raise (missing n)) (raise (missing (s - 1))) ρ w) ≡ wordBytes order (renameWord (λ v. v - n) (λ v. v - (s - 1)) ρ w)
-  role-lowered (names rule) w h = word-lowered order (s - 1) w (omega arith) (behind-name s w filled h)
-  role-lowered (refers rule) w h = word-lowered order n w few (behind-type n w h)
-  role-lowered (holds rule) w h = word-lowered order n w few (behind-type n w h)
+  role-lowered (names rule) w h = word-lowered order (s - 1) w (omega arith) (behind-name n s w filled h)
+  role-lowered (refers rule) w h = word-lowered order n w few (behind-type n s w h)
+  role-lowered (holds rule) w h = word-lowered order n w few (behind-type n s w h)
   role-lowered number w h = refl
 
   words-lowered : (ρs : List Role) (ws : List ℕ) → everyRoled (pointsBehind n s) ρs ws ≡ true

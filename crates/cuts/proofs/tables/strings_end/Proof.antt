@@ -1,5 +1,6 @@
 -- `cuts::tables::strings_end` meets its contract: no byte, too few, or the last one.
 -- Assumes nothing.
+use native.Mathlib.Omega.{arith}
 use denote.Ref.{now}
 use Rattle.cuts.proofs.Runs.{ends-empty, ends-past, ends-byte}
 use borrow.Author.Needs.{needs}
@@ -13,7 +14,7 @@ returns : tie.Need-returns
 returns c = let a = c .before .before .args in ends-empty (now (a .strings)) (a .end .0) (c .if1 .taken)
 
 returns-2 : tie.Need-returns-2
-returns-2 c = let a = c .before .before .before .args in ends-past (now (a .strings)) (a .end .0) (c .if2 .taken)
+returns-2 c = let a = c .before .before .before .args in ends-past (now (a .strings)) (a .end .0) (omega (arith, c .if2 .taken))
 
 sub-result : tie.Need-sub-result
 sub-result c = search needs
