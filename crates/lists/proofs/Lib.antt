@@ -1,0 +1,4 @@
+pub mod Written
+pub mod OneReading
+pub mod Keeping
+pub mod ListBytes
