@@ -15,6 +15,7 @@ use Rattle.paper.proofs.bytes.Bytes.{below-append, below-left, below-right, bel
 use Rattle.paper.proofs.bytes.Places.{flat-append}
 use Rattle.paper.proofs.joins.Grouping.{length-join}
 use Rattle.paper.proofs.joins.Joining.{count-join, length-strings}
+use Rattle.paper.proofs.joins.Neutral.{joinTables-empty-left, joinTables-empty-right, opened}
 use Rattle.paper.proofs.renaming.Renaming.{inside, Inside}
 use Rattle.paper.proofs.walks.Insides.{sound-inside}
 use Rattle.paper.specs.rules.Choice.{every}
@@ -25,6 +26,7 @@ use Rattle.paper.specs.rules.Rename.{renameWord, renameWords, rename, raise}
 use Rattle.paper.specs.rules.Table.{Record, Table, count, nothing, rolesOf, tailRoles, wordsOf, everyWord}
 use Rattle.paper.specs.rules.Walk.{flat, blobLength}
 use Rattle.paper.specs.terms.Fit.{Below, Bytes, wordBound, Fits}
+use Rattle.paper.specs.terms.Full.{emptyTable}
 use Rattle.paper.specs.terms.Good.{Closed, Good}
 
 -- ── a join, cut where it was joined ──
@@ -36,11 +38,6 @@ every-raised n s filled (r ∷ rs) = and-true (raised-behind n s filled r) (ever
 lowered-all : (n s : ℕ) (rs : List Record) → map (lowered n s) (map (rename (raise n) (raise (s - 1))) rs) ≡ rs
 lowered-all n s [] = refl
 lowered-all n s (r ∷ rs) = ap₂ {C = List Record} _∷_ (lowered-raised n s r) (lowered-all n s rs)
-
--- strings that begin with a zero byte, without it and with it again
-first-again : (u : List ℕ) → Closed u → 0 ∷ drop 1 u ≡ u
-first-again [] c = absurd (omega (arith, c .filled))
-first-again (x ∷ u) c = ap {B = List ℕ} (λ (y : ℕ). y ∷ u) (sym (c .first))
 
 module _ (A B : Table) (a : Good A) (b : Closed (B .strings)) where
   abbrev n : ℕ
@@ -72,7 +69,7 @@ module _ (A B : Table) (a : Good A) (b : Closed (B .strings)) where
   second-join =
       λ i. record {
         records = (ap (map (lowered n s)) (drop-append-seam (A .records) seconds) ∙ lowered-all n s (B .records)) i;
-        strings = (ap {B = List ℕ} (λ u. 0 ∷ u) (drop-append-seam (A .strings) (drop 1 (B .strings))) ∙ first-again (B .strings) b) i;
+        strings = (ap {B = List ℕ} (λ u. 0 ∷ u) (drop-append-seam (A .strings) (drop 1 (B .strings))) ∙ opened (B .strings) b) i;
       }
 
   pub cut-join : CutFacts (count A) (length (A .strings)) (joinTables A B)
@@ -91,6 +88,19 @@ module _ (A B : Table) (a : Good A) (b : Closed (B .strings)) where
             ∙ every-inside (A .records) (λ i h. sound-inside (a .sound) f (suc i) h);
         behind = ap (every (everyWord (pointsBehind n s))) (drop-append-seam (A .records) seconds) ∙ every-raised n s f (B .records);
       }
+
+-- in front of all types, and behind them, a good table can always be cut: the empty table and the whole
+empty-closed : Closed (emptyTable .strings)
+empty-closed = record { filled = omega arith; first = refl; last = refl }
+
+empty-good : Good emptyTable
+empty-good = record { sound = λ t low high. absurd (omega arith); closed = empty-closed; whole = tt }
+
+pub cut-none : (T : Table) → Good T → CutFacts 0 1 T
+cut-none T g = subst (CutFacts 0 1) (joinTables-empty-left T (g .closed)) (cut-join emptyTable T empty-good (g .closed))
+
+pub cut-all : (T : Table) → Good T → CutFacts (count T) (length (T .strings)) T
+cut-all T g = subst (CutFacts (count T) (length (T .strings))) (joinTables-empty-right T) (cut-join T emptyTable g empty-closed)
 
 -- ── the words and bytes of the parts fit a blob ──
 

@@ -8,7 +8,8 @@ use mathlib.Core.Logic.{_⊎_, inl, inr}
 use native.Mathlib.Omega.{arith}
 use Rattle.paper.proofs.basics.Choices.{and-left, and-right}
 use Rattle.paper.proofs.bytes.Bytes.{bytesOfWords-append}
-use Rattle.paper.proofs.renaming.Rename.{raise-zero, raise-other, rename-id}
+use Rattle.paper.proofs.joins.Neutral.{map-same, raised-none}
+use Rattle.paper.proofs.renaming.Rename.{raise-zero, raise-other}
 use Rattle.paper.specs.declared.Order.{Order}
 use Rattle.paper.specs.rules.Choice.{every}
 use Rattle.paper.specs.rules.Kind.{Role, names, refers, holds, number}
@@ -87,16 +88,8 @@ module _ (order : Order) (n s : ℕ) (few : n < 4294967296) (filled : 1 ≤ s) (
 
 -- ── raised by nothing ──
 
-raise-none : (w : ℕ) → raise 0 w ≡ w
-raise-none zero = refl
-raise-none (suc w) = omega arith
-
-map-same : (rs : List Record) → map (rename (raise 0) (raise 0)) rs ≡ rs
-map-same [] = refl
-map-same (r ∷ rs) =
-    ap₂ {C = List Record} _∷_ ((λ i. rename (λ w. raise-none w i) (λ w. raise-none w i) r) ∙ rename-id r) (map-same rs)
-
 pub same-bytes : (by : Shift) → by .types .0 ≡ 0 → by .names .0 ≡ 0 → (rs : List Record) → recordsBytes by rs ≡ bytesOfWords (by .order) (flat rs)
 unfolding recordsBytes
 same-bytes by t m rs =
-    (λ i. bytesOfWords (by .order) (flat (map (rename (raise (t i)) (raise (m i))) rs))) ∙ ap (λ (qs : List Record). bytesOfWords (by .order) (flat qs)) (map-same rs)
+    (λ i. bytesOfWords (by .order) (flat (map (rename (raise (t i)) (raise (m i))) rs)))
+    ∙ ap (λ (qs : List Record). bytesOfWords (by .order) (flat qs)) (map-same (rename (raise 0) (raise 0)) raised-none rs)

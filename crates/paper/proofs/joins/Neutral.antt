@@ -33,11 +33,15 @@ raise-none : (w : ℕ) → raise 0 w ≡ w
 raise-none zero = refl
 raise-none (suc w) = add-zero (suc w)
 
-map-same : (f : Record → Record) → ((r : Record) → f r ≡ r) → (rs : List Record) → map f rs ≡ rs
+pub map-same : (f : Record → Record) → ((r : Record) → f r ≡ r) → (rs : List Record) → map f rs ≡ rs
 map-same f h [] = refl
 map-same f h (r ∷ rs) = ap₂ {C = List Record} _∷_ (h r) (map-same f h rs)
 
-opened : (s : List ℕ) → Closed s → 0 ∷ drop 1 s ≡ s
+-- a record that is raised by nothing
+pub raised-none : (r : Record) → rename (raise 0) (raise 0) r ≡ r
+raised-none r = (λ i. rename (λ n. raise-none n i) (λ n. raise-none n i) r) ∙ rename-id r
+
+pub opened : (s : List ℕ) → Closed s → 0 ∷ drop 1 s ≡ s
 opened [] c = let f = c .filled in absurd (omega arith)
 opened (x ∷ s) c = ap {B = List ℕ} (λ y. y ∷ s) (sym (c .first))
 
@@ -45,7 +49,7 @@ pub joinTables-empty-left : (B : Table) → Closed (B .strings) → joinTables e
 unfolding joinTables
 joinTables-empty-left B c =
     λ i. record {
-      records = map-same (rename (raise 0) (raise 0)) (λ r. (λ j. rename (λ n. raise-none n j) (λ n. raise-none n j) r) ∙ rename-id r) (B .records) i;
+      records = map-same (rename (raise 0) (raise 0)) raised-none (B .records) i;
       strings = opened (B .strings) c i;
     }
 
