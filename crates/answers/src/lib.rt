@@ -7,8 +7,10 @@ use paper::Report;
 use paper::Sized;
 use paper::TYPE_LIMIT;
 use paper::TypeNo;
+use parts::Parted;
 ghost use mathlib.Core.Path.{_≡_};
 ghost use Rattle.paper.specs.rules.Answer.{checkedAsPaper, inside, joinedAsPaper, leanedAsPaper, report, reportAsPaper, reportAt, sizedAsPaper, value};
+ghost use Rattle.parts.specs.Cut.{partedAsPaper};
 ghost use Rattle.answers.specs.Numbers.{asPaper};
 
 // The number, the number of the report inside a join's refusal, the type or the count, the size, the length or the place.
@@ -140,5 +142,22 @@ pub fn of_leaned(l: Leaned) -> Numbers
         Leaned::BaseRefused(r) => within(25, of_report(r)),
         Leaned::OrdersDiffer => told(26, 0),
         Leaned::Refused(r) => of_report(r),
+    }
+}
+
+// What taking a table apart answers.
+pub fn of_parted(p: Parted) -> Numbers
+    ensures { λ n. ⌜ asPaper n ≡ partedAsPaper p ⌝ }
+{
+    match p {
+        Parted::Apart(first, second) => Numbers {
+            number: 0,
+            inner: 0,
+            t: first,
+            p: second,
+        },
+        Parted::Refused(r) => of_report(r),
+        Parted::NoCut => told(60, 0),
+        Parted::OutputShort => told(61, 0),
     }
 }
