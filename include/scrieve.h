@@ -1,5 +1,5 @@
-/* The C interface of Scrieveply: the check of a BTF table, the size of a type, the name at an offset, the join of two tables, the value of a
- * member in a record's bytes, and check, size and name of a table that leans on a base.
+/* The C interface of Scrieveply: the check of a BTF table, the size of a type, the name at an offset, the join of two tables and a joined
+ * table taken apart, the value of a member in a record's bytes, and check, size and name of a table that leans on a base.
  *
  * Every function is proved: for any bytes in the lent slices it ends, reads and writes nothing outside them, and leaves in each place
  * exactly what is written here (crates/abi/src/lib.rt has the contracts). Build with `tools/archive TARGET OUT`, link
@@ -9,12 +9,12 @@
  * - A slice is a pointer and the number of its elements: bytes for uint8_t, places for uint32_t. All memory is the caller's: nothing
  *   is allocated, nothing is kept after the call, there is no global state. Calls in several threads at once are safe, each with
  *   written slices of its own.
- * - A slice that is written (index of a check, a join or a member, work, out, answer, span, value) must not overlap any other slice of the call. Those that
- *   are only read may overlap each other, so a table can be joined with itself. Nothing may write a slice during the call but the
- *   call itself.
+ * - A slice that is written (index of a check, a join, a split or a member, work, out, first, second, answer, span, value) must not overlap any
+ *   other slice of the call: the two outputs of a split neither each other. Those that are only read may overlap each other, so a table can be
+ *   joined with itself. Nothing may write a slice during the call but the call itself.
  * - No pointer may be null, that of an empty slice neither: lend any object and 0 elements. A uint32_t pointer is aligned as
  *   uint32_t is; a uint8_t pointer needs no alignment.
- * - What stands in index, work, out, answer, span and value before the call has no meaning. They need not be cleared.
+ * - What stands in index, work, out, first, second, answer, span and value before the call has no meaning. They need not be cleared.
  * - The stack is no part of the proof. No function calls itself; the frames of the deepest call add up to under 1,536 bytes in the
  *   archive's code for x86-64.
  * - `type` and `offset` are a type number and an offset into the string section. Type 0 is void; records are numbered from 1.
@@ -33,6 +33,8 @@
  *   scrieve_name   0 a name, 1 none                      0                   where it begins in the blob   its length in bytes
  *   scrieve_join   0 joined, or 16 to 20, or 24          for 16 and 17 the   the type of the report        the joined length, or the place
  *                                                        report inside       inside, else 0                of the report inside, else 0
+ *   scrieve_split  0 taken apart, or a report 1 to 15,   0                   the first part's length, or   the second part's length, or the
+ *                  or 60 or 61                                               the report's type, else 0     report's place, else 0
  *   scrieve_member 0 unsigned, 1 signed, 2 a longer      for 34 the report   the span's first bit, or      the span's bits, or the place of
  *   scrieve_value  span, 21, 30 to 35                    inside              the type of the report        the report inside, else 0
  *                                                                            inside, else 0
@@ -60,9 +62,9 @@
 #include <stddef.h>
 #include <stdint.h>
 
-/* Which interface this is. It rises where a function comes, or where a number, an argument or what is left in a slice changes its meaning. In 5
- * the change requests 1 to 7, 9, 11 and 12 have landed (docs/orders). */
-#define SCRIEVE_VERSION 5
+/* Which interface this is. It rises where a function comes, or where a number, an argument or what is left in a slice changes its meaning. In 6
+ * the change requests 1 to 7, 9, 11, 12, 13 and 14 have landed (docs/orders). */
+#define SCRIEVE_VERSION 6
 
 /* Full size: with so many places in index and work, and so many bytes of output, no table is refused for want of room. */
 #define SCRIEVE_FULL_PLACES 16385
@@ -87,9 +89,10 @@
 #define SCRIEVE_VALUE_BYTES 16
 
 /* The reports, and 0 where there is none: `number` of every function, and `inner` of a join, a member and a check on a base. A check gives 1 to
- * 15, on a base 25 and 26 too, a join 16 to 20 and 24, the size question 21 and 22, a member 21 and 30 to 35. There are no 23 and no 27 to 29. */
+ * 15, on a base 25 and 26 too, a join 16 to 20 and 24, the size question 21 and 22, a member 21 and 30 to 35, a split
+ * 1 to 15, 60 and 61. There are no 23, no 27 to 29 and no 36 to 59. */
 enum scrieve_report {
-	SCRIEVE_REPORT_NONE = 0,           /* accepted, joined, an exact size, a name */
+	SCRIEVE_REPORT_NONE = 0,           /* accepted, joined, taken apart, an exact size, a name */
 	SCRIEVE_REPORT_LENGTH = 1,         /* under 24 bytes or over 262,144 */
 	SCRIEVE_REPORT_MAGIC = 2,          /* the first four bytes are neither 9F EB 01 00 nor EB 9F 01 00 */
 	SCRIEVE_REPORT_HEADER = 3,         /* the header length is not 24 */
@@ -120,7 +123,9 @@ enum scrieve_report {
 	SCRIEVE_REPORT_NO_MEMBER = 32,     /* the type has no such member */
 	SCRIEVE_REPORT_NO_NUMBER = 33,     /* the member is neither integer nor enum */
 	SCRIEVE_REPORT_TABLE = 34,         /* the record's table is refused */
-	SCRIEVE_REPORT_HIGH_FIRST = 35     /* the record's table is big-endian */
+	SCRIEVE_REPORT_HIGH_FIRST = 35,    /* the record's table is big-endian */
+	SCRIEVE_REPORT_NO_CUT = 60,        /* no two accepted tables of this first count and string length join to the table */
+	SCRIEVE_REPORT_PARTS = 61          /* an output is shorter than its part; asked after 60 */
 };
 
 /* What else `number` of the size question can be, and of the name question. */
@@ -170,6 +175,23 @@ void scrieve_name(const uint8_t *blob, size_t blob_length, uint32_t offset, uint
  *   answer   see above. Check the joined table to get its index. */
 void scrieve_join(const uint8_t *a, size_t a_length, const uint8_t *b, size_t b_length, uint32_t *index, size_t index_places,
 		  uint32_t *work, size_t work_places, uint8_t *out, size_t out_length, uint32_t *answer, size_t answer_places);
+
+/* Takes a joined blob apart: gives back the two tables, of the blob's byte order, that join to it. There is one pair at most whose first has so
+ * many types and string bytes. A join taken apart with the first table's own two numbers gives both tables back byte for byte (proved:
+ * crates/split/proofs/Demands.antt).
+ *   blob     the joined table's bytes, read only. It is checked first: a report 1 to 15 is its own.
+ *   types    the first table's count of types
+ *   strings  the first table's string length in bytes, the header's last word. Where there is no such pair, for these two numbers: 60.
+ *   index    places, count of the blob's types + 1 or more, and left as scrieve_check leaves them: with 60 and 61 too as that of an accepted blob
+ *   work     as in scrieve_check
+ *   first    bytes, the first part's length or more. Taken apart: the first table, and every byte past its length as it was. Refused: every byte
+ *            as it was.
+ *   second   the same of the second part, which counts its own types from 1 and its own strings from 0. The two lengths together are 25 bytes
+ *            more than the blob's.
+ *   answer   see above */
+void scrieve_split(const uint8_t *blob, size_t blob_length, uint32_t types, uint32_t strings, uint32_t *index, size_t index_places,
+		   uint32_t *work, size_t work_places, uint8_t *first, size_t first_bytes, uint8_t *second, size_t second_bytes,
+		   uint32_t *answer, size_t answer_places);
 
 /* The value of a member in the bytes of a record. The table is checked in the same call: who reads many records checks once, asks
  * scrieve_span once for a member, and scrieve_value for each record; these give the same (proved: crates/record/proofs/Demands.antt).

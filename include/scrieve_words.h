@@ -46,7 +46,14 @@ static inline const char *scrieve_report_words(uint32_t number)
 		"the record's table is refused",
 		"the record's table is big-endian"
 	};
+	/* those of a table taken apart, from 60 on */
+	static const char *const parting[] = {
+		"no two tables of these numbers join to it",
+		"an output is shorter than its table"
+	};
 
+	if (number >= 60 && number - 60 < sizeof parting / sizeof *parting)
+		return parting[number - 60];
 	/* 23 and 27 to 29 are no reports: theirs is the line of every number that is none */
 	return words[number < sizeof words / sizeof *words ? number : 23];
 }

@@ -13,11 +13,12 @@ static uint32_t index_[PLACES], work[PLACES], given[BYTES / 4], answer[5];
 
 static uint32_t add(uint32_t sum, uint32_t byte) { return (uint32_t)(((uint64_t)sum * 257 + byte) % 4294967291u); }
 
-static uint32_t sum_bytes(const uint8_t *s, size_t n) {
-    uint32_t sum = 1;
+static uint32_t add_bytes(uint32_t sum, const uint8_t *s, size_t n) {
     for (size_t i = 0; i < n; i++) sum = add(sum, s[i]);
     return sum;
 }
+
+static uint32_t sum_bytes(const uint8_t *s, size_t n) { return add_bytes(1, s, n); }
 
 /* a place's low byte first, on any processor */
 static uint32_t sum_places(const uint32_t *s, size_t n) {
@@ -81,6 +82,12 @@ static int agrees(void) {
         scrieve_member(a, h[6], index_, h[1], work, h[2], h[4], h[5], b, h[7], answer, 5, value, sizeof value);
         part = sum_bytes(value, sizeof value);
         break;
+    case 6:
+        /* the second output is as long as b, and its bytes go on behind the first's in the sum */
+        memset(b, 165, h[7]);
+        scrieve_split(a, h[6], h[4], h[5], index_, h[1], work, h[2], out, h[3], b, h[7], answer, 4);
+        part = add_bytes(sum_bytes(out, h[3]), b, h[7]);
+        break;
     case 9: scrieve_check_leaning(a, h[6], b, h[7], index_, h[1], work, h[2], answer, 4); break;
     case 10: {
         /* b is the module and then the index, whose places the field for an output counts; nothing is lent */
@@ -102,7 +109,7 @@ static int agrees(void) {
     memcpy(seen, answer, 4 * sizeof *answer);
     seen[4] = sum_places(index_, h[1]);
     seen[5] = sum_places(work, h[2]);
-    seen[6] = h[0] == 3 || h[0] == 5 || h[0] == 11 ? part : sum_bytes(out, h[3]);
+    seen[6] = h[0] == 3 || h[0] == 5 || h[0] == 6 || h[0] == 11 ? part : sum_bytes(out, h[3]);
     return memcmp(seen, must, sizeof seen) == 0;
 }
 

@@ -3,7 +3,7 @@
 use Prim.Native.Nat.{ℕ}
 use mathlib.Core.Path.{_≡_, sym, _∙_}
 use mathlib.Core.List.{List}
-use Rattle.abi.specs.Told.{CheckTold, JoinTold, LeanTold, MemberTold, ValueTold, partAnswer, partOver, spanIn, toldIn}
+use Rattle.abi.specs.Told.{CheckTold, JoinTold, LeanTold, MemberTold, SplitTold, ValueTold, partAnswer, partOver, spanIn, toldIn}
 use Rattle.pairs.specs.Lean.{sizeOver}
 use Rattle.paper.specs.rules.Size.{sizeOf}
 use Rattle.values.specs.Given.{Finding, Given}
@@ -26,6 +26,13 @@ pub join-told-one : {a b : List ℕ} {places workPlaces : ℕ} {out told index i
     → (index ≡ index′) × (work ≡ work′) × (output ≡ output′) × (answer ≡ answer′)
 join-told-one h k =
     (h .indexes ∙ sym (k .indexes), h .works ∙ sym (k .works), h .outputs ∙ sym (k .outputs), h .answers ∙ sym (k .answers))
+
+pub split-told-one : {b : List ℕ} {n s places workPlaces : ℕ} {out out′ told index index′ work work′ first first′ second second′ answer answer′ : List ℕ}
+    → SplitTold b n s places workPlaces out out′ told index work first second answer
+    → SplitTold b n s places workPlaces out out′ told index′ work′ first′ second′ answer′
+    → (index ≡ index′) × (work ≡ work′) × (first ≡ first′) × (second ≡ second′) × (answer ≡ answer′)
+split-told-one h k =
+    (h .indexes ∙ sym (k .indexes), h .works ∙ sym (k .works), h .firsts ∙ sym (k .firsts), h .seconds ∙ sym (k .seconds), h .answers ∙ sym (k .answers))
 
 pub span-told-one : (f : Finding) (told : List ℕ) {span span′ : List ℕ} → span ≡ spanIn f told → span′ ≡ spanIn f told → span ≡ span′
 span-told-one f told h k = h ∙ sym k

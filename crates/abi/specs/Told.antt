@@ -12,6 +12,7 @@ use Rattle.paper.specs.rules.Gate.{gate}
 use Rattle.paper.specs.rules.Join.{join}
 use Rattle.paper.specs.rules.Name.{nameless, nameAt, nameStart}
 use Rattle.paper.specs.terms.Put.{laid}
+use Rattle.parts.specs.Cut.{cut}
 use Rattle.record.specs.Gives.{memberGives}
 use Rattle.values.specs.Given.{Finding, readFound, Given, given}
 
@@ -63,6 +64,14 @@ pub record JoinTold (a b : List ℕ) (places workPlaces : ℕ) (out told index w
   pub works : work ≡ join a b places workPlaces out .work
   pub outputs : output ≡ join a b places workPlaces out .output
   pub answers : answer ≡ toldIn (join a b places workPlaces out .answer) told
+
+-- taking apart: its answer and what it leaves in all four
+pub record SplitTold (b : List ℕ) (n s places workPlaces : ℕ) (out out′ told index work first second answer : List ℕ) : Type 0 where
+  pub indexes : index ≡ cut b n s places workPlaces out out′ .index
+  pub works : work ≡ cut b n s places workPlaces out out′ .work
+  pub firsts : first ≡ cut b n s places workPlaces out out′ .first
+  pub seconds : second ≡ cut b n s places workPlaces out out′ .second
+  pub answers : answer ≡ toldIn (cut b n s places workPlaces out out′ .answer) told
 
 -- a member's answer: its numbers, and its value's sixteen bytes, where there is room for them
 pub record ValueTold (g : Given) (told room answer value : List ℕ) : Type 0 where

@@ -3,6 +3,7 @@ use answers::Numbers;
 use answers::of_checked;
 use answers::of_joined;
 use answers::of_leaned;
+use answers::of_parted;
 use answers::of_report;
 use answers::of_sized;
 use handed::high_of;
@@ -20,7 +21,7 @@ use values::MemberSpan;
 use values::MemberValue;
 ghost use mathlib.Core.Path.{_≡_};
 ghost use lib.ListN.{length};
-ghost use Rattle.abi.specs.Told.{CheckTold, JoinTold, LeanTold, MemberTold, ValueTold, givenIn, partAnswer, partOver, spanIn, toldIn, toldWide};
+ghost use Rattle.abi.specs.Told.{CheckTold, JoinTold, LeanTold, MemberTold, SplitTold, ValueTold, givenIn, partAnswer, partOver, spanIn, toldIn, toldWide};
 ghost use Rattle.answers.specs.Numbers.{asPaper};
 ghost use Rattle.members.specs.Looked.{soughtAt};
 ghost use Rattle.pairs.specs.Lean.{sizeOver};
@@ -174,6 +175,25 @@ pub extern "C" fn scrieve_join(
     ensures { λ r. ⌜ JoinTold (now (a .entry)) (now (b .entry)) (length (now (index .entry))) (length (now (work .entry))) (now (out .entry)) (now (answer .entry)) (now (index .exit)) (now (work .exit)) (now (out .exit)) (now (answer .exit)) ⌝ }
 {
     tell(of_joined(join::join(a, b, index, work, out)), answer);
+}
+
+// A joined table taken apart behind so many types and string bytes.
+#[no_mangle]
+pub extern "C" fn scrieve_split(
+    blob: &[u8],
+    types: u32,
+    strings: u32,
+    index: &mut [u32],
+    work: &mut [u32],
+    first: &mut [u8],
+    second: &mut [u8],
+    answer: &mut [u32],
+)
+    ensures { λ r. ⌜ SplitTold (now (blob .entry)) types strings (length (now (index .entry))) (length (now (work .entry))) (now (first .entry)) (now (second .entry)) (now (answer .entry)) (now (index .exit)) (now (work .exit)) (now (first .exit)) (now (second .exit)) (now (answer .exit)) ⌝ }
+{
+    let at = TypeNo(types);
+    let parted = split::split(blob, at, NameOff(strings), index, work, first, second);
+    tell(of_parted(parted), answer);
 }
 
 // Where a member's bits lie, by the index that a check has left.
