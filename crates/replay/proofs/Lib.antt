@@ -2,3 +2,4 @@ pub mod Words
 pub mod Parts
 pub mod Runs
 pub mod Overs
+pub mod Aparts

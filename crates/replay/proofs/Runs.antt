@@ -19,6 +19,7 @@ use Rattle.record.specs.Gives.{MemberOf}
 use Rattle.sums.specs.Sum.{sumOf, lentPlaces, lentBytes}
 use Rattle.values.specs.Given.{givenAsPaper}
 use Rattle.values.specs.declared.MemberValue.{MemberValue}
+use Rattle.replay.specs.Apart.{apartSeen}
 use Rattle.replay.specs.Case.{checkSeen, sizeSeen, nameSeen, joinSeen, memberSeen, plainly, seenSums}
 use Rattle.replay.specs.Over.{leanSeen, sizeCutSeen, nameOverSeen}
 use Rattle.replay.specs.Run.{ranOf, RanAs, RunOf}
@@ -102,10 +103,11 @@ module _ (must : Seen) where
 
 module _ (h : Head) (a b : List ℕ) where
   pub run-unknown : (h .op ≡ 1 → ⊥) → (h .op ≡ 2 → ⊥) → (h .op ≡ 3 → ⊥) → (h .op ≡ 4 → ⊥) → (h .op ≡ 5 → ⊥)
-      → (h .op ≡ 9 → ⊥) → (h .op ≡ 10 → ⊥) → (h .op ≡ 11 → ⊥) → RunOf Unknown h a b
+      → (h .op ≡ 6 → ⊥) → (h .op ≡ 9 → ⊥) → (h .op ≡ 10 → ⊥) → (h .op ≡ 11 → ⊥) → RunOf Unknown h a b
   unfolding RunOf
-  run-unknown one two three four five nine ten eleven =
-      rw (ne-eqb _ _ one, ne-eqb _ _ two, ne-eqb _ _ three, ne-eqb _ _ four, ne-eqb _ _ five, ne-eqb _ _ nine, ne-eqb _ _ ten, ne-eqb _ _ eleven) refl
+  run-unknown one two three four five six nine ten eleven =
+      rw (ne-eqb _ _ one, ne-eqb _ _ two, ne-eqb _ _ three, ne-eqb _ _ four, ne-eqb _ _ five)
+      (rw (ne-eqb _ _ six, ne-eqb _ _ nine, ne-eqb _ _ ten, ne-eqb _ _ eleven) refl)
 
   pub run-check : (r : Ran) → h .op ≡ 1 → RanAs r (checkSeen a (h .index) (h .work) (lentBytes (h .output))) → RunOf r h a b
   unfolding RunOf
@@ -126,6 +128,10 @@ module _ (h : Head) (a b : List ℕ) where
   pub run-member : (r : Ran) → h .op ≡ 5 → RanAs r (memberSeen (h .x) (h .y) a b (h .index) (h .work)) → RunOf r h a b
   unfolding RunOf
   run-member r op e = rw op e
+
+  pub run-apart : (r : Ran) → h .op ≡ 6 → RanAs r (apartSeen (h .x) (h .y) a (h .index) (h .work) (h .output) (length b)) → RunOf r h a b
+  unfolding RunOf
+  run-apart r op e = rw op e
 
   -- over a base
   pub run-check-over : (r : Ran) → h .op ≡ 9 → RanAs r (leanSeen a b (h .index) (h .work) (lentBytes (h .output))) → RunOf r h a b

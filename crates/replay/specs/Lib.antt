@@ -1,3 +1,4 @@
+pub mod Apart
 pub mod Case
 pub mod Count
 pub mod Over

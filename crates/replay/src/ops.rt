@@ -9,6 +9,7 @@ use crate::given::places;
 use crate::leaning::check_over;
 use crate::leaning::name_over;
 use crate::leaning::size_over;
+use crate::parting::apart;
 use answers::Numbers;
 use answers::of_checked;
 use answers::of_joined;
@@ -253,6 +254,7 @@ pub(crate) fn run<'a>(h: Head, a: &'a [u8], b: &'a [u8]) -> Ran
         3 => name(h, a),
         4 => join(h, a, b),
         5 => member(h, a, b),
+        6 => apart(h, a, b),
         9 => check_over(h, a, b),
         10 => size_over(h, a, b),
         11 => name_over(h, a, b),

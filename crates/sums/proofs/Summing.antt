@@ -1,8 +1,8 @@
 -- Laws of `Sum`: how far a sum has come in a slice of bytes, and in a slice of places.
 -- Assumes nothing.
 use Prim.Native.Nat.{ℕ, zero, suc, _+_, _-_, _<_, _≤_}
-use mathlib.Core.Path.{_≡_, refl, ap}
-use mathlib.Core.List.{List, []}
+use mathlib.Core.Path.{_≡_, refl, sym, ap, _∙_}
+use mathlib.Core.List.{List, [], _∷_, _++_}
 use native.Mathlib.Numerals.{add-one}
 use native.Mathlib.Omega.{arith}
 use lib.ListN.{length, getD, drop}
@@ -16,9 +16,21 @@ pub record Summing (all : ℕ) (sum : ℕ) (left : List ℕ) : Type 0 where
   pub small : sum < 4294967291
   pub comes : sumFrom sum left ≡ all
 
+pub summing-from : {sum : ℕ} (s : List ℕ) → sum < 4294967291 → Summing (sumFrom sum s) sum s
+summing-from s small = record { small = small; comes = refl }
+
 pub summing-start : (s : List ℕ) → Summing (sumOf s) 1 s
 unfolding sumOf
-summing-start s = record { small = omega arith; comes = refl }
+summing-start s = summing-from s (omega arith)
+
+-- the sum of two slices goes on from the first's
+pub sum-both : (s t : List ℕ) {sum both : ℕ} → sum ≡ sumFrom 1 s → both ≡ sumFrom sum t → both ≡ sumOf (s ++ t)
+unfolding sumOf
+sum-both s t e f = f ∙ ap (λ (sum : ℕ). sumFrom sum t) e ∙ sym (go 1 s)
+  where
+    go : (sum : ℕ) (s : List ℕ) → sumFrom sum (s ++ t) ≡ sumFrom (sumFrom sum s) t
+    go sum [] = refl
+    go sum (byte ∷ s) = go (afterByte sum byte) s
 
 -- with nothing left, it is the sum
 pub summing-end : {all sum : ℕ} → Summing all sum [] → sum ≡ all

@@ -1,5 +1,6 @@
 // The fill of a lent slice before a call of a vector file's, and its sum after it.
 ghost use mathlib.Core.Path.{_≡_};
+ghost use mathlib.Core.List.{_++_};
 ghost use Prim.Native.Nat.{_<_};
 ghost use lib.ListN.{length};
 ghost use Rattle.paper.specs.declared.Order.the-variants.{LowFirst};
@@ -29,17 +30,32 @@ fn add_place(sum: u64, place: u32) -> u64
     add(s, w / 16777216 % 256)
 }
 
-// The sum of a slice of bytes, and of a slice of places.
-pub fn of_bytes(s: &[u8]) -> u32
-    ensures { λ r. ⌜ r ≡ sumOf (now (s .entry)) ⌝ }
+// The sum after the bytes of a slice.
+fn add_bytes(start: u64, s: &[u8]) -> u64
+    requires { ⌜ start < 4294967291 ⌝ }
+    ensures { λ r. ⌜ (r < 4294967291) × (r ≡ sumFrom start (now (s .entry))) ⌝ }
 {
-    let mut sum = START;
+    let mut sum = start;
     let mut i = 0;
     while i < s.len() {
         sum = add(sum, s[i] as u64);
         i += 1;
     }
-    sum as u32
+    sum
+}
+
+// The sum of a slice of bytes, of two of them as if they were one, and of a slice of places.
+pub fn of_bytes(s: &[u8]) -> u32
+    ensures { λ r. ⌜ r ≡ sumOf (now (s .entry)) ⌝ }
+{
+    add_bytes(START, s) as u32
+}
+
+pub fn of_both(s: &[u8], t: &[u8]) -> u32
+    ensures { λ r. ⌜ r ≡ sumOf (now (s .entry) ++ now (t .entry)) ⌝ }
+{
+    let sum = add_bytes(START, s);
+    add_bytes(sum, t) as u32
 }
 
 pub fn of_places(s: &[u32]) -> u32

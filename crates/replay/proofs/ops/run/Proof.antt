@@ -1,6 +1,6 @@
 -- `replay::ops::run` meets its contract: what each op gives.
 -- Assumes nothing.
-use Rattle.replay.proofs.Runs.{run-check, run-size, run-name, run-join, run-member, run-unknown, ran-as}
+use Rattle.replay.proofs.Runs.{run-check, run-size, run-name, run-join, run-member, run-apart, run-unknown, ran-as}
 use Rattle.replay.proofs.Runs.{run-check-over, run-size-over, run-name-over}
 use borrow.Author.Needs.{needs}
 use Rattle.replay.proofs.ops.run.Statement.{statement}
@@ -20,6 +20,9 @@ join-requires c κs = search needs
 
 member-requires : tie.Need-member-requires
 member-requires c κs = search needs
+
+apart-requires : tie.Need-apart-requires
+apart-requires c κs = search needs
 
 check-over-requires : tie.Need-check-over-requires
 check-over-requires c κs = search needs
@@ -46,19 +49,22 @@ returns-5 : tie.Need-returns-5
 returns-5 c = run-member _ _ _ _ (c .before .match .keys5) (c .member .ensures)
 
 returns-6 : tie.Need-returns-6
-returns-6 c = run-check-over _ _ _ _ (c .before .match .keys6) (c .check-over .ensures)
+returns-6 c = run-apart _ _ _ _ (c .before .match .keys6) (c .apart .ensures)
 
 returns-7 : tie.Need-returns-7
-returns-7 c = run-size-over _ _ _ _ (c .before .match .keys7) (c .size-over .ensures)
+returns-7 c = run-check-over _ _ _ _ (c .before .match .keys7) (c .check-over .ensures)
 
 returns-8 : tie.Need-returns-8
-returns-8 c = run-name-over _ _ _ _ (c .before .match .keys8) (c .name-over .ensures)
+returns-8 c = run-size-over _ _ _ _ (c .before .match .keys8) (c .size-over .ensures)
 
 returns-9 : tie.Need-returns-9
-returns-9 c =
+returns-9 c = run-name-over _ _ _ _ (c .before .match .keys9) (c .name-over .ensures)
+
+returns-10 : tie.Need-returns-10
+returns-10 c =
     let r = c .match .rest in
-    let s = r .0 .0 .0 in
-    run-unknown _ _ _ (s .0 .0 .0 .0 .1) (s .0 .0 .0 .1) (s .0 .0 .1) (s .0 .1) (s .1) (r .0 .0 .1) (r .0 .1) (r .1)
+    let s = r .0 .0 .0 .0 in
+    run-unknown _ _ _ (s .0 .0 .0 .0 .1) (s .0 .0 .0 .1) (s .0 .0 .1) (s .0 .1) (s .1) (r .0 .0 .0 .1) (r .0 .0 .1) (r .0 .1) (r .1)
 
 pub run-spec : {M : Type 1} → statement M
 run-spec =
@@ -69,6 +75,7 @@ run-spec =
     name-requires
     join-requires
     member-requires
+    apart-requires
     check-over-requires
     size-over-requires
     name-over-requires
@@ -80,4 +87,5 @@ run-spec =
     returns-6
     returns-7
     returns-8
-    returns-9)
+    returns-9
+    returns-10)
