@@ -2,10 +2,19 @@
 
 use crate::names::is_identifier;
 use crate::vectors::{module_and_index, places, run, told_name, Case, Seen};
-use crate::vectors::{CHECK, JOIN, LEANING, LEANING_NAME, LEANING_SIZE, NAME, SIZE};
+use crate::vectors::{APART, CHECK, JOIN, LEANING, LEANING_NAME, LEANING_SIZE, NAME, SIZE};
 
 /// The ops that the text is written for.
-pub const OPS: [u32; 7] = [CHECK, SIZE, NAME, JOIN, LEANING, LEANING_SIZE, LEANING_NAME];
+pub const OPS: [u32; 8] = [
+    CHECK,
+    SIZE,
+    NAME,
+    JOIN,
+    APART,
+    LEANING,
+    LEANING_SIZE,
+    LEANING_NAME,
+];
 
 /// What stands before the first list: the names it leans on, and how a case
 /// is held against the definitions.
@@ -42,8 +51,10 @@ fn named_list(which: usize, lines: &[String]) -> String {
     text
 }
 
-/// How cases are held against the definitions, and what those of a pair unfold.
-const UNFOLDED: &str = "leans checked sized named joined leaning leaningSized leaningNamed";
+/// How cases are held against the definitions, and what those of a pair and of
+/// a cut unfold.
+const UNFOLDED: &str =
+    "leans cuts checked sized named joined apart leaning leaningSized leaningNamed";
 
 /// The surface syntax of a list of numbers.
 fn numbers(list: &[u32]) -> String {
@@ -72,7 +83,8 @@ fn identifier_length(case: &Case, seen: &Seen) -> u32 {
 
 /// The five lists of a case. The index is the lent one for a size question,
 /// which is then not written as bytes of b, and the one afterwards for a
-/// check; the output is the one afterwards, or a name's part.
+/// check and a table taken apart; the output is the one afterwards, or a
+/// name's part.
 fn parts(case: &Case, seen: &Seen) -> [Vec<u32>; 5] {
     let [number, inner, t, p] = match case.op {
         LEANING_NAME => told_name(case),
@@ -103,7 +115,7 @@ fn parts(case: &Case, seen: &Seen) -> [Vec<u32>; 5] {
             let (module, index) = module_and_index(case);
             (wide(module), places(index))
         }
-        CHECK | LEANING => (wide(&case.b), seen.index.clone()),
+        CHECK | LEANING | APART => (wide(&case.b), seen.index.clone()),
         _ => (wide(&case.b), Vec::new()),
     };
     [head, wide(&case.a), b, index, wide(&seen.output)]

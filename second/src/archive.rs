@@ -1,6 +1,8 @@
 //! The proved code, as the archive has it for C: the functions that
 //! include/scrieve.h declares, lent Rust's slices.
 
+use crate::apart::Cut;
+
 #[link(name = "abi", kind = "static")]
 extern "C" {
     fn scrieve_check(
@@ -40,6 +42,22 @@ extern "C" {
         work_places: usize,
         out: *mut u8,
         out_bytes: usize,
+        answer: *mut u32,
+        answer_places: usize,
+    );
+    fn scrieve_split(
+        blob: *const u8,
+        blob_length: usize,
+        types: u32,
+        strings: u32,
+        index: *mut u32,
+        index_places: usize,
+        work: *mut u32,
+        work_places: usize,
+        first: *mut u8,
+        first_bytes: usize,
+        second: *mut u8,
+        second_bytes: usize,
         answer: *mut u32,
         answer_places: usize,
     );
@@ -145,6 +163,35 @@ pub fn join(
             work.len(),
             out.as_mut_ptr(),
             out.len(),
+            answer.as_mut_ptr(),
+            answer.len(),
+        )
+    }
+}
+
+pub fn split(
+    blob: &[u8],
+    cut: Cut,
+    index: &mut [u32],
+    work: &mut [u32],
+    first: &mut [u8],
+    second: &mut [u8],
+    answer: &mut [u32],
+) {
+    unsafe {
+        scrieve_split(
+            blob.as_ptr(),
+            blob.len(),
+            cut.types,
+            cut.strings,
+            index.as_mut_ptr(),
+            index.len(),
+            work.as_mut_ptr(),
+            work.len(),
+            first.as_mut_ptr(),
+            first.len(),
+            second.as_mut_ptr(),
+            second.len(),
             answer.as_mut_ptr(),
             answer.len(),
         )

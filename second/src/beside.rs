@@ -1,11 +1,12 @@
 //! One case through the archive and through this implementation, compared in
 //! every number and every place of every slice.
 
+use crate::apart::Cut;
 use crate::archive;
 use crate::archive_leaning::{self, Blobs};
 use crate::generate::random::Random;
 use crate::vectors::{module_and_index, places, run, start_in, told_name, Case, Seen};
-use crate::vectors::{CHECK, JOIN, LEANING, LEANING_NAME, LEANING_SIZE, MEMBER, NAME, SIZE};
+use crate::vectors::{APART, CHECK, JOIN, LEANING, LEANING_NAME, LEANING_SIZE, MEMBER, NAME, SIZE};
 use crate::vectors::{MOST_BYTES, MOST_PLACES};
 
 /// What stands in an answer's place before a call; no answer has this number.
@@ -21,6 +22,8 @@ struct Slices {
     index: Vec<u32>,
     work: Vec<u32>,
     output: Vec<u8>,
+    /// That of a table taken apart; else nothing of it is lent.
+    second_output: Vec<u8>,
     answer: Vec<u32>,
 }
 
@@ -35,12 +38,16 @@ pub struct Trial {
 impl Trial {
     /// Lent lengths are mostly the case's own; answers mostly fit.
     pub fn new(r: &mut Random, mut case: Case) -> Trial {
-        if [CHECK, JOIN, MEMBER, LEANING].contains(&case.op) {
+        if [CHECK, JOIN, MEMBER, APART, LEANING].contains(&case.op) {
             case.index_places = lent(r, case.index_places, MOST_PLACES);
             case.work_places = lent(r, case.work_places, MOST_PLACES);
         }
-        if case.op == JOIN {
+        if [JOIN, APART].contains(&case.op) {
             case.output_bytes = lent(r, case.output_bytes, MOST_BYTES);
+        }
+        if case.op == APART {
+            let bytes = lent(r, case.b.len() as u32, MOST_BYTES);
+            case.b.resize(bytes as usize, 0);
         }
         Trial {
             case,
@@ -78,6 +85,7 @@ impl Trial {
             index: vec![u32::MAX; case.index_places as usize + 2],
             work: vec![u32::MAX; case.work_places as usize + 2],
             output: vec![165; self.output_bytes() + 2],
+            second_output: vec![165; self.second_bytes() + 2],
             answer: vec![UNTOLD; self.answer_places + 2],
         }
     }
@@ -88,6 +96,14 @@ impl Trial {
             MEMBER => 16,
             LEANING_SIZE => 0,
             _ => self.case.output_bytes as usize,
+        }
+    }
+
+    /// The bytes of b, which nothing else is asked of.
+    fn second_bytes(&self) -> usize {
+        match self.case.op {
+            APART => self.case.b.len(),
+            _ => 0,
         }
     }
 
@@ -102,6 +118,12 @@ impl Trial {
             SIZE => archive::size(a, &s.given, self.case.x, answer),
             NAME => archive::name(a, self.case.x, answer),
             MEMBER => self.run_member(a, b, index, work, answer, inner(&mut s.output)),
+            APART => {
+                let (types, strings) = (self.case.x, self.case.y);
+                let cut = Cut { types, strings };
+                let outputs = (inner(&mut s.output), inner(&mut s.second_output));
+                archive::split(a, cut, index, work, outputs.0, outputs.1, answer)
+            }
             LEANING => archive_leaning::check(pair, index, work, answer),
             LEANING_SIZE => {
                 let (count, number) = (self.case.y, self.case.x);
@@ -160,7 +182,9 @@ impl Trial {
         inner(&mut s.index).copy_from_slice(&seen.index);
         inner(&mut s.work).copy_from_slice(&seen.work);
         if ![NAME, LEANING_NAME].contains(&self.case.op) {
-            inner(&mut s.output).copy_from_slice(&seen.output);
+            let (first, second) = seen.output.split_at(self.output_bytes());
+            inner(&mut s.output).copy_from_slice(first);
+            inner(&mut s.second_output).copy_from_slice(second);
         }
     }
 }
@@ -205,6 +229,12 @@ fn difference(archive: &Slices, second: &Slices) -> String {
         ("index", 1, archive.index.clone(), second.index.clone()),
         ("work", 1, archive.work.clone(), second.work.clone()),
         ("output", 1, bytes(&archive.output), bytes(&second.output)),
+        (
+            "second output",
+            1,
+            bytes(&archive.second_output),
+            bytes(&second.second_output),
+        ),
         (
             "given index",
             0,

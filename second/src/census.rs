@@ -1,6 +1,6 @@
 //! How many cases there are of each op and answer.
 
-use crate::vectors::{Seen, CHECK, JOIN, LEANING, LEANING_NAME, LEANING_SIZE};
+use crate::vectors::{Seen, APART, CHECK, JOIN, LEANING, LEANING_NAME, LEANING_SIZE};
 use crate::vectors::{MEMBER, NAME, SIZE};
 use std::collections::BTreeMap;
 
@@ -48,6 +48,7 @@ pub fn in_words(op: u32, number: u32, inner: u32) -> String {
         (NAME, 0) => ("name", "part of the blob"),
         (NAME, _) => ("name", "no name there"),
         (JOIN, 0) => ("join", "joined"),
+        (APART, 0) => ("apart", "both tables"),
         (MEMBER, 0) => ("member", "unsigned"),
         (MEMBER, 1) => ("member", "signed"),
         (MEMBER, 2) => ("member", "longer span"),
@@ -57,6 +58,7 @@ pub fn in_words(op: u32, number: u32, inner: u32) -> String {
         (LEANING_SIZE, _) => ("leaning size", "report"),
         (SIZE, _) => ("size", "report"),
         (MEMBER, _) => ("member", "report"),
+        (APART, _) => ("apart", "report"),
         _ => ("join", "report"),
     };
     let inside = if inner == 0 {

@@ -11,22 +11,27 @@ pub mod archive;
 pub mod archive_leaning;
 #[cfg(feature = "archive")]
 pub mod beside;
+pub mod brackets;
 pub mod census;
 pub mod changed;
 pub mod generate;
 pub mod goals;
+#[cfg(feature = "archive")]
+pub mod lists;
 pub mod make;
 pub mod plain_value;
 pub mod rules;
+pub mod runs;
 pub mod timing;
 pub mod vectors;
 pub mod yardstick;
 
 pub use rules::{
-    chain, check, head, header, join, layout, lean, lean_questions, limits, members, name_at,
-    names, order, record, reference, report, size, table, tail, walk,
+    apart, chain, check, head, header, join, layout, lean, lean_questions, limits, members,
+    name_at, names, order, record, reference, report, size, table, tail, walk,
 };
 
+pub use apart::{take_apart, ApartRefusal, Cut};
 pub use check::check;
 pub use join::{join, JoinRefusal};
 pub use lean::{check_leaning, LeaningRefusal};

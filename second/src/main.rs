@@ -14,14 +14,15 @@
 //! of a name. With `--thin` fewer of the edges and the large are crossed with
 //! each other. A seed's cases are of both orders and mostly small, with some at
 //! the limits; with `--small` no limit is reached, with `--long` checks, joins,
-//! members and pairs are of long tables only.
+//! members, pairs and joins taken apart are of long tables only.
 //!
 //! Without `--ops` there are cases of ops 1 to 4. Op 5, a member of a record, is
 //! had with `--ops 5`, or with `--members N` behind all others: its edges and
 //! large tables where those are asked for, and N of the seed's. Ops 9 to 11, a
 //! module's table on its base, are had with `--ops 9,10,11`, or likewise with
-//! `--leaning N` behind those, N of the seed's for each of the three. `antt` has
-//! no op 5, and without `--ops` the edges of ops 9 to 11 behind the others.
+//! `--leaning N` behind those, N of the seed's for each of the three; op 6, a
+//! join taken apart, with `--ops 6`, or with `--apart N` behind all of these.
+//! `antt` has no op 5, op 6 with `--ops 6` alone, and without `--ops` the edges of ops 9 to 11 behind the others.
 //!
 //! `ordinary` has checks only, and compares both ordinary checkers with this
 //! implementation; its last line is `N agreed, 0 differed`, or it is red.
@@ -43,13 +44,13 @@ second census  --seed S --cases N [--ops 1,2,3] [--small|--long]
 second check FILE [MODULE]
 second changed FILE
 second ordinary --seed S --cases N [--small|--long]
-(ops are 1 to 5 and 9 to 11, without --ops 1 to 4; --members N: behind all, those of op 5, with N of the seed's;
---leaning N: behind those, ops 9 to 11, with N of the seed's of each;
+(ops are 1 to 6 and 9 to 11, without --ops 1 to 4; --members N: behind all, those of op 5, with N of the seed's;
+--leaning N: behind those, ops 9 to 11, with N of the seed's of each; --apart N: behind those, op 6, with N of the seed's;
 --edges: the fixed cases of every rule's edges in front, and nothing else without --cases;
 --part NAME: one part of them, NAME-turned: in the other byte order; --each: each case in a list of its own;
 --large: the fixed large tables before them; --thin: fewer of both crossed with each other;
 --names: every byte at every place of a name before the edges;
---small: no limit is reached; --long: checks, joins, members and pairs of long tables only)";
+--small: no limit is reached; --long: checks, joins, members, pairs and joins taken apart of long tables only)";
 
 fn main() -> ExitCode {
     let arguments: Vec<String> = std::env::args().skip(1).collect();
@@ -78,8 +79,8 @@ fn act(arguments: &[String]) -> Result<Vec<u8>, String> {
     }
 }
 
-/// Those that the words ask for; `--members`, `--leaning` and their counts are
-/// taken out first.
+/// Those that the words ask for; `--members`, `--leaning`, `--apart` and their
+/// counts are taken out first.
 fn all_cases(arguments: &[String]) -> Result<Vec<Case>, String> {
     let mut rest = arguments.to_vec();
     let mut behind = Vec::new();
@@ -96,9 +97,10 @@ fn all_cases(arguments: &[String]) -> Result<Vec<Case>, String> {
 type Ops = fn(usize) -> Behind;
 
 /// What stands behind all others, in this order.
-const BEHIND: [(&str, Ops); 2] = [
+const BEHIND: [(&str, Ops); 3] = [
     ("--members", Behind::members),
     ("--leaning", Behind::leaning),
+    ("--apart", Behind::apart),
 ];
 
 /// Cases as text, in lists of 25, or with `--each` each by itself. The part
@@ -111,7 +113,7 @@ fn antt(arguments: &[String]) -> Result<Vec<u8>, String> {
         ..wanted(&rest)?
     };
     if !wanted.ops.iter().all(|op| second::antt::OPS.contains(op)) {
-        return Err("antt has ops 1 to 4 and 9 to 11".to_string());
+        return Err("antt has ops 1 to 4, 6 and 9 to 11".to_string());
     }
     // The edges of a pair are always with those of the ops of before.
     let without_ops = !rest.contains(&"--ops".to_string());
@@ -152,7 +154,7 @@ fn wanted(arguments: &[String]) -> Result<Wanted, String> {
     let fixed = wanted.edges || wanted.large || wanted.names;
     wanted.cases = count.unwrap_or(if fixed { 0 } else { 100 });
     if wanted.ops.is_empty() || !wanted.ops.iter().all(|op| OPS.contains(op)) {
-        return Err("ops are 1 to 5 and 9 to 11".to_string());
+        return Err("ops are 1 to 6 and 9 to 11".to_string());
     }
     Ok(wanted)
 }

@@ -2,7 +2,7 @@
 //! keeps no rule of the paper by itself, so it can build refused tables too.
 
 use crate::order::Order;
-use crate::table::{Kind, HEADER_BYTES};
+use crate::table::{blob_in, Kind};
 
 /// A record before it is written.
 #[derive(Clone, PartialEq, Eq, Debug)]
@@ -20,6 +20,16 @@ impl Raw {
 
     pub fn is(&self, kind: Kind) -> bool {
         self.kind_number() == kind as u32
+    }
+
+    /// A word counted from the head.
+    pub fn put(&mut self, at: usize, word: u32) {
+        match at {
+            0 => self.name = word,
+            1 => self.info = word,
+            2 => self.third = word,
+            _ => self.tail[at - 3] = word,
+        }
     }
 
     pub fn set_vlen(&mut self, vlen: u32) {
@@ -188,20 +198,7 @@ impl Make {
 /// A blob of a type section and a string section behind a good header. What is
 /// made is little-endian; `generate::turn` makes the other order of it.
 pub fn blob_of(words: &[u32], strings: &[u8]) -> Vec<u8> {
-    let type_len = 4 * words.len() as u32;
-    let mut blob = Order::Little.opening().to_vec();
-    let header = [
-        HEADER_BYTES as u32,
-        0,
-        type_len,
-        type_len,
-        strings.len() as u32,
-    ];
-    for word in header.iter().chain(words) {
-        blob.extend(Order::Little.bytes(*word));
-    }
-    blob.extend(strings);
-    blob
+    blob_in(Order::Little, words, strings)
 }
 
 /// The word at a byte place of a blob, in its own order.

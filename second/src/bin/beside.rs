@@ -1,30 +1,44 @@
 //! The archive and this implementation in one process: generated cases of
 //! every op through both, until the first that differs.
 //!
-//!     beside [--seed N] [--cases N]
+//!     beside [--seed N] [--cases N | --lists N]
 //!
 //! The fixed cases come first, as many as fit the count: tables at the limits,
-//! and every rule's edges. Lent lengths vary with the seed. Status 1 for a
-//! difference, 2 for a wrong call.
+//! and every rule's edges. Lent lengths vary with the seed. With `--lists` so
+//! many lists of two to sixteen of the tables of example/ are joined instead,
+//! each in two random ways of bracketing, and taken apart again at every join.
+//! Status 1 for a difference, 2 for a wrong call.
 
 use second::beside::Trial;
 use second::census::Census;
 use second::generate::random::Random;
 use second::generate::{cases, Scale, Wanted};
-use second::vectors::{Case, CHECK, JOIN, LEANING, OPS};
+use second::lists::Lists;
+use second::vectors::{Case, APART, CHECK, JOIN, LEANING, OPS};
+use std::path::Path;
 use std::process::ExitCode;
 
-const USAGE: &str = "beside [--seed N] [--cases N]";
+const USAGE: &str = "beside [--seed N] [--cases N | --lists N]";
 
 /// Of a thousand generated cases, how many have each scale.
 const SHARES: [(Scale, usize); 3] = [(Scale::Small, 400), (Scale::Full, 590), (Scale::Long, 10)];
 
 fn main() -> ExitCode {
     let arguments: Vec<String> = std::env::args().skip(1).collect();
-    let Some((seed, count)) = asked(&arguments) else {
+    let Some(asked) = asked(&arguments) else {
         eprintln!("{USAGE}");
         return ExitCode::from(2);
     };
+    let (agreed, differed) = match asked.lists {
+        Some(count) => lists(asked.seed, count),
+        None => generated(asked.seed, asked.cases),
+    };
+    println!("{agreed} agreed, {} differed", u32::from(differed));
+    ExitCode::from(u8::from(differed))
+}
+
+/// How many cases agreed, and whether one then differed.
+fn generated(seed: u64, count: usize) -> (usize, bool) {
     let mut run = Run {
         r: Random::new(seed),
         left: count,
@@ -36,22 +50,53 @@ fn main() -> ExitCode {
     );
     let differed = run.all().is_err();
     println!("{}", run.summary());
-    let agreed = count - run.left;
-    println!("{agreed} agreed, {} differed", u32::from(differed));
-    ExitCode::from(u8::from(differed))
+    (count - run.left, differed)
 }
 
-fn asked(arguments: &[String]) -> Option<(u64, usize)> {
-    let (mut seed, mut count) = (1, 50_000);
+/// The same of lists of the tables in example/.
+fn lists(seed: u64, count: usize) -> (usize, bool) {
+    let folder = Path::new(env!("CARGO_MANIFEST_DIR")).join("../example");
+    let mut lists = Lists::of(&folder).expect("the tables of example/");
+    let [little, big] = lists.counts();
+    println!("seed {seed}; {little} little-endian tables and {big} big-endian");
+    let mut r = Random::new(seed);
+    let mut longest = 0;
+    for agreed in 0..count {
+        match lists.compare(&mut r) {
+            Ok(bytes) => longest = longest.max(bytes),
+            Err(what) => {
+                println!("differs: list {}: {what}", agreed + 1);
+                return (agreed, true);
+            }
+        }
+    }
+    println!("the longest joined table has {longest} bytes");
+    (count, false)
+}
+
+/// What the words ask for.
+struct Asked {
+    seed: u64,
+    cases: usize,
+    lists: Option<usize>,
+}
+
+fn asked(arguments: &[String]) -> Option<Asked> {
+    let mut asked = Asked {
+        seed: 1,
+        cases: 50_000,
+        lists: None,
+    };
     for pair in arguments.chunks(2) {
         let value = pair.get(1)?.parse::<u64>().ok()?;
         match pair[0].as_str() {
-            "--seed" => seed = value,
-            "--cases" => count = value as usize,
+            "--seed" => asked.seed = value,
+            "--cases" => asked.cases = value as usize,
+            "--lists" => asked.lists = Some(value as usize),
             _ => return None,
         }
     }
-    Some((seed, count))
+    Some(asked)
 }
 
 /// A case has differed; it has been printed.
@@ -111,13 +156,14 @@ impl Run {
         Ok(())
     }
 
-    /// The census, and how many checks, joins and pairs went through.
+    /// The census, and how many checks, joins, pairs and cuts went through.
     fn summary(&self) -> String {
         let mut text = self.census.text();
         for (op, what) in [
             (CHECK, "checks accepted"),
             (JOIN, "joins done"),
             (LEANING, "pairs accepted"),
+            (APART, "tables taken apart"),
         ] {
             let (done, all) = (self.census.count(op, Some(0)), self.census.count(op, None));
             let percent = 100.0 * done as f64 / all.max(1) as f64;

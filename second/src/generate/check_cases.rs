@@ -83,7 +83,12 @@ pub fn aimed(r: &mut Random, scale: Scale, aim: u32) -> Aimed {
     if aim == WILD {
         return wild(r, scale);
     }
-    let mut m = valid::table(r, scale);
+    let m = valid::table(r, scale);
+    broken(r, scale, m, aim)
+}
+
+/// An accepted table with damage for one of the reports, if any.
+pub fn broken(r: &mut Random, scale: Scale, mut m: Make, aim: u32) -> Aimed {
     if aim != ACCEPTED && r.one_in(4) {
         let number = r.between(10, 15);
         damage(r, &mut m, number);

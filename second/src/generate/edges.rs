@@ -2,6 +2,7 @@
 //! word, every byte of a name, every reference to every kind.
 
 use crate::generate::turn::turned_case;
+use crate::generate::{edges_apart, edges_apart_words};
 use crate::generate::{edges_faults, edges_joins, edges_layout, edges_leaning};
 use crate::generate::{edges_leaning_bases, edges_leaning_names, edges_leaning_sizes};
 use crate::generate::{edges_leaning_types, edges_names, edges_offsets};
@@ -79,6 +80,8 @@ fn one_order() -> impl Iterator<Item = &'static Part> {
         edges_joins::PARTS,
         edges_leaning::PARTS,
         edges_leaning_types::PARTS,
+        edges_apart::PARTS,
+        edges_apart_words::PARTS,
     ];
     parts.into_iter().flatten()
 }

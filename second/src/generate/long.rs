@@ -95,7 +95,7 @@ pub fn check(r: &mut Random) -> Case {
 }
 
 /// A long table with one of the reports 2 to 7 and 10 to 15, most likely.
-fn damaged(r: &mut Random, mut m: Make) -> Vec<u8> {
+pub fn damaged(r: &mut Random, mut m: Make) -> Vec<u8> {
     match r.pick(&[2, 3, 4, 5, 6, 7, 10, 11, 12, 13, 14, 15]) {
         6 => damage_bytes::cut_records(r, &mut m),
         7 => damage_bytes::unknown_kind(r, &mut m),
@@ -175,23 +175,29 @@ fn with_places(r: &mut Random, more: u32) -> Case {
 }
 
 /// Two tables of at most so many bytes when joined.
-fn pair(r: &mut Random, together: usize) -> (Make, Make) {
+pub fn pair(r: &mut Random, together: usize) -> (Make, Make) {
     let first = r.between(1_000, together as u32 - 1_000) as usize;
     let a = table(r, first);
     let b = table(r, together + 25 - a.blob().len());
     (a, b)
 }
 
-/// As many types together as may be, or a few more: pointers fill up what is missing.
+/// As many types together as may be, or a few more.
 fn around_type_limit(r: &mut Random) -> Case {
     let together = TYPE_LIMIT - 1 + r.pick(&[0, 1, 1, 2, 2, 3]);
+    let (a, b) = pair_of_types(r, together);
+    lend(r, a.blob(), b.blob(), 0)
+}
+
+/// Two tables of so many types: pointers fill up what is missing.
+pub fn pair_of_types(r: &mut Random, together: u32) -> (Make, Make) {
     let (mut a, mut b) = pair(r, 48_000);
     let missing = together - a.count() - b.count();
     let first = r.below(missing);
     for number in 0..missing {
         add_pointer(r, if number < first { &mut a } else { &mut b });
     }
-    lend(r, a.blob(), b.blob(), 0)
+    (a, b)
 }
 
 /// Strings fill up to this joined length; the output is so much shorter.

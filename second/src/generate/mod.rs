@@ -1,12 +1,16 @@
 //! The generator: cases of every op from a seed. The same seed, count and
 //! choices give the same cases on every machine.
 
+pub mod apart_cases;
 pub mod check_cases;
+pub mod crossing;
 pub mod damage_bytes;
 pub mod damage_layout;
 pub mod damage_references;
 pub mod damage_words;
 pub mod edges;
+pub mod edges_apart;
+pub mod edges_apart_words;
 pub mod edges_faults;
 pub mod edges_joins;
 pub mod edges_layout;
@@ -34,7 +38,9 @@ pub mod grow_members;
 pub mod heavy;
 pub mod heavy_slow;
 pub mod join_cases;
+pub mod joined;
 pub mod large;
+pub mod large_apart;
 pub mod large_fixed;
 pub mod large_joins;
 pub mod large_leaning;
@@ -42,6 +48,7 @@ pub mod large_records;
 pub mod leaning_cases;
 pub mod leaning_questions;
 pub mod long;
+pub mod long_apart;
 pub mod long_pairs;
 pub mod name_cases;
 pub mod pair;
@@ -53,7 +60,7 @@ pub mod size_cases;
 pub mod turn;
 pub mod valid;
 
-use crate::vectors::{run, Case, CHECK, JOIN, LEANING, LEANING_NAME, LEANING_SIZE};
+use crate::vectors::{run, Case, APART, CHECK, JOIN, LEANING, LEANING_NAME, LEANING_SIZE};
 use crate::vectors::{MEMBER, NAME, SIZE};
 use random::Random;
 use turn::in_some_order;
@@ -67,8 +74,8 @@ pub enum Scale {
     Small,
     /// Mostly small, some at the limits.
     Full,
-    /// Checks, joins, members and pairs of long tables only; the rest as at
-    /// full scale.
+    /// Checks, joins, members, pairs and joins taken apart of long tables only;
+    /// the rest as at full scale.
     Long,
 }
 
@@ -120,6 +127,7 @@ pub fn cases(wanted: &Wanted) -> Vec<Case> {
         found.extend(large_joins::cases(wanted.thin));
         found.extend(large_records::cases(wanted.thin));
         found.extend(large_leaning::cases(wanted.thin));
+        found.extend(large_apart::cases(wanted.thin));
     }
     if wanted.names {
         found.extend(every_byte::cases());
@@ -164,6 +172,11 @@ impl Behind {
         let ops = &[LEANING, LEANING_SIZE, LEANING_NAME];
         Behind { ops, cases }
     }
+
+    pub fn apart(cases: usize) -> Behind {
+        let ops = &[APART];
+        Behind { ops, cases }
+    }
 }
 
 /// Those wanted, and the others behind them: what stands in front stays as it
@@ -185,9 +198,9 @@ fn asked_for(case: &Case, wanted: &Wanted) -> bool {
     wanted.ops.contains(&case.op) && wanted.only.is_none_or(|number| run(case).number == number)
 }
 
-/// Checks, joins, members and pairs have the most answers, so they come more
-/// often.
-const WEIGHTED: [u32; 19] = [
+/// Checks, joins, members, pairs and joins taken apart have the most answers,
+/// so they come more often.
+const WEIGHTED: [u32; 22] = [
     CHECK,
     CHECK,
     CHECK,
@@ -207,6 +220,9 @@ const WEIGHTED: [u32; 19] = [
     LEANING_SIZE,
     LEANING_SIZE,
     LEANING_NAME,
+    APART,
+    APART,
+    APART,
 ];
 
 /// Each is made of little-endian tables, and turned round as often as not, but
@@ -221,6 +237,8 @@ fn one(r: &mut Random, wanted: &Wanted) -> Case {
         (JOIN, Scale::Long) => long::join(r),
         (MEMBER, Scale::Long) => return long::member(r),
         (MEMBER, scale) => return record_cases::case(r, scale),
+        (APART, Scale::Long) => long_apart::case(r),
+        (APART, scale) => apart_cases::case(r, scale),
         (LEANING, Scale::Long) => long_pairs::check(r),
         (LEANING, scale) => leaning_cases::case(r, scale),
         (LEANING_SIZE, scale) => leaning_questions::size(r, scale),

@@ -5,7 +5,7 @@ use crate::limits::{BYTE_LIMIT, TYPE_LIMIT};
 use crate::names::asked_of_entry;
 use crate::reference::references;
 use crate::report::Report;
-use crate::table::{Record, Table, HEADER_BYTES, HEAD_BYTES};
+use crate::table::{blob_in, Record, Table, HEAD_BYTES};
 
 /// Why a join was refused, in the order in which the grounds are asked.
 #[derive(Clone, Copy, PartialEq, Eq, Debug)]
@@ -98,45 +98,43 @@ fn joined_blob(first: &Table, second: &Table) -> Vec<u8> {
             first.strings.len() as u32 - 1,
         ));
     }
-    let type_len = 4 * types.len() as u32;
-    let str_len = (first.strings.len() + second.strings.len() - 1) as u32;
-    let mut blob = first.order.opening().to_vec();
-    let header = [HEADER_BYTES as u32, 0, type_len, type_len, str_len];
-    for word in header.into_iter().chain(types) {
-        blob.extend(first.order.bytes(word));
-    }
-    blob.extend(&first.strings);
-    blob.extend(&second.strings[1..]);
-    blob
+    let strings = [&first.strings, &second.strings[1..]].concat();
+    blob_in(first.order, &types, &strings)
 }
 
 /// A record as it stands: its head, then its tail.
-fn words_of(record: &Record) -> Vec<u32> {
+pub fn words_of(record: &Record) -> Vec<u32> {
     let mut words = vec![record.name, record.info, record.third];
     words.extend(&record.tail);
     words
 }
 
 /// Every name offset but 0 rises by the first's strings less the shared zero
-/// byte, every type number but 0 by the first's type count. A DECL_TAG's
-/// component and all other words stay.
+/// byte, every type number but 0 by the first's type count.
 pub fn raised(record: &Record, types: u32, strings: u32) -> Vec<u32> {
+    let raise = |number, by| if number == 0 { 0 } else { number + by };
+    renumbered(record, |to| raise(to, types), |name| raise(name, strings))
+}
+
+/// A record with every type number and every name offset changed. A DECL_TAG's
+/// component and all other words stay.
+pub fn renumbered(
+    record: &Record,
+    type_number: impl Fn(u32) -> u32,
+    name: impl Fn(u32) -> u32,
+) -> Vec<u32> {
     let mut words = words_of(record);
     for at in name_words(record) {
-        if words[at] != 0 {
-            words[at] += strings;
-        }
+        words[at] = name(words[at]);
     }
     for reference in references(record) {
-        if reference.to != 0 {
-            words[reference.word] += types;
-        }
+        words[reference.word] = type_number(reference.to);
     }
     words
 }
 
 /// Where name offsets stand in a record, counted in words from its head.
-fn name_words(record: &Record) -> Vec<usize> {
+pub fn name_words(record: &Record) -> Vec<usize> {
     let mut places = vec![0];
     if let (Some(_), Some(words)) = (asked_of_entry(record.kind), record.kind.entry_words()) {
         let head = HEAD_BYTES / 4;

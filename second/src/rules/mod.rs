@@ -1,6 +1,7 @@
 //! The paper's rules, a file for each part of it: what is read beside the
 //! paper. All else in this crate makes cases, runs them and compares.
 
+pub mod apart;
 pub mod chain;
 pub mod check;
 pub mod head;

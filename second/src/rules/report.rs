@@ -58,6 +58,8 @@ pub fn meaning(number: u32) -> &'static str {
         33 => "the member is neither an integer nor an enum",
         34 => "the table is refused",
         35 => "the table is big-endian",
+        60 => "no two tables with that count and length join to this one",
+        61 => "an output is shorter than its table",
         _ => "no report",
     }
 }

@@ -178,3 +178,21 @@ impl Table {
         Some(&rest[..end])
     }
 }
+
+/// A blob: the header, the words of the types, the strings.
+pub fn blob_in(order: Order, types: &[u32], strings: &[u8]) -> Vec<u8> {
+    let type_len = 4 * types.len() as u32;
+    let header = [
+        HEADER_BYTES as u32,
+        0,
+        type_len,
+        type_len,
+        strings.len() as u32,
+    ];
+    let mut blob = order.opening().to_vec();
+    for word in header.iter().chain(types) {
+        blob.extend(order.bytes(*word));
+    }
+    blob.extend(strings);
+    blob
+}
