@@ -1,4 +1,4 @@
-// Whether two types of two tables say the same: the info word, names by their bytes, what is referred to by its kind, name and
+// Whether two types of a table say the same: the info word, names by their bytes, what is referred to by its kind, name and
 // size, one step and no further, all other words as they stand.
 use answers::of_sized;
 use paper::Order;
@@ -64,8 +64,8 @@ fn same_until_zero(s: &[u8], z: &[u8]) -> bool {
     false
 }
 
-pub(crate) fn same_name(a: &[u8], i: u32, b: &[u8], j: u32) -> bool {
-    same_until_zero(name_bytes(a, i), name_bytes(b, j))
+pub(crate) fn same_name(blob: &[u8], i: u32, j: u32) -> bool {
+    same_until_zero(name_bytes(blob, i), name_bytes(blob, j))
 }
 
 fn same_size(s: Sized, z: Sized) -> bool {
@@ -74,50 +74,32 @@ fn same_size(s: Sized, z: Sized) -> bool {
     one.number == other.number && one.p == other.p
 }
 
-// What stands at a number of the one table and what stands at one of the other have one kind, name and size.
-fn same_referent(
-    a: &[u8],
-    a_index: &[u32],
-    a_n: u32,
-    b: &[u8],
-    b_index: &[u32],
-    b_n: u32,
-    t: u32,
-    u: u32,
-) -> bool {
-    let r = record_at(a, a_index, a_n, t);
-    let s = record_at(b, b_index, b_n, u);
-    if kind_of(info_of(words::order_of(a), r)) != kind_of(info_of(words::order_of(b), s)) {
+// What stands at two numbers has one kind, name and size.
+fn same_referent(blob: &[u8], index: &[u32], n: u32, t: u32, u: u32) -> bool {
+    let order = words::order_of(blob);
+    let r = record_at(blob, index, n, t);
+    let s = record_at(blob, index, n, u);
+    if kind_of(info_of(order, r)) != kind_of(info_of(order, s)) {
         return false;
     }
-    let i = name_of(words::order_of(a), r);
-    let j = name_of(words::order_of(b), s);
-    if !same_name(a, i.0, b, j.0) {
+    let i = name_of(order, r);
+    let j = name_of(order, s);
+    if !same_name(blob, i.0, j.0) {
         return false;
     }
     same_size(
-        sizes::size(a, a_index, TypeNo(t)),
-        sizes::size(b, b_index, TypeNo(u)),
+        sizes::size(blob, index, TypeNo(t)),
+        sizes::size(blob, index, TypeNo(u)),
     )
 }
 
 // Two words of one role say the same.
-fn same_word(
-    a: &[u8],
-    a_index: &[u32],
-    a_n: u32,
-    b: &[u8],
-    b_index: &[u32],
-    b_n: u32,
-    role: u32,
-    w: u32,
-    v: u32,
-) -> bool {
+fn same_word(blob: &[u8], index: &[u32], n: u32, role: u32, w: u32, v: u32) -> bool {
     if is_name(role) {
-        return same_name(a, w, b, v);
+        return same_name(blob, w, v);
     }
     if is_reference(role) {
-        return same_referent(a, a_index, a_n, b, b_index, b_n, w, v);
+        return same_referent(blob, index, n, w, v);
     }
     w == v
 }
@@ -142,25 +124,16 @@ fn word_behind(order: Order, r: &[u8], i: u32) -> u32 {
 }
 
 // Two records of one info word say the same in every word behind the head.
-fn same_tail(
-    a: &[u8],
-    a_index: &[u32],
-    a_n: u32,
-    r: &[u8],
-    b: &[u8],
-    b_index: &[u32],
-    b_n: u32,
-    s: &[u8],
-) -> bool {
-    let info = info_of(words::order_of(a), r);
+fn same_tail(blob: &[u8], index: &[u32], n: u32, r: &[u8], s: &[u8]) -> bool {
+    let order = words::order_of(blob);
+    let info = info_of(order, r);
     let kind = kind_of(info);
-    let n = tail_words(info);
+    let left = tail_words(info);
     let mut i: u32 = 0;
-    while i < n {
-        let w = word_behind(words::order_of(a), r, i);
-        let v = word_behind(words::order_of(b), s, i);
-        let role = role_of(kind, i);
-        if !same_word(a, a_index, a_n, b, b_index, b_n, role, w, v) {
+    while i < left {
+        let w = word_behind(order, r, i);
+        let v = word_behind(order, s, i);
+        if !same_word(blob, index, n, role_of(kind, i), w, v) {
             return false;
         }
         i += 1;
@@ -169,25 +142,17 @@ fn same_tail(
 }
 
 // Two records say the same.
-pub(crate) fn same_record(
-    a: &[u8],
-    a_index: &[u32],
-    a_n: u32,
-    r: &[u8],
-    b: &[u8],
-    b_index: &[u32],
-    b_n: u32,
-    s: &[u8],
-) -> bool {
-    let info = info_of(words::order_of(a), r);
-    if info != info_of(words::order_of(b), s) {
+pub(crate) fn same_record(blob: &[u8], index: &[u32], n: u32, r: &[u8], s: &[u8]) -> bool {
+    let order = words::order_of(blob);
+    let info = info_of(order, r);
+    if info != info_of(order, s) {
         return false;
     }
     let role = third_role(kind_of(info));
-    let w = third_of(words::order_of(a), r);
-    let v = third_of(words::order_of(b), s);
-    if !same_word(a, a_index, a_n, b, b_index, b_n, role, w, v) {
+    let w = third_of(order, r);
+    let v = third_of(order, s);
+    if !same_word(blob, index, n, role, w, v) {
         return false;
     }
-    same_tail(a, a_index, a_n, r, b, b_index, b_n, s)
+    same_tail(blob, index, n, r, s)
 }

@@ -1,50 +1,38 @@
 // The arguments: which verb, of which files and numbers; and how the status is told.
+use crate::arguments::argument;
+use crate::arguments::last;
+use crate::arguments::number_at;
+use crate::arguments::place;
 use crate::based::base_word;
 use crate::based::flag_from;
 use crate::based::is_last;
-use crate::based::last;
+use crate::lists::join_call;
 use crate::records::read_call;
 use crate::verbs::Verb;
 use crate::verbs::is_of_one;
 use crate::verbs::least;
 use crate::verbs::most;
+use crate::verbs::too_few;
+use crate::verbs::too_many;
 use crate::verbs::verb_at;
 use asks::Ask;
 use asks::ask_file;
 use files::Status;
-use files::fail_text;
-use joins::join_files;
 use texts::Number;
 use texts::first_of;
-use texts::parse;
 use wrongs::NO_BASE;
 use wrongs::NO_OFFSET;
-use wrongs::NO_OUT;
 use wrongs::NO_TYPE;
 use wrongs::NO_TYPE_NAME;
 use wrongs::NOT_BASED;
-use wrongs::TOO_FEW;
-use wrongs::TOO_MANY;
 use wrongs::TWO_BASES;
-use wrongs::TWO_DASHES;
 use wrongs::UNKNOWN;
 use wrongs::help;
 use wrongs::no_words;
 use wrongs::wrong_at;
 
-// An argument's length in the lent bytes, and whether it is there as a whole.
-pub(crate) struct Arg {
-    pub n: usize,
-    pub is_whole: bool,
-}
-
 // The descriptor on which the launcher waits for the status.
 const STATUS: i32 = 3;
-
-// The place of an argument, counted from the verb on.
-pub(crate) fn place(first: u32, k: u32) -> usize {
-    (first as usize) + (k as usize)
-}
 
 // How many words there are from the verb on.
 fn words_from(first: u32, count: usize) -> usize {
@@ -52,24 +40,6 @@ fn words_from(first: u32, count: usize) -> usize {
         return 0;
     }
     count - first as usize
-}
-
-pub(crate) fn argument(i: usize, s: &mut [u8]) -> Arg {
-    let n = os::arg(i, s);
-    if os::errno() != 0 {
-        fail_text(b"argument");
-        return Arg {
-            n: 0,
-            is_whole: false,
-        };
-    }
-    Arg { n, is_whole: true }
-}
-
-fn number_at(i: usize) -> Number {
-    let mut s = [0u8; 4096];
-    let n = os::arg(i, &mut s);
-    parse(&s[..n])
 }
 
 // A question about the table in a file, and in its base's where it has one. Standard input can be read once.
@@ -141,43 +111,6 @@ fn ask_numbered(verb: Verb, first: u32) -> Status {
     }
 }
 
-// Standard input can be read once, and OUT is a file that is renamed.
-fn join_named(a: &[u8], b: &[u8], out: &[u8], first: u32) -> Status {
-    if check::same(out, b"-") {
-        return wrong_at(place(first, 3), NO_OUT);
-    }
-    if check::same(a, b"-") {
-        if check::same(b, b"-") {
-            return wrong_at(place(first, 2), TWO_DASHES);
-        }
-    }
-    join_files(a, b, out)
-}
-
-fn join_call(first: u32) -> Status {
-    let mut a = [0u8; 4096];
-    let mut b = [0u8; 4096];
-    let mut out = [0u8; 4096];
-    let a_arg = argument(place(first, 1), &mut a);
-    let b_arg = argument(place(first, 2), &mut b);
-    let out_arg = argument(place(first, 3), &mut out);
-    if !a_arg.is_whole {
-        return Status::Failed;
-    }
-    if !b_arg.is_whole {
-        return Status::Failed;
-    }
-    if !out_arg.is_whole {
-        return Status::Failed;
-    }
-    join_named(
-        first_of(&a, a_arg.n),
-        first_of(&b, b_arg.n),
-        first_of(&out, out_arg.n),
-        first,
-    )
-}
-
 // A verb with as many words behind it as it may have.
 fn call_by(verb: Verb, first: u32, behind: usize) -> Status {
     match verb {
@@ -190,7 +123,7 @@ fn call_by(verb: Verb, first: u32, behind: usize) -> Status {
         }
         Verb::Size => ask_numbered(verb, first),
         Verb::Name => ask_numbered(verb, first),
-        Verb::Join => join_call(first),
+        Verb::Join => join_call(first, behind),
         Verb::Read => read_call(first, behind),
         Verb::Help => help(),
         Verb::Unknown => wrong_at(place(first, 0), UNKNOWN),
@@ -203,10 +136,10 @@ fn call_with(verb: Verb, first: u32, behind: usize) -> Status {
         return wrong_at(place(first, 0), UNKNOWN);
     }
     if behind < least(verb) {
-        return wrong_at(place(first, 0), TOO_FEW);
+        return wrong_at(place(first, 0), too_few(verb));
     }
     if most(verb) < behind {
-        return wrong_at(place(first, 0), TOO_MANY);
+        return wrong_at(place(first, 0), too_many(verb));
     }
     call_by(verb, first, behind)
 }

@@ -1,6 +1,8 @@
 // The tool: what each call of it asks, and the status that is told.
+mod arguments; // the arguments by their numbers
 mod based; // the base behind a call
 mod calls; // the arguments: which verb, of what
+mod lists; // the words behind `join`
 mod records; // the words behind `read`
 mod verbs; // which verbs there are
 

@@ -1,8 +1,8 @@
 // The words behind `read`: a table, a type, and where its records come from.
+use crate::arguments::argument;
+use crate::arguments::last;
+use crate::arguments::place;
 use crate::based::base_word;
-use crate::based::last;
-use crate::calls::argument;
-use crate::calls::place;
 use files::Status;
 use logs::RECORD_LIMIT;
 use reads::Decoded;

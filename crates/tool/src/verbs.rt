@@ -1,4 +1,10 @@
 // The verbs, and how many words stand behind each.
+use crate::lists::MOST;
+use wrongs::FEW_TABLES;
+use wrongs::MANY_TABLES;
+use wrongs::TOO_FEW;
+use wrongs::TOO_MANY;
+
 pub(crate) enum Verb {
     Check,
     Show,
@@ -59,8 +65,24 @@ pub(crate) fn least(verb: Verb) -> usize {
 pub(crate) fn most(verb: Verb) -> usize {
     match verb {
         Verb::Show => 2,
+        Verb::Join => MOST,
         Verb::Read => 4,
         _ => least(verb),
+    }
+}
+
+// What is said where there are too few: a join says how many tables it wants.
+pub(crate) fn too_few(verb: Verb) -> u32 {
+    match verb {
+        Verb::Join => FEW_TABLES,
+        _ => TOO_FEW,
+    }
+}
+
+pub(crate) fn too_many(verb: Verb) -> u32 {
+    match verb {
+        Verb::Join => MANY_TABLES,
+        _ => TOO_MANY,
     }
 }
 

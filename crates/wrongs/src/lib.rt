@@ -40,6 +40,12 @@ pub const NOT_BASED: u32 = 13;
 
 pub const TWO_BASES: u32 = 14;
 
+pub const FEW_TABLES: u32 = 15;
+
+pub const MANY_TABLES: u32 = 16;
+
+pub const ONE_INPUT: u32 = 17;
+
 fn usage(fd: i32) -> bool {
     io::write_all(
         fd,
@@ -47,7 +53,8 @@ fn usage(fd: i32) -> bool {
 \x20      scrieve show FILE [TYPE]    a line for each type, or for one, by number or by name: size, members\n\
 \x20      scrieve size FILE TYPE      the exact size of a type\n\
 \x20      scrieve name FILE OFFSET    the string at an offset\n\
-\x20      scrieve join A B OUT        both tables in one; OUT changes only when all of it is written\n\
+\x20      scrieve join A B [C ..] OUT\n\
+\x20                                  two to sixteen tables in one; OUT changes only when all of it is written\n\
 \x20      scrieve read TABLE TYPE RECORD [--each]\n\
 \x20      scrieve read TABLE TYPE --hex DIGITS\n\
 \x20                                  a record of a struct or union, by number or by name: each member's bits, bytes and value;\n\
@@ -56,7 +63,7 @@ fn usage(fd: i32) -> bool {
 \x20                                  the same of a table that leans on a base: its numbers and name offsets go on from those of BASE\n\
 \x20      scrieve help                this text; -h and --help too\n\
 \x20      scrieve version             the commit, the toolchain, the requests that have landed\n\
-A dash for FILE, A, B, TABLE, RECORD or BASE is standard input.\n\
+A dash for FILE, A, B, C, TABLE, RECORD or BASE is standard input.\n\
 Status: 0 accepted or done, 1 refused, 2 a wrong call, or a file that cannot be read or written.\n",
     )
 }
@@ -85,7 +92,10 @@ fn put_wrong(word: &[u8], why: u32) {
         DIGITS are two for each byte, and one is left\n\
         behind it stands BASE, the name of one file, and nothing else\n\
         a base is for check, show, size, name and read\n\
-        BASE and another file cannot both be standard input\n";
+        BASE and another file cannot both be standard input\n\
+        two tables at least are joined, and OUT stands behind them\n\
+        sixteen tables at most are joined, and OUT stands behind them\n\
+        only one of the tables can be standard input\n";
     let mut buf = [0u8; lines::ROOM];
     let o = put(&mut buf, lines::to(STDERR_FILENO), b"scrieve: ");
     let o = put_file(&mut buf, o, word);

@@ -6,10 +6,10 @@ use Rattle.joins.proofs.same.same_tail.Statement.{statement}
 use Rattle.joins.proofs.same.same_tail.Tie as tie
 
 abbrev Inv-loop : tie.InvT-loop
-Inv-loop a a-index a-n r b b-index b-n s info kind n i₀ i = Unit {0}
+Inv-loop blob index n r s order info kind left i₀ i = Unit {0}
 
 abbrev μ-loop : tie.MeasureT-loop
-μ-loop a a-index a-n r b b-index b-n s info kind n i₀ i = n - i
+μ-loop blob index n r s order info kind left i₀ i = left - i
 
 order-of-requires : tie.Need-order-of-requires Inv-loop μ-loop
 order-of-requires c κs = search needs
@@ -26,14 +26,8 @@ tail-words-requires c κs = search needs
 loop-holds : tie.Need-loop-holds Inv-loop μ-loop
 loop-holds c = search needs
 
-order-of-requires-2 : tie.Need-order-of-requires-2 Inv-loop μ-loop
-order-of-requires-2 c κs = search needs
-
 word-behind-requires : tie.Need-word-behind-requires Inv-loop μ-loop
 word-behind-requires c κs = search needs
-
-order-of-requires-3 : tie.Need-order-of-requires-3 Inv-loop μ-loop
-order-of-requires-3 c κs = search needs
 
 word-behind-requires-2 : tie.Need-word-behind-requires-2 Inv-loop μ-loop
 word-behind-requires-2 c κs = search needs
@@ -70,9 +64,7 @@ same-tail-spec =
     kind-of-requires
     tail-words-requires
     loop-holds
-    order-of-requires-2
     word-behind-requires
-    order-of-requires-3
     word-behind-requires-2
     role-of-requires
     same-word-requires

@@ -6,10 +6,10 @@ use Rattle.joins.proofs.twins.put_twins.Statement.{statement}
 use Rattle.joins.proofs.twins.put_twins.Tie as tie
 
 abbrev Inv-loop : tie.InvT-loop
-Inv-loop buf₀ a-file a a-index a-n b-file b b-index b-n o₀ t₀ found₀ buf o t found = found ≤ t
+Inv-loop buf₀ given k blob index n own before o₀ t₀ found₀ buf o t found = found ≤ t
 
 abbrev μ-loop : tie.MeasureT-loop
-μ-loop buf₀ a-file a a-index a-n b-file b b-index b-n o₀ t₀ found₀ buf o t found = a-n - t
+μ-loop buf₀ given k blob index n own before o₀ t₀ found₀ buf o t found = before - t
 
 loop-holds : tie.Need-loop-holds Inv-loop μ-loop
 loop-holds c = search needs

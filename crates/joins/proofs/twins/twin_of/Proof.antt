@@ -6,10 +6,10 @@ use Rattle.joins.proofs.twins.twin_of.Statement.{statement}
 use Rattle.joins.proofs.twins.twin_of.Tie as tie
 
 abbrev Inv-loop : tie.InvT-loop
-Inv-loop a a-index a-n b b-index b-n t r first₀ left₀ u₀ first left u = 0 < left
+Inv-loop blob index n t r order last first₀ left₀ u₀ first left u = 0 < left
 
 abbrev μ-loop : tie.MeasureT-loop
-μ-loop a a-index a-n b b-index b-n t r first₀ left₀ u₀ first left u = b-n - u
+μ-loop blob index n t r order last first₀ left₀ u₀ first left u = last - u
 
 record-at-requires : tie.Need-record-at-requires Inv-loop μ-loop
 record-at-requires c κs = search needs

@@ -1,21 +1,21 @@
--- `tool::based::flag_from` is safe and ends.
+-- `tool::arguments::word_from` is safe and ends.
 -- Assumes nothing.
 use Prim.Native.Nat.{_-_}
 use borrow.Author.Needs.{needs}
-use Rattle.tool.proofs.based.flag_from.Statement.{statement}
-use Rattle.tool.proofs.based.flag_from.Tie as tie
+use Rattle.tool.proofs.arguments.word_from.Statement.{statement}
+use Rattle.tool.proofs.arguments.word_from.Tie as tie
 
 abbrev Inv-loop : tie.InvT-loop
-Inv-loop from count i₀ i = Unit {0}
+Inv-loop word from end i₀ i = Unit {0}
 
 abbrev μ-loop : tie.MeasureT-loop
-μ-loop from count i₀ i = count - i
+μ-loop word from end i₀ i = end - i
 
 loop-holds : tie.Need-loop-holds Inv-loop μ-loop
 loop-holds c = search needs
 
-is-flag-requires : tie.Need-is-flag-requires Inv-loop μ-loop
-is-flag-requires c κs = search needs
+is-word-requires : tie.Need-is-word-requires Inv-loop μ-loop
+is-word-requires c κs = search needs
 
 returns : tie.Need-returns Inv-loop μ-loop
 returns c = search needs
@@ -32,14 +32,14 @@ loop-again c = search needs
 returns-2 : tie.Need-returns-2 Inv-loop μ-loop
 returns-2 c = search needs
 
-pub flag-from-spec : {M : Type 1} → statement M
-flag-from-spec =
+pub word-from-spec : {M : Type 1} → statement M
+word-from-spec =
     tie.close
     (tie.spec
     Inv-loop
     μ-loop
     loop-holds
-    is-flag-requires
+    is-word-requires
     returns
     add-i
     loop-less
