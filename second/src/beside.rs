@@ -9,6 +9,19 @@ use crate::vectors::{module_and_index, places, run, start_in, told_name, Case, S
 use crate::vectors::{APART, CHECK, JOIN, LEANING, LEANING_NAME, LEANING_SIZE, MEMBER, NAME, SIZE};
 use crate::vectors::{MOST_BYTES, MOST_PLACES};
 
+/// The ops that the archive has a call for: none yet of lists.
+pub const OPS: [u32; 9] = [
+    CHECK,
+    SIZE,
+    NAME,
+    JOIN,
+    MEMBER,
+    APART,
+    LEANING,
+    LEANING_SIZE,
+    LEANING_NAME,
+];
+
 /// What stands in an answer's place before a call; no answer has this number.
 const UNTOLD: u32 = 0xA5A5_A5A5;
 

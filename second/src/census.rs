@@ -1,7 +1,7 @@
 //! How many cases there are of each op and answer.
 
 use crate::vectors::{Seen, APART, CHECK, JOIN, LEANING, LEANING_NAME, LEANING_SIZE};
-use crate::vectors::{MEMBER, NAME, SIZE};
+use crate::vectors::{LIST_READ, LIST_WRITTEN, MEMBER, NAME, SIZE};
 use std::collections::BTreeMap;
 
 #[derive(Default)]
@@ -49,6 +49,8 @@ pub fn in_words(op: u32, number: u32, inner: u32) -> String {
         (NAME, _) => ("name", "no name there"),
         (JOIN, 0) => ("join", "joined"),
         (APART, 0) => ("apart", "both tables"),
+        (LIST_READ, 0) => ("list read", "table"),
+        (LIST_WRITTEN, 0) => ("list written", "list"),
         (MEMBER, 0) => ("member", "unsigned"),
         (MEMBER, 1) => ("member", "signed"),
         (MEMBER, 2) => ("member", "longer span"),
@@ -59,6 +61,8 @@ pub fn in_words(op: u32, number: u32, inner: u32) -> String {
         (SIZE, _) => ("size", "report"),
         (MEMBER, _) => ("member", "report"),
         (APART, _) => ("apart", "report"),
+        (LIST_READ, _) => ("list read", "report"),
+        (LIST_WRITTEN, _) => ("list written", "report"),
         _ => ("join", "report"),
     };
     let inside = if inner == 0 {

@@ -27,8 +27,8 @@ pub mod vectors;
 pub mod yardstick;
 
 pub use rules::{
-    apart, chain, check, head, header, join, layout, lean, lean_questions, limits, members,
-    name_at, names, order, record, reference, report, size, table, tail, walk,
+    apart, chain, check, head, header, join, layout, lean, lean_questions, limits, list, list_read,
+    members, name_at, names, order, record, reference, report, size, table, tail, walk,
 };
 
 pub use apart::{take_apart, ApartRefusal, Cut};
@@ -36,6 +36,8 @@ pub use check::check;
 pub use join::{join, JoinRefusal};
 pub use lean::{check_leaning, LeaningRefusal};
 pub use lean_questions::{name_leaning, size_leaning, LeaningName};
+pub use list::{write_list, ListRefusal};
+pub use list_read::read_list;
 pub use name_at::name;
 pub use record::{read_member, ReadRefusal, Reading};
 pub use report::Report;

@@ -6,12 +6,15 @@ use crate::check::check;
 use crate::join::join;
 use crate::lean::{check_leaning, LeaningRefusal};
 use crate::lean_questions::{name_leaning, size_leaning, LeaningName};
+use crate::list::{write_list, ListRefusal};
+use crate::list_read::read_list;
 use crate::name_at::name;
 use crate::record::read_member;
 use crate::report::Report;
 use crate::size::{size, SizeAnswer};
 use crate::vectors::{module_and_index, places, Case, Seen, APART, CHECK};
-use crate::vectors::{LEANING, LEANING_NAME, LEANING_SIZE, MEMBER, NAME, SIZE};
+use crate::vectors::{LEANING, LEANING_NAME, LEANING_SIZE, LIST_READ, LIST_WRITTEN};
+use crate::vectors::{MEMBER, NAME, SIZE};
 
 pub fn run(case: &Case) -> Seen {
     match case.op {
@@ -20,6 +23,8 @@ pub fn run(case: &Case) -> Seen {
         NAME => run_name(case),
         MEMBER => run_member(case),
         APART => run_apart(case),
+        LIST_READ => run_list_read(case),
+        LIST_WRITTEN => run_list_written(case),
         LEANING => run_leaning(case),
         LEANING_SIZE => run_leaning_size(case),
         LEANING_NAME => run_leaning_name(case),
@@ -129,6 +134,35 @@ fn run_apart(case: &Case) -> Seen {
     }
     seen.output.extend(second);
     seen
+}
+
+/// The byte work slice is filled like an output, whatever b holds.
+fn run_list_read(case: &Case) -> Seen {
+    let mut seen = lent(case);
+    let mut byte_work = vec![165; case.b.len()];
+    let (index, work) = (&mut seen.index, &mut seen.work);
+    let answer = read_list(&case.a, index, work, &mut byte_work, &mut seen.output);
+    put_length(&mut seen, answer);
+    seen.output.extend(byte_work);
+    seen
+}
+
+fn run_list_written(case: &Case) -> Seen {
+    let mut seen = lent(case);
+    let (index, work) = (&mut seen.index, &mut seen.work);
+    let answer = write_list(&case.a, index, work, &mut seen.output);
+    put_length(&mut seen, answer);
+    seen
+}
+
+fn put_length(seen: &mut Seen, answer: Result<usize, ListRefusal>) {
+    match answer {
+        Ok(length) => seen.p = length as u32,
+        Err(refusal) => {
+            seen.number = refusal.number();
+            put_inner(seen, refusal.inner());
+        }
+    }
 }
 
 fn run_leaning(case: &Case) -> Seen {

@@ -11,19 +11,24 @@ pub const JOIN: u32 = 4;
 pub const MEMBER: u32 = 5;
 /// a at x types and y string bytes; b is as long as the second output.
 pub const APART: u32 = 6;
+/// A list to a table, b as long as the byte work slice; and a table to a list.
+pub const LIST_READ: u32 = 7;
+pub const LIST_WRITTEN: u32 = 8;
 /// A module's table, b, on its base, a: the check, the size and the name.
 pub const LEANING: u32 = 9;
 pub const LEANING_SIZE: u32 = 10;
 pub const LEANING_NAME: u32 = 11;
 
 /// The ops that there are.
-pub const OPS: [u32; 9] = [
+pub const OPS: [u32; 11] = [
     CHECK,
     SIZE,
     NAME,
     JOIN,
     MEMBER,
     APART,
+    LIST_READ,
+    LIST_WRITTEN,
     LEANING,
     LEANING_SIZE,
     LEANING_NAME,
@@ -49,7 +54,8 @@ pub struct Case {
 
 /// What must be seen afterwards: the answer and each whole lent slice. For a
 /// name, `output` is the part, for a member its value in sixteen bytes, for a
-/// table taken apart the first output and then the second.
+/// table taken apart the first output and then the second, for a list that is
+/// read the output and then the byte work slice.
 #[derive(Clone, PartialEq, Eq, Debug, Default)]
 pub struct Seen {
     pub number: u32,

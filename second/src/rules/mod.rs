@@ -11,6 +11,8 @@ pub mod layout;
 pub mod lean;
 pub mod lean_questions;
 pub mod limits;
+pub mod list;
+pub mod list_read;
 pub mod members;
 pub mod name_at;
 pub mod names;

@@ -1,6 +1,8 @@
 //! Short calls for the tests.
 #![allow(dead_code)]
 
+pub mod lists;
+
 use second::generate::{Scale, Wanted};
 use second::limits::{BYTE_LIMIT, FULL_PLACES};
 use second::make::Make;
