@@ -14,15 +14,17 @@
 //! of a name. With `--thin` fewer of the edges and the large are crossed with
 //! each other. A seed's cases are of both orders and mostly small, with some at
 //! the limits; with `--small` no limit is reached, with `--long` checks, joins,
-//! members, pairs and joins taken apart are of long tables only.
+//! members, pairs, joins taken apart and lists are of long tables only.
 //!
 //! Without `--ops` there are cases of ops 1 to 4. Op 5, a member of a record, is
 //! had with `--ops 5`, or with `--members N` behind all others: its edges and
 //! large tables where those are asked for, and N of the seed's. Ops 9 to 11, a
 //! module's table on its base, are had with `--ops 9,10,11`, or likewise with
 //! `--leaning N` behind those, N of the seed's for each of the three; op 6, a
-//! join taken apart, with `--ops 6`, or with `--apart N` behind all of these.
-//! `antt` has no op 5, op 6 with `--ops 6` alone, and without `--ops` the edges of ops 9 to 11 behind the others.
+//! join taken apart, with `--ops 6`, or with `--apart N` behind all of these;
+//! ops 7 and 8, a list read and a list written, with `--ops 7,8`, or with
+//! `--listed N` behind everything, N of the seed's for each of the two.
+//! `antt` has no op 5, 7 and 8, op 6 with `--ops 6` alone, and without `--ops` the edges of ops 9 to 11 behind the others.
 //!
 //! `ordinary` has checks only, and compares both ordinary checkers with this
 //! implementation; its last line is `N agreed, 0 differed`, or it is red.
@@ -44,13 +46,14 @@ second census  --seed S --cases N [--ops 1,2,3] [--small|--long]
 second check FILE [MODULE]
 second changed FILE
 second ordinary --seed S --cases N [--small|--long]
-(ops are 1 to 6 and 9 to 11, without --ops 1 to 4; --members N: behind all, those of op 5, with N of the seed's;
+(ops are 1 to 11, without --ops 1 to 4; --members N: behind all, those of op 5, with N of the seed's;
 --leaning N: behind those, ops 9 to 11, with N of the seed's of each; --apart N: behind those, op 6, with N of the seed's;
+--listed N: behind those, ops 7 and 8, with N of the seed's of each;
 --edges: the fixed cases of every rule's edges in front, and nothing else without --cases;
 --part NAME: one part of them, NAME-turned: in the other byte order; --each: each case in a list of its own;
 --large: the fixed large tables before them; --thin: fewer of both crossed with each other;
 --names: every byte at every place of a name before the edges;
---small: no limit is reached; --long: checks, joins, members, pairs and joins taken apart of long tables only)";
+--small: no limit is reached; --long: checks, joins, members, pairs, joins taken apart and lists of long tables only)";
 
 fn main() -> ExitCode {
     let arguments: Vec<String> = std::env::args().skip(1).collect();
@@ -79,8 +82,8 @@ fn act(arguments: &[String]) -> Result<Vec<u8>, String> {
     }
 }
 
-/// Those that the words ask for; `--members`, `--leaning`, `--apart` and their
-/// counts are taken out first.
+/// Those that the words ask for; `--members`, `--leaning`, `--apart`, `--listed`
+/// and their counts are taken out first.
 fn all_cases(arguments: &[String]) -> Result<Vec<Case>, String> {
     let mut rest = arguments.to_vec();
     let mut behind = Vec::new();
@@ -97,10 +100,11 @@ fn all_cases(arguments: &[String]) -> Result<Vec<Case>, String> {
 type Ops = fn(usize) -> Behind;
 
 /// What stands behind all others, in this order.
-const BEHIND: [(&str, Ops); 3] = [
+const BEHIND: [(&str, Ops); 4] = [
     ("--members", Behind::members),
     ("--leaning", Behind::leaning),
     ("--apart", Behind::apart),
+    ("--listed", Behind::listed),
 ];
 
 /// Cases as text, in lists of 25, or with `--each` each by itself. The part
@@ -154,7 +158,7 @@ fn wanted(arguments: &[String]) -> Result<Wanted, String> {
     let fixed = wanted.edges || wanted.large || wanted.names;
     wanted.cases = count.unwrap_or(if fixed { 0 } else { 100 });
     if wanted.ops.is_empty() || !wanted.ops.iter().all(|op| OPS.contains(op)) {
-        return Err("ops are 1 to 6 and 9 to 11".to_string());
+        return Err("ops are 1 to 11".to_string());
     }
     Ok(wanted)
 }

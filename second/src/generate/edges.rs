@@ -5,7 +5,8 @@ use crate::generate::turn::turned_case;
 use crate::generate::{edges_apart, edges_apart_words};
 use crate::generate::{edges_faults, edges_joins, edges_layout, edges_leaning};
 use crate::generate::{edges_leaning_bases, edges_leaning_names, edges_leaning_sizes};
-use crate::generate::{edges_leaning_types, edges_names, edges_offsets};
+use crate::generate::{edges_leaning_types, edges_list, edges_list_lent};
+use crate::generate::{edges_names, edges_offsets};
 use crate::generate::{edges_order_joins, edges_order_sizes, edges_orders};
 use crate::generate::{edges_pointers, edges_questions, edges_records, edges_sections};
 use crate::generate::{edges_spans, edges_tails, edges_values, edges_walks};
@@ -82,6 +83,8 @@ fn one_order() -> impl Iterator<Item = &'static Part> {
         edges_leaning_types::PARTS,
         edges_apart::PARTS,
         edges_apart_words::PARTS,
+        edges_list::PARTS,
+        edges_list_lent::PARTS,
     ];
     parts.into_iter().flatten()
 }

@@ -162,8 +162,8 @@ fn roles(found: &mut Vec<Case>) {
     }
 }
 
-/// A table with this report, at its third type where a report names one.
-pub fn refused(report: u32) -> Vec<u8> {
+/// A table whose third type has this report, for those that name one but 6.
+pub fn bad_third(report: u32) -> Make {
     let mut m = with_strings();
     m.int(4);
     m.structure(4, false, &[[1, 1, 0]]);
@@ -177,6 +177,12 @@ pub fn refused(report: u32) -> Vec<u8> {
         15 => m.structure(3, false, &[[1, 1, 0]]),
         _ => m.ptr(1),
     };
+    m
+}
+
+/// A table with this report, at its third type where a report names one.
+pub fn refused(report: u32) -> Vec<u8> {
+    let m = bad_third(report);
     let mut blob = m.blob();
     let last = blob.len() - 1;
     match report {

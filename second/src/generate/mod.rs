@@ -5,6 +5,7 @@ pub mod apart_cases;
 pub mod check_cases;
 pub mod crossing;
 pub mod damage_bytes;
+pub mod damage_fields;
 pub mod damage_layout;
 pub mod damage_references;
 pub mod damage_words;
@@ -19,6 +20,8 @@ pub mod edges_leaning_bases;
 pub mod edges_leaning_names;
 pub mod edges_leaning_sizes;
 pub mod edges_leaning_types;
+pub mod edges_list;
+pub mod edges_list_lent;
 pub mod edges_names;
 pub mod edges_offsets;
 pub mod edges_order_joins;
@@ -33,6 +36,7 @@ pub mod edges_tails;
 pub mod edges_values;
 pub mod edges_walks;
 pub mod every_byte;
+pub mod fields;
 pub mod grow;
 pub mod grow_members;
 pub mod heavy;
@@ -44,11 +48,14 @@ pub mod large_apart;
 pub mod large_fixed;
 pub mod large_joins;
 pub mod large_leaning;
+pub mod large_lists;
 pub mod large_records;
 pub mod leaning_cases;
 pub mod leaning_questions;
+pub mod list_cases;
 pub mod long;
 pub mod long_apart;
+pub mod long_lists;
 pub mod long_pairs;
 pub mod name_cases;
 pub mod pair;
@@ -61,7 +68,7 @@ pub mod turn;
 pub mod valid;
 
 use crate::vectors::{run, Case, APART, CHECK, JOIN, LEANING, LEANING_NAME, LEANING_SIZE};
-use crate::vectors::{MEMBER, NAME, SIZE};
+use crate::vectors::{LIST_READ, LIST_WRITTEN, MEMBER, NAME, SIZE};
 use random::Random;
 use turn::in_some_order;
 
@@ -74,8 +81,8 @@ pub enum Scale {
     Small,
     /// Mostly small, some at the limits.
     Full,
-    /// Checks, joins, members, pairs and joins taken apart of long tables only;
-    /// the rest as at full scale.
+    /// Checks, joins, members, pairs, joins taken apart and lists of long tables
+    /// only; the rest as at full scale.
     Long,
 }
 
@@ -128,6 +135,7 @@ pub fn cases(wanted: &Wanted) -> Vec<Case> {
         found.extend(large_records::cases(wanted.thin));
         found.extend(large_leaning::cases(wanted.thin));
         found.extend(large_apart::cases(wanted.thin));
+        found.extend(large_lists::cases(wanted.thin));
     }
     if wanted.names {
         found.extend(every_byte::cases());
@@ -177,6 +185,11 @@ impl Behind {
         let ops = &[APART];
         Behind { ops, cases }
     }
+
+    pub fn listed(cases: usize) -> Behind {
+        let ops = &[LIST_READ, LIST_WRITTEN];
+        Behind { ops, cases }
+    }
 }
 
 /// Those wanted, and the others behind them: what stands in front stays as it
@@ -198,9 +211,9 @@ fn asked_for(case: &Case, wanted: &Wanted) -> bool {
     wanted.ops.contains(&case.op) && wanted.only.is_none_or(|number| run(case).number == number)
 }
 
-/// Checks, joins, members, pairs and joins taken apart have the most answers,
-/// so they come more often.
-const WEIGHTED: [u32; 22] = [
+/// Checks, joins, members, pairs, joins taken apart and lists have the most
+/// answers, so they come more often.
+const WEIGHTED: [u32; 27] = [
     CHECK,
     CHECK,
     CHECK,
@@ -223,6 +236,11 @@ const WEIGHTED: [u32; 22] = [
     APART,
     APART,
     APART,
+    LIST_READ,
+    LIST_READ,
+    LIST_READ,
+    LIST_WRITTEN,
+    LIST_WRITTEN,
 ];
 
 /// Each is made of little-endian tables, and turned round as often as not, but
@@ -239,6 +257,10 @@ fn one(r: &mut Random, wanted: &Wanted) -> Case {
         (MEMBER, scale) => return record_cases::case(r, scale),
         (APART, Scale::Long) => long_apart::case(r),
         (APART, scale) => apart_cases::case(r, scale),
+        (LIST_READ, Scale::Long) => long_lists::read(r),
+        (LIST_READ, scale) => list_cases::read(r, scale),
+        (LIST_WRITTEN, Scale::Long) => long_lists::write(r),
+        (LIST_WRITTEN, scale) => list_cases::write(r, scale),
         (LEANING, Scale::Long) => long_pairs::check(r),
         (LEANING, scale) => leaning_cases::case(r, scale),
         (LEANING_SIZE, scale) => leaning_questions::size(r, scale),

@@ -1,9 +1,11 @@
 //! The other byte order: blobs and cases turned round. Nothing is carried over
 //! but the bytes; what is to be seen of a turned case the rules say anew.
 
+use crate::generate::fields::turned_list;
 use crate::generate::random::Random;
 use crate::order::{Order, ORDERS};
 use crate::table::HEADER_BYTES;
+use crate::vectors::LIST_READ;
 use crate::vectors::{module_and_index, Case, JOIN, LEANING, LEANING_NAME, LEANING_SIZE};
 
 /// A blob in the other order: its first two bytes change places, and each word
@@ -44,11 +46,14 @@ pub fn both(blob: &[u8]) -> [Vec<u8>; 2] {
     ORDERS.map(|order| in_order(blob, order))
 }
 
-/// A case in the other order: both tables of a join, and of a pair. The index
-/// of a size question is plain numbers.
+/// A case in the other order: both tables of a join, and of a pair, or a list.
+/// The index of a size question is plain numbers.
 pub fn turned_case(case: &Case) -> Case {
     let mut other = case.clone();
-    other.a = turned(&case.a);
+    other.a = match case.op {
+        LIST_READ => turned_list(&case.a),
+        _ => turned(&case.a),
+    };
     if [JOIN, LEANING, LEANING_NAME].contains(&case.op) {
         other.b = turned(&case.b);
     }
