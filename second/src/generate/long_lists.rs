@@ -27,9 +27,19 @@ const WRITTEN_AIMS: [u32; 14] = [
 ];
 
 pub fn read(r: &mut Random) -> Case {
+    let aim = r.pick(&READ_AIMS);
+    until_it_fits(r, aim, attempt_to_read)
+}
+
+pub fn write(r: &mut Random) -> Case {
+    let aim = r.pick(&WRITTEN_AIMS);
+    until_it_fits(r, aim, attempt_to_write)
+}
+
+/// A table may have more bytes than a case can lend, and its list far more.
+fn until_it_fits(r: &mut Random, aim: u32, attempt: fn(&mut Random, u32) -> Case) -> Case {
     loop {
-        let aim = r.pick(&READ_AIMS);
-        let case = attempt_to_read(r, aim);
+        let case = attempt(r, aim);
         if case.a.len() <= MOST_BYTES as usize {
             return case;
         }
@@ -57,8 +67,7 @@ fn attempt_to_read(r: &mut Random, aim: u32) -> Case {
     ask_table(list, (places, places), bytes)
 }
 
-pub fn write(r: &mut Random) -> Case {
-    let aim = r.pick(&WRITTEN_AIMS);
+fn attempt_to_write(r: &mut Random, aim: u32) -> Case {
     let m = table(r, aim);
     let exact = list_of(&m).len() as u32;
     let output_bytes = match aim {
@@ -93,7 +102,8 @@ fn table(r: &mut Random, aim: u32) -> Make {
         }
         _ => long::table(r, 1_000),
     };
-    if m.count() < 8_000 && r.one_in(2) {
+    // Three full fields fit behind so many bytes.
+    if m.blob().len() < 60_000 && r.one_in(2) {
         add_long_record(r, &mut m);
     }
     let length = m.blob().len();

@@ -30,8 +30,10 @@ pub fn read(list: &[u8], places: [usize; 2], bytes: [usize; 2]) -> Result<Vec<u8
 }
 
 pub fn list(blob: &[u8]) -> Result<Vec<u8>, ListRefusal> {
-    let (mut index, mut work) = (vec![7; 20_000], vec![7; 20_000]);
-    let mut output = vec![165; 320_000];
+    // A record has twelve bytes, and a field three more.
+    let places = blob.len() / 12 + 1;
+    let (mut index, mut work) = (vec![7; places], vec![7; places]);
+    let mut output = vec![165; 2 * blob.len()];
     let length = write_list(blob, &mut index, &mut work, &mut output)?;
     assert!(output[length..].iter().all(|byte| *byte == 165));
     output.truncate(length);
