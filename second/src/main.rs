@@ -24,7 +24,7 @@
 //! join taken apart, with `--ops 6`, or with `--apart N` behind all of these;
 //! ops 7 and 8, a list read and a list written, with `--ops 7,8`, or with
 //! `--listed N` behind everything, N of the seed's for each of the two.
-//! `antt` has no op 5, 7 and 8, op 6 with `--ops 6` alone, and without `--ops` the edges of ops 9 to 11 behind the others.
+//! `antt` has no op 5, 7 or 8, op 6 with `--ops 6` alone, and without `--ops` the edges of ops 9 to 11 behind the others.
 //!
 //! `ordinary` has checks only, and compares both ordinary checkers with this
 //! implementation; its last line is `N agreed, 0 differed`, or it is red.

@@ -188,7 +188,9 @@ fn large_lists_at_the_limits() {
     let thin: Vec<_> = large_lists::cases(true).iter().map(run).collect();
     let told: Vec<[u32; 2]> = thin.iter().map(|seen| [seen.number, seen.p]).collect();
     // 65,535 bytes in a field, an empty one behind it, and both heads.
-    assert_eq!(told, [[0, 65_541], [53, 0], [0, 65_559], [51, 0]]);
+    assert_eq!(told[..4], [[0, 65_541], [53, 0], [0, 65_559], [51, 0]]);
+    // An INT, 65,540 bytes of an ENUM, a pointer, three bytes of strings.
+    assert_eq!(told[4..], [[0, 24 + 16 + 65_540 + 12 + 3]]);
     let all = large_lists::cases(false);
     let met: HashSet<(u32, u32)> = all
         .iter()

@@ -11,13 +11,16 @@ use crate::table::Kind;
 use crate::vectors::{Case, MOST_BYTES};
 
 /// All of them, in both orders. Thinned: one body that is just full, read and
-/// written, and one that ends where it should be carried on.
+/// written, one that ends where it should be carried on, and a record in two
+/// fields, a word of which lies in both.
 pub fn cases(thin: bool) -> Vec<Case> {
     let mut found = Vec::new();
     if thin {
         let m = texts(FULL_BODY);
         there_and_back(&mut found, &m);
         found.push(turned_case(&read(written(&fields_of(&m)[..1]), &m)));
+        let m = with_entries(Kind::Enum, [1, 1], 8_191);
+        found.push(turned_case(&read(list_of(&m), &m)));
         return found;
     }
     full_strings(&mut found);
