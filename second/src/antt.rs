@@ -3,14 +3,17 @@
 use crate::names::is_identifier;
 use crate::vectors::{module_and_index, places, run, told_name, Case, Seen};
 use crate::vectors::{APART, CHECK, JOIN, LEANING, LEANING_NAME, LEANING_SIZE, NAME, SIZE};
+use crate::vectors::{LIST_READ, LIST_WRITTEN};
 
 /// The ops that the text is written for.
-pub const OPS: [u32; 8] = [
+pub const OPS: [u32; 10] = [
     CHECK,
     SIZE,
     NAME,
     JOIN,
     APART,
+    LIST_READ,
+    LIST_WRITTEN,
     LEANING,
     LEANING_SIZE,
     LEANING_NAME,
@@ -51,10 +54,10 @@ fn named_list(which: usize, lines: &[String]) -> String {
     text
 }
 
-/// How cases are held against the definitions, and what those of a pair and of
-/// a cut unfold.
-const UNFOLDED: &str =
-    "leans cuts checked sized named joined apart leaning leaningSized leaningNamed";
+/// How cases are held against the definitions, and what those of a pair, of a
+/// cut and of a list unfold.
+const UNFOLDED: &str = "leans cuts lists checked sized named joined apart listRead listWritten \
+                        leaning leaningSized leaningNamed";
 
 /// The surface syntax of a list of numbers.
 fn numbers(list: &[u32]) -> String {
@@ -83,7 +86,7 @@ fn identifier_length(case: &Case, seen: &Seen) -> u32 {
 
 /// The five lists of a case. The index is the lent one for a size question,
 /// which is then not written as bytes of b, and the one afterwards for a
-/// check and a table taken apart; the output is the one afterwards, or a
+/// check, a table taken apart and a list; the output is the one afterwards, or a
 /// name's part.
 fn parts(case: &Case, seen: &Seen) -> [Vec<u32>; 5] {
     let [number, inner, t, p] = match case.op {
@@ -115,7 +118,7 @@ fn parts(case: &Case, seen: &Seen) -> [Vec<u32>; 5] {
             let (module, index) = module_and_index(case);
             (wide(module), places(index))
         }
-        CHECK | LEANING | APART => (wide(&case.b), seen.index.clone()),
+        CHECK | LEANING | APART | LIST_READ | LIST_WRITTEN => (wide(&case.b), seen.index.clone()),
         _ => (wide(&case.b), Vec::new()),
     };
     [head, wide(&case.a), b, index, wide(&seen.output)]

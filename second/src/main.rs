@@ -24,7 +24,7 @@
 //! join taken apart, with `--ops 6`, or with `--apart N` behind all of these;
 //! ops 7 and 8, a list read and a list written, with `--ops 7,8`, or with
 //! `--listed N` behind everything, N of the seed's for each of the two.
-//! `antt` has no op 5, 7 or 8, op 6 with `--ops 6` alone, and without `--ops` the edges of ops 9 to 11 behind the others.
+//! `antt` has no op 5, ops 6 to 8 with `--ops` alone, and without `--ops` the edges of ops 9 to 11 behind the others.
 //!
 //! `ordinary` has checks only, and compares both ordinary checkers with this
 //! implementation; its last line is `N agreed, 0 differed`, or it is red.
@@ -117,7 +117,7 @@ fn antt(arguments: &[String]) -> Result<Vec<u8>, String> {
         ..wanted(&rest)?
     };
     if !wanted.ops.iter().all(|op| second::antt::OPS.contains(op)) {
-        return Err("antt has ops 1 to 4, 6 and 9 to 11".to_string());
+        return Err("antt has ops 1 to 4 and 6 to 11".to_string());
     }
     // The edges of a pair are always with those of the ops of before.
     let without_ops = !rest.contains(&"--ops".to_string());
