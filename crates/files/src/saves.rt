@@ -1,10 +1,15 @@
 // A table is written under another name beside its own, and renamed when all of it is on the disk: whatever fails, what
 // stood under its name before stands there still.
 use crate::reads::fail;
+use libc::EISDIR;
 use paper::Order;
 use paper::Place;
+use texts::Number;
 use texts::first_of;
 use words::lay;
+
+// Room for the other name: the longest argument, and what stands behind it.
+pub(crate) const OTHER: usize = 4128;
 
 // Four random bytes; zeros where the system has none.
 fn random() -> u32 {
@@ -35,8 +40,19 @@ fn other_name(name: &[u8], other: &mut [u8]) -> usize {
     append(other, n, &digits[..k])
 }
 
+// A new file has the mode that is asked for, else the one that the umask has given it.
+fn set_mode(fd: i32, mode: Number) -> bool {
+    match mode {
+        Number::Is(bits) => libc::fchmod(fd, bits) == 0,
+        Number::Not => true,
+    }
+}
+
 // All bytes are written, and on the disk.
-fn fill(fd: i32, s: &[u8]) -> bool {
+fn fill(fd: i32, s: &[u8], mode: Number) -> bool {
+    if !set_mode(fd, mode) {
+        return false;
+    }
     if !io::write_all(fd, s) {
         return false;
     }
@@ -44,8 +60,8 @@ fn fill(fd: i32, s: &[u8]) -> bool {
 }
 
 // The file of the other name is written and closed.
-fn write_other(fd: i32, s: &[u8], name: &[u8]) -> bool {
-    if !fill(fd, s) {
+fn write_other(fd: i32, s: &[u8], mode: Number, name: &[u8]) -> bool {
+    if !fill(fd, s, mode) {
         fail(name);
         libc::close(fd);
         return false;
@@ -57,17 +73,22 @@ fn write_other(fd: i32, s: &[u8], name: &[u8]) -> bool {
     true
 }
 
-// The file of the other name takes the name. Where anything fails it is removed.
-fn replace(other: &[u8], name: &[u8], s: &[u8]) -> bool {
+// The file of the other name is there and whole. Where anything fails it is removed.
+fn make_other(other: &[u8], name: &[u8], s: &[u8], mode: Number) -> bool {
     let fd = os::create(other);
     if fd < 0 {
         fail(name);
         return false;
     }
-    if !write_other(fd, s, name) {
+    if !write_other(fd, s, mode, name) {
         os::unlink(other);
         return false;
     }
+    true
+}
+
+// The file of the other name takes the name; else it is removed.
+pub(crate) fn take_name(other: &[u8], name: &[u8]) -> bool {
     if os::rename(other, name) != 0 {
         fail(name);
         os::unlink(other);
@@ -102,7 +123,7 @@ fn sync(directory: &[u8]) -> bool {
     is_synced
 }
 
-fn sync_directory(name: &[u8]) -> bool {
+pub(crate) fn sync_directory(name: &[u8]) -> bool {
     let n = directory_length(name);
     if n == 0 {
         return sync(b".");
@@ -110,10 +131,14 @@ fn sync_directory(name: &[u8]) -> bool {
     sync(first_of(name, n))
 }
 
-// A device or a pipe is no file that another can take the place of; nothing of it can be brought to a disk.
+// A folder, a device or a pipe is no file that another can take the place of; nothing of the latter two can be brought to a disk.
 fn is_file(name: &[u8]) -> bool {
     let fd = os::open_update(name);
     if fd < 0 {
+        if os::errno() == EISDIR {
+            fail(name);
+            return false;
+        }
         return true; // there is none, or the system will say what is wrong with it
     }
     let is_synced = libc::fsync(fd) == 0;
@@ -124,14 +149,27 @@ fn is_file(name: &[u8]) -> bool {
     is_synced
 }
 
+// The first step: the bytes stand on the disk under another name, which is put into the lent bytes. Its length is answered, or 0 where
+// standard error says why not.
+pub(crate) fn set_aside(name: &[u8], s: &[u8], mode: Number, other: &mut [u8]) -> usize {
+    if !is_file(name) {
+        return 0;
+    }
+    let n = other_name(name, other);
+    if !make_other(first_of(other, n), name, s, mode) {
+        return 0;
+    }
+    n
+}
+
 // The bytes stand under the name, and on the disk; else standard error says why not.
 pub fn save(name: &[u8], s: &[u8]) -> bool {
-    if !is_file(name) {
+    let mut other = [0u8; OTHER];
+    let n = set_aside(name, s, Number::Not, &mut other);
+    if n == 0 {
         return false;
     }
-    let mut other = [0u8; 4128]; // room for the longest argument and what stands behind it
-    let n = other_name(name, &mut other);
-    if !replace(first_of(&other, n), name, s) {
+    if !take_name(first_of(&other, n), name) {
         return false;
     }
     sync_directory(name)

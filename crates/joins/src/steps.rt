@@ -11,7 +11,7 @@ use files::read_file;
 use paper::BYTE_LIMIT;
 use paper::FULL_PLACES;
 use paper::Joined;
-use scan::Scanned;
+use tables::count;
 use texts::first_of;
 
 // So many tables have a place for what is known of each.
@@ -21,14 +21,6 @@ pub(crate) const KEPT: usize = TABLES as usize;
 pub(crate) enum Step {
     Whole(usize),
     Ended(Status),
-}
-
-// How many types a table has that has passed, and their places.
-pub(crate) fn count(blob: &[u8], index: &mut [u32]) -> u32 {
-    match scan::scan(blob, index, FULL_PLACES) {
-        Scanned::Counted(n) => n,
-        Scanned::Refused(_) => 0,
-    }
 }
 
 // The file of a table, counted from 0.

@@ -3,7 +3,6 @@ use crate::given::Given;
 use crate::given::out_of;
 use crate::steps::KEPT;
 use crate::steps::Step;
-use crate::steps::count;
 use crate::steps::join_rest;
 use crate::steps::read_table;
 use crate::twins::note_twins;
@@ -12,24 +11,12 @@ use files::Status;
 use files::end;
 use files::save;
 use libc::STDOUT_FILENO;
-use lines::Out;
 use lines::ROOM;
-use lines::put;
-use lines::put_file;
-use lines::put_with;
 use paper::BYTE_LIMIT;
 use paper::FULL_PLACES;
+use tables::count;
+use tables::put_made;
 use texts::first_of;
-
-fn put_joined(buf: &mut [u8; ROOM], o: Out, name: &[u8], len: u64, n: u32) -> Out {
-    let o = put_file(buf, o, name);
-    let o = put_with(buf, o, b": joined, ", len);
-    let o = put_with(buf, o, b" bytes, ", n as u64);
-    if n == 1 {
-        return put(buf, o, b" type\n");
-    }
-    put(buf, o, b" types\n")
-}
 
 // The joined table is saved under a name, and the answer says how large it is.
 fn saved_as(name: &[u8], joined: &[u8], n: u32) -> Status {
@@ -37,10 +24,11 @@ fn saved_as(name: &[u8], joined: &[u8], n: u32) -> Status {
         return Status::Failed;
     }
     let mut buf = [0u8; ROOM];
-    let o = put_joined(
+    let o = put_made(
         &mut buf,
         lines::to(STDOUT_FILENO),
         name,
+        b": joined",
         joined.len() as u64,
         n,
     );

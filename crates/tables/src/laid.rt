@@ -1,4 +1,5 @@
 // The table in a file, or the one that holds it and the base that it leans on.
+use crate::made::count;
 use crate::refusals::base_refused;
 use crate::refusals::refused_behind;
 use crate::refusals::turned;
@@ -11,7 +12,6 @@ use lean::check_leaning;
 use paper::Checked;
 use paper::FULL_PLACES;
 use paper::Leaned;
-use scan::Scanned;
 use texts::first_of;
 
 // Whether a table leans on a base, and how many types that has.
@@ -39,14 +39,6 @@ fn lay_file(file: &[u8], blob: &mut [u8; READ_LIMIT]) -> Laid {
             n: 0,
         },
     )
-}
-
-// How many types a base has that has passed.
-fn count(base: &[u8], index: &mut [u32]) -> u32 {
-    match scan::scan(base, index, FULL_PLACES) {
-        Scanned::Counted(n) => n,
-        Scanned::Refused(_) => 0,
-    }
 }
 
 // A table is accepted by itself.

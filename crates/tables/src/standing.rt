@@ -12,7 +12,8 @@ pub(crate) fn records_len(blob: &[u8]) -> u32 {
     words::blob_word(blob, Place(12))
 }
 
-pub(crate) fn strings_len(blob: &[u8]) -> u32 {
+// How many bytes its strings have.
+pub fn strings_len(blob: &[u8]) -> u32 {
     words::blob_word(blob, Place(20))
 }
 

@@ -1,11 +1,13 @@
 // The arguments: which verb, of which files and numbers; and how the status is told.
 use crate::arguments::argument;
+use crate::arguments::is_word;
 use crate::arguments::last;
 use crate::arguments::number_at;
 use crate::arguments::place;
 use crate::based::base_word;
 use crate::based::flag_from;
 use crate::based::is_last;
+use crate::halves::cut_call;
 use crate::lists::join_call;
 use crate::records::read_call;
 use crate::verbs::Verb;
@@ -124,6 +126,7 @@ fn call_by(verb: Verb, first: u32, behind: usize) -> Status {
         Verb::Size => ask_numbered(verb, first),
         Verb::Name => ask_numbered(verb, first),
         Verb::Join => join_call(first, behind),
+        Verb::Cut => cut_call(first),
         Verb::Read => read_call(first, behind),
         Verb::Help => help(),
         Verb::Unknown => wrong_at(place(first, 0), UNKNOWN),
@@ -185,16 +188,14 @@ fn tell(s: Status) -> bool {
     }
 }
 
-fn is_told() -> bool {
-    let mut s = [0u8; 4096];
-    let n = os::arg(1, &mut s);
-    check::same(&s[..n], b"--status")
-}
-
-// The whole tool. The status is told where the first argument asks for it.
+// The whole tool. The status is told where the first argument asks for it; behind it the modes of two new files can stand.
 pub fn run() {
-    if is_told() {
+    if is_word(1, b"--status") {
         tell(call(2));
+        return;
+    }
+    if is_word(1, b"--status-modes") {
+        tell(call(4));
         return;
     }
     call(1);

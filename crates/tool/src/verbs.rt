@@ -11,6 +11,7 @@ pub(crate) enum Verb {
     Size,
     Name,
     Join,
+    Cut,
     Read,
     Help,
     Unknown,
@@ -31,6 +32,9 @@ fn verb_of(s: &[u8]) -> Verb {
     }
     if check::same(s, b"join") {
         return Verb::Join;
+    }
+    if check::same(s, b"cut") {
+        return Verb::Cut;
     }
     if check::same(s, b"read") {
         return Verb::Read;
@@ -55,6 +59,7 @@ pub(crate) fn least(verb: Verb) -> usize {
         Verb::Size => 2,
         Verb::Name => 2,
         Verb::Join => 3,
+        Verb::Cut => 5,
         Verb::Read => 3,
         Verb::Help => 0,
         Verb::Unknown => 0,
@@ -90,6 +95,7 @@ pub(crate) fn too_many(verb: Verb) -> u32 {
 pub(crate) fn is_of_one(verb: Verb) -> bool {
     match verb {
         Verb::Join => false,
+        Verb::Cut => false,
         Verb::Help => false,
         Verb::Unknown => false,
         _ => true,

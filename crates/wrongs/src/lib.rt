@@ -46,6 +46,16 @@ pub const MANY_TABLES: u32 = 16;
 
 pub const ONE_INPUT: u32 = 17;
 
+pub const NO_OUTS: u32 = 18;
+
+pub const ONE_OUT: u32 = 19;
+
+pub const NO_COUNT: u32 = 20;
+
+pub const NO_LENGTH: u32 = 21;
+
+pub const TWO_TABLES: u32 = 22;
+
 fn usage(fd: i32) -> bool {
     io::write_all(
         fd,
@@ -55,6 +65,10 @@ fn usage(fd: i32) -> bool {
 \x20      scrieve name FILE OFFSET    the string at an offset\n\
 \x20      scrieve join A B [C ..] OUT\n\
 \x20                                  two to sixteen tables in one; OUT changes only when all of it is written\n\
+\x20      scrieve cut JOINED COUNT LENGTH OUT1 OUT2\n\
+\x20      scrieve cut JOINED --like FIRST OUT1 OUT2\n\
+\x20                                  a joined table in its two parts, of which the first has so many types and bytes of strings, or\n\
+\x20                                  as many as FIRST; OUT1 and OUT2 change only when all of both is written\n\
 \x20      scrieve read TABLE TYPE RECORD [--each]\n\
 \x20      scrieve read TABLE TYPE --hex DIGITS\n\
 \x20                                  a record of a struct or union, by number or by name: each member's bits, bytes and value;\n\
@@ -63,7 +77,7 @@ fn usage(fd: i32) -> bool {
 \x20                                  the same of a table that leans on a base: its numbers and name offsets go on from those of BASE\n\
 \x20      scrieve help                this text; -h and --help too\n\
 \x20      scrieve version             the commit, the toolchain, the requests that have landed\n\
-A dash for FILE, A, B, C, TABLE, RECORD or BASE is standard input.\n\
+A dash for FILE, A, B, C, JOINED, FIRST, TABLE, RECORD or BASE is standard input.\n\
 Status: 0 accepted or done, 1 refused, 2 a wrong call, or a file that cannot be read or written.\n",
     )
 }
@@ -95,7 +109,12 @@ fn put_wrong(word: &[u8], why: u32) {
         BASE and another file cannot both be standard input\n\
         two tables at least are joined, and OUT stands behind them\n\
         sixteen tables at most are joined, and OUT stands behind them\n\
-        only one of the tables can be standard input\n";
+        only one of the tables can be standard input\n\
+        OUT1 and OUT2 are names of files\n\
+        OUT1 and OUT2 are two files\n\
+        COUNT is a decimal number of 32 bits, or --like\n\
+        LENGTH is a decimal number of 32 bits\n\
+        JOINED and FIRST cannot both be standard input\n";
     let mut buf = [0u8; lines::ROOM];
     let o = put(&mut buf, lines::to(STDERR_FILENO), b"scrieve: ");
     let o = put_file(&mut buf, o, word);
