@@ -15,7 +15,7 @@
  * - No pointer may be null, that of an empty slice neither: lend any object and 0 elements. A uint32_t pointer is aligned as
  *   uint32_t is; a uint8_t pointer needs no alignment.
  * - What stands in index, work, out, first, second, answer, span and value before the call has no meaning. They need not be cleared.
- * - The stack is no part of the proof. No function calls itself; the frames of the deepest call add up to under 1,536 bytes in the
+ * - The stack is no part of the proof. No function calls itself; the frames of the deepest call add up to under 2,048 bytes in the
  *   archive's code for x86-64.
  * - `type` and `offset` are a type number and an offset into the string section. Type 0 is void; records are numbered from 1.
  * - A blob is little-endian or big-endian, whatever the processor is: one that begins EB 9F has its words high byte first, any other low
