@@ -2,3 +2,4 @@ pub mod Written
 pub mod OneReading
 pub mod Keeping
 pub mod ListBytes
+pub mod Lengths

@@ -6,7 +6,9 @@ use mathlib.Core.Option.{Option, none, some}
 use lib.Dec.{ltb}
 use lib.ListN.{length, drop}
 use Rattle.lists.specs.List.{Listed, unread, table, listOf, readList}
-use Rattle.paper.specs.rules.Answer.{Answer, report, value}
+use Rattle.lists.specs.declared.Wrote.{Wrote}
+use Rattle.lists.specs.declared.Wrote.the-variants.{Whole, OutputShort, Refused}
+use Rattle.paper.specs.rules.Answer.{Answer, inside, report, reportAsPaper, value}
 use Rattle.paper.specs.rules.Choice.{_when_, firstDue, orElse}
 use Rattle.paper.specs.rules.Gate.{Outcome, gate, naming, refusal, zeros}
 use Rattle.paper.specs.rules.Header.{orderOf}
@@ -38,6 +40,11 @@ writeOutcome b checked out (some a) = record { answer = a; output = out; index =
 
 unfoldable pub writeList : List ℕ → ℕ → ℕ → List ℕ → WriteOutcome
 writeList b places workPlaces out = writeOutcome b (gate b places workPlaces) out (writeRefusal b places workPlaces (length out))
+
+unfoldable pub wroteAsPaper : Wrote → Answer
+wroteAsPaper (Whole n) = value n
+wroteAsPaper OutputShort = report 53 0
+wroteAsPaper (Refused r) = inside 54 (reportAsPaper r)
 
 -- ── reading ──
 

@@ -55,6 +55,10 @@ fieldsIn (suc more) tag body =
 unfoldable pub bodyFields : ℕ → List ℕ → List ℕ
 bodyFields tag body = fieldsIn (length body) tag body
 
+-- how long that is
+abbrev pub fieldsLength : ℕ → ℕ
+fieldsLength n = n + 3 * (n / fieldMost + 1)
+
 module _ (order : Order) where
   -- "its tag the kind, its body the record"
   unfoldable pub recordField : Record → List ℕ

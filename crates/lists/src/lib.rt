@@ -1,1 +1,9 @@
-// A table written out as the house list, and read back: definitions (specs/List.antt) and their laws. There is no code here.
+// A table written out as the house list, and read back: definitions (specs/List.antt) and their laws. There is no code here but the answers' cases.
+use paper::Report;
+
+// What writing a list answers: its length, 53, or 54 with the table's report.
+pub enum Wrote {
+    Whole(u32),
+    OutputShort,
+    Refused(Report),
+}

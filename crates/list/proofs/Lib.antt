@@ -1,0 +1,4 @@
+pub mod Fielding
+pub mod Walking
+pub mod Writings
+pub mod Demands
