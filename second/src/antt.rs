@@ -2,22 +2,13 @@
 
 use crate::names::is_identifier;
 use crate::vectors::{module_and_index, places, run, told_name, Case, Seen};
-use crate::vectors::{APART, CHECK, JOIN, LEANING, LEANING_NAME, LEANING_SIZE, NAME, SIZE};
-use crate::vectors::{LIST_READ, LIST_WRITTEN};
+use crate::vectors::{APART, CHECK, LEANING, LEANING_NAME, LEANING_SIZE, LIST_READ, LIST_WRITTEN};
+use crate::vectors::{MEMBER, NAME, OPS, SIZE};
 
-/// The ops that the text is written for.
-pub const OPS: [u32; 10] = [
-    CHECK,
-    SIZE,
-    NAME,
-    JOIN,
-    APART,
-    LIST_READ,
-    LIST_WRITTEN,
-    LEANING,
-    LEANING_SIZE,
-    LEANING_NAME,
-];
+/// Whether the text is written for an op: a member's value is left to `replay`.
+pub fn has(op: u32) -> bool {
+    OPS.contains(&op) && op != MEMBER
+}
 
 /// What stands before the first list: the names it leans on, and how a case
 /// is held against the definitions.

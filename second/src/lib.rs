@@ -17,7 +17,7 @@ pub mod changed;
 pub mod generate;
 pub mod goals;
 #[cfg(feature = "archive")]
-pub mod lists;
+pub mod groupings;
 pub mod make;
 pub mod plain_value;
 pub mod rules;

@@ -116,7 +116,7 @@ fn antt(arguments: &[String]) -> Result<Vec<u8>, String> {
         scale: Scale::Tiny,
         ..wanted(&rest)?
     };
-    if !wanted.ops.iter().all(|op| second::antt::OPS.contains(op)) {
+    if !wanted.ops.iter().all(|op| second::antt::has(*op)) {
         return Err("antt has ops 1 to 4 and 6 to 11".to_string());
     }
     // The edges of a pair are always with those of the ops of before.

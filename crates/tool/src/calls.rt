@@ -8,7 +8,7 @@ use crate::based::base_word;
 use crate::based::flag_from;
 use crate::based::is_last;
 use crate::halves::cut_call;
-use crate::lists::join_call;
+use crate::joining::join_call;
 use crate::records::read_call;
 use crate::verbs::Verb;
 use crate::verbs::is_of_one;

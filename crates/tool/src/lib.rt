@@ -3,7 +3,7 @@ mod arguments; // the arguments by their numbers
 mod based; // the base behind a call
 mod calls; // the arguments: which verb, of what
 mod halves; // the words behind `cut`
-mod lists; // the words behind `join`
+mod joining; // the words behind `join`
 mod records; // the words behind `read`
 mod verbs; // which verbs there are
 

@@ -1,5 +1,5 @@
 // The verbs, and how many words stand behind each.
-use crate::lists::MOST;
+use crate::joining::MOST;
 use wrongs::FEW_TABLES;
 use wrongs::MANY_TABLES;
 use wrongs::TOO_FEW;

@@ -1,10 +1,10 @@
 //! The archive and this implementation in one process: generated cases of
 //! every op that it has through both, until the first that differs.
 //!
-//!     beside [--seed N] [--cases N | --lists N]
+//!     beside [--seed N] [--cases N | --groupings N]
 //!
 //! The fixed cases come first, as many as fit the count: tables at the limits,
-//! and every rule's edges. Lent lengths vary with the seed. With `--lists` so
+//! and every rule's edges. Lent lengths vary with the seed. With `--groupings` so
 //! many lists of two to sixteen of the tables of example/ are joined instead,
 //! each in two random ways of bracketing, and taken apart again at every join.
 //! Status 1 for a difference, 2 for a wrong call.
@@ -13,12 +13,12 @@ use second::beside::{Trial, OPS};
 use second::census::Census;
 use second::generate::random::Random;
 use second::generate::{cases, Scale, Wanted};
-use second::lists::Lists;
+use second::groupings::Groupings;
 use second::vectors::{Case, APART, CHECK, JOIN, LEANING};
 use std::path::Path;
 use std::process::ExitCode;
 
-const USAGE: &str = "beside [--seed N] [--cases N | --lists N]";
+const USAGE: &str = "beside [--seed N] [--cases N | --groupings N]";
 
 /// Of a thousand generated cases, how many have each scale.
 const SHARES: [(Scale, usize); 3] = [(Scale::Small, 400), (Scale::Full, 590), (Scale::Long, 10)];
@@ -29,8 +29,8 @@ fn main() -> ExitCode {
         eprintln!("{USAGE}");
         return ExitCode::from(2);
     };
-    let (agreed, differed) = match asked.lists {
-        Some(count) => lists(asked.seed, count),
+    let (agreed, differed) = match asked.groupings {
+        Some(count) => groupings(asked.seed, count),
         None => generated(asked.seed, asked.cases),
     };
     println!("{agreed} agreed, {} differed", u32::from(differed));
@@ -54,15 +54,15 @@ fn generated(seed: u64, count: usize) -> (usize, bool) {
 }
 
 /// The same of lists of the tables in example/.
-fn lists(seed: u64, count: usize) -> (usize, bool) {
+fn groupings(seed: u64, count: usize) -> (usize, bool) {
     let folder = Path::new(env!("CARGO_MANIFEST_DIR")).join("../example");
-    let mut lists = Lists::of(&folder).expect("the tables of example/");
-    let [little, big] = lists.counts();
+    let mut groupings = Groupings::of(&folder).expect("the tables of example/");
+    let [little, big] = groupings.counts();
     println!("seed {seed}; {little} little-endian tables and {big} big-endian");
     let mut r = Random::new(seed);
     let mut longest = 0;
     for agreed in 0..count {
-        match lists.compare(&mut r) {
+        match groupings.compare(&mut r) {
             Ok(bytes) => longest = longest.max(bytes),
             Err(what) => {
                 println!("differs: list {}: {what}", agreed + 1);
@@ -78,21 +78,21 @@ fn lists(seed: u64, count: usize) -> (usize, bool) {
 struct Asked {
     seed: u64,
     cases: usize,
-    lists: Option<usize>,
+    groupings: Option<usize>,
 }
 
 fn asked(arguments: &[String]) -> Option<Asked> {
     let mut asked = Asked {
         seed: 1,
         cases: 50_000,
-        lists: None,
+        groupings: None,
     };
     for pair in arguments.chunks(2) {
         let value = pair.get(1)?.parse::<u64>().ok()?;
         match pair[0].as_str() {
             "--seed" => asked.seed = value,
             "--cases" => asked.cases = value as usize,
-            "--lists" => asked.lists = Some(value as usize),
+            "--groupings" => asked.groupings = Some(value as usize),
             _ => return None,
         }
     }

@@ -8,7 +8,7 @@ use crate::generate::crossing::{crossed, fused};
 use crate::generate::joined::{ask, end_of, lengths, Joined};
 use crate::generate::pieces::table_of;
 use crate::generate::random::Random;
-use crate::generate::{fits, long_apart, valid, Scale};
+use crate::generate::{long_apart, until, valid, Scale};
 use crate::make::Make;
 use crate::table::Kind;
 use crate::vectors::{run, Case};
@@ -25,14 +25,8 @@ pub fn case(r: &mut Random, scale: Scale) -> Case {
         return long_apart::case(r);
     }
     let aim = r.pick(&AIMS);
-    loop {
-        let case = attempt(r, scale, aim);
-        // Near misses stay too, but not so many that the spread suffers.
-        let stays = aim == WILD || run(&case).number == aim || r.one_in(12);
-        if stays && fits(&case, scale) {
-            return case;
-        }
-    }
+    let hits = |case: &Case| aim == WILD || run(case).number == aim;
+    until(r, scale, 12, hits, |r| attempt(r, scale, aim))
 }
 
 fn attempt(r: &mut Random, scale: Scale, aim: u32) -> Case {

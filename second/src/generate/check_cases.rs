@@ -2,7 +2,7 @@
 
 use crate::generate::random::Random;
 use crate::generate::{damage_bytes, damage_layout, damage_references, damage_words};
-use crate::generate::{fits, large, valid, Scale};
+use crate::generate::{large, until, valid, Scale};
 use crate::limits::FULL_PLACES;
 use crate::make::{blob_of, put_word, word_at, Make};
 use crate::vectors::{run, Case, CHECK};
@@ -31,22 +31,18 @@ pub fn aim(r: &mut Random, scale: Scale) -> u32 {
 
 pub fn case(r: &mut Random, scale: Scale) -> Case {
     let aim = aim(r, scale);
-    loop {
+    let hits = |case: &Case| aim >= WILD || run(case).number == aim;
+    until(r, scale, 6, hits, |r| {
         let aimed = aimed(r, scale, aim);
         let (index_places, work_places) = slices(r, aimed.places, aim == 9);
-        let case = Case {
+        Case {
             op: CHECK,
             index_places,
             work_places,
             a: aimed.blob,
             ..Case::default()
-        };
-        // Near misses stay too, but not so many that the spread suffers.
-        let stays = aim >= WILD || run(&case).number == aim || r.one_in(6);
-        if stays && fits(&case, scale) {
-            return case;
         }
-    }
+    })
 }
 
 /// Lengths lent for so many places asked.

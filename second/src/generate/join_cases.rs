@@ -3,7 +3,7 @@
 use crate::generate::check_cases::{aim, aimed, slices, Aimed, ACCEPTED, WILD};
 use crate::generate::random::Random;
 use crate::generate::turn::mixed;
-use crate::generate::{fits, large, valid, Scale};
+use crate::generate::{large, until, valid, Scale};
 use crate::limits::{BYTE_LIMIT, FULL_PLACES, TYPE_LIMIT};
 use crate::make::Make;
 use crate::vectors::{run, Case, JOIN, MOST_BYTES};
@@ -26,13 +26,8 @@ fn of_one_order(r: &mut Random, scale: Scale) -> Case {
         }
         return large_pair(r, ground);
     }
-    loop {
-        let case = pair(r, scale, ground);
-        let stays = run(&case).number == ground || r.one_in(8);
-        if stays && fits(&case, scale) {
-            return case;
-        }
-    }
+    let hits = |case: &Case| run(case).number == ground;
+    until(r, scale, 8, hits, |r| pair(r, scale, ground))
 }
 
 /// An accepted table, at times the empty one.

@@ -5,7 +5,7 @@ use crate::generate::check_cases::{self, damage, random_bytes, random_words, sli
 use crate::generate::pair::{self, Pair};
 use crate::generate::random::Random;
 use crate::generate::turn::turned;
-use crate::generate::{damage_bytes, fits, large_leaning, Scale};
+use crate::generate::{damage_bytes, large_leaning, until, Scale};
 use crate::make::Make;
 use crate::order::ORDERS;
 use crate::vectors::{run, Case, LEANING};
@@ -21,14 +21,8 @@ pub fn case(r: &mut Random, scale: Scale) -> Case {
         return large_leaning::case(r);
     }
     let aim = r.pick(&AIMS);
-    loop {
-        let case = attempt(r, scale, aim);
-        // Near misses stay too, but not so many that the spread suffers.
-        let stays = aim == WILD || run(&case).number == aim || r.one_in(12);
-        if stays && fits(&case, scale) {
-            return case;
-        }
-    }
+    let hits = |case: &Case| aim == WILD || run(case).number == aim;
+    until(r, scale, 12, hits, |r| attempt(r, scale, aim))
 }
 
 /// The check of a pair with so many places lent.

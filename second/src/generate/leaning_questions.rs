@@ -7,7 +7,7 @@ use crate::generate::pair::{self, Pair};
 use crate::generate::random::Random;
 use crate::generate::size_cases::{add_deeper, begun_bytes, turned_index};
 use crate::generate::turn::{in_order, turned};
-use crate::generate::{fits, large_leaning, Scale};
+use crate::generate::{fits, large_leaning, until, Scale};
 use crate::make::word_at;
 use crate::order::ORDERS;
 use crate::vectors::{bytes_of, run, Case, LEANING_NAME, LEANING_SIZE};
@@ -18,13 +18,8 @@ pub fn size(r: &mut Random, scale: Scale) -> Case {
         return large_leaning::size(r);
     }
     let aim = r.pick(&[0, 1, 2, 21, 22]);
-    loop {
-        let case = attempt(r, scale, aim);
-        let stays = run(&case).number == aim || r.one_in(20);
-        if stays && fits(&case, scale) {
-            return case;
-        }
-    }
+    let hits = |case: &Case| run(case).number == aim;
+    until(r, scale, 20, hits, |r| attempt(r, scale, aim))
 }
 
 /// A size question: the base, its count, the module's table, the index and the

@@ -5,7 +5,7 @@ use crate::generate::check_cases::{aimed, broken, damage, slices, ACCEPTED, WILD
 use crate::generate::damage_fields::{cut_short, out_of_place, random_fields, unknown_tag};
 use crate::generate::fields::{ask_list, ask_table, fields_of, list_of};
 use crate::generate::random::Random;
-use crate::generate::{fits, long_lists, valid, Scale};
+use crate::generate::{long_lists, until, valid, Scale};
 use crate::make::Make;
 use crate::vectors::{run, Case, Seen};
 
@@ -26,7 +26,7 @@ pub fn read(r: &mut Random, scale: Scale) -> Case {
         return long_lists::read(r);
     }
     let aim = r.pick(&READ_AIMS);
-    until(r, scale, aim, attempt_to_read)
+    answering(r, scale, aim, attempt_to_read)
 }
 
 pub fn write(r: &mut Random, scale: Scale) -> Case {
@@ -34,20 +34,14 @@ pub fn write(r: &mut Random, scale: Scale) -> Case {
         return long_lists::write(r);
     }
     let aim = r.pick(&WRITTEN_AIMS);
-    until(r, scale, aim, attempt_to_write)
+    answering(r, scale, aim, attempt_to_write)
 }
 
 type Attempt = fn(&mut Random, Scale, u32) -> Case;
 
-fn until(r: &mut Random, scale: Scale, aim: u32, attempt: Attempt) -> Case {
-    loop {
-        let case = attempt(r, scale, aim);
-        // Near misses stay too, but not so many that the spread suffers.
-        let stays = aim == WILD || answer(&run(&case)) == aim || r.one_in(12);
-        if stays && fits(&case, scale) {
-            return case;
-        }
-    }
+fn answering(r: &mut Random, scale: Scale, aim: u32, attempt: Attempt) -> Case {
+    let hits = |case: &Case| aim == WILD || answer(&run(case)) == aim;
+    until(r, scale, 12, hits, |r| attempt(r, scale, aim))
 }
 
 /// The number of an answer, or of the report inside it.

@@ -273,6 +273,24 @@ fn one(r: &mut Random, wanted: &Wanted) -> Case {
     in_some_order(r, case)
 }
 
+/// Tries until a case hits what it is aimed at. Near misses stay too, one in so
+/// many: not so many that the spread suffers.
+pub fn until(
+    r: &mut Random,
+    scale: Scale,
+    misses: u32,
+    hits: impl Fn(&Case) -> bool,
+    attempt: impl Fn(&mut Random) -> Case,
+) -> Case {
+    loop {
+        let case = attempt(r);
+        let stays = hits(&case) || r.one_in(misses);
+        if stays && fits(&case, scale) {
+            return case;
+        }
+    }
+}
+
 /// The slow checker takes short tables and slices only.
 pub fn fits(case: &Case, scale: Scale) -> bool {
     if scale != Scale::Tiny {

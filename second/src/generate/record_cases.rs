@@ -7,7 +7,7 @@ use crate::generate::damage_layout::wrapped;
 use crate::generate::grow::grow;
 use crate::generate::random::Random;
 use crate::generate::turn::turned;
-use crate::generate::{fits, large_records, valid, Scale};
+use crate::generate::{large_records, until, valid, Scale};
 use crate::make::Make;
 use crate::record::read_checked;
 use crate::table::{Kind, Record, Table};
@@ -18,14 +18,8 @@ pub const AIMS: [u32; 13] = [0, 0, 1, 1, 2, 2, 21, 30, 31, 32, 33, 34, 35];
 
 pub fn case(r: &mut Random, scale: Scale) -> Case {
     let aim = r.pick(&AIMS);
-    loop {
-        let case = attempt(r, scale, aim);
-        // Near misses stay too, but not so many that the spread suffers.
-        let stays = run(&case).number == aim || r.one_in(40);
-        if stays && fits(&case, scale) {
-            return case;
-        }
-    }
+    let hits = |case: &Case| run(case).number == aim;
+    until(r, scale, 40, hits, |r| attempt(r, scale, aim))
 }
 
 fn attempt(r: &mut Random, scale: Scale, aim: u32) -> Case {

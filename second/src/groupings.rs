@@ -1,4 +1,4 @@
-//! Lists of real tables, joined in two random ways of bracketing through the
+//! Groupings of real tables, joined in two random ways of bracketing through the
 //! archive and through this implementation, and taken apart again.
 
 use crate::apart::Cut;
@@ -72,14 +72,14 @@ impl Room {
 }
 
 /// The tables to choose from, those of an order together.
-pub struct Lists {
+pub struct Groupings {
     tables: [Vec<Vec<u8>>; 2],
     room: Room,
 }
 
-impl Lists {
+impl Groupings {
     /// Of the accepted tables in a folder.
-    pub fn of(folder: &Path) -> std::io::Result<Lists> {
+    pub fn of(folder: &Path) -> std::io::Result<Groupings> {
         let mut paths = Vec::new();
         for entry in std::fs::read_dir(folder)? {
             paths.push(entry?.path());
@@ -95,7 +95,7 @@ impl Lists {
             let found = all.iter().filter(|blob| Order::of(blob) == order);
             found.cloned().collect()
         };
-        Ok(Lists {
+        Ok(Groupings {
             tables: ORDERS.map(of_order),
             room: Room::new(),
         })
