@@ -16,7 +16,7 @@ use Rattle.paper.proofs.Demands.{join-bytes, join-count, join-accepted, join-fi
 use Rattle.paper.proofs.Outcomes.{join-refused, join-made}
 use Rattle.paper.proofs.Questions.{join-named-first, join-named-second, raise-inside}
 use Rattle.paper.proofs.basics.Answers.{sized-one, joined-one}
-use Rattle.paper.proofs.gates.Acceptance.{accepted-meets, meets-accepted}
+use Rattle.paper.proofs.gates.Acceptance.{accepted-full, accepted-meets, meets-accepted}
 use Rattle.paper.proofs.gates.Answered.{joined-whole, joined-refused}
 use Rattle.paper.proofs.joins.FullJoins.{joinFull-any}
 use Rattle.paper.proofs.joins.Grouping.{join-assoc}
@@ -212,19 +212,12 @@ join-grouping a b c x y z {j₁} {j₂} {j₃} {j₄} {o₁} {o₂} {o₃} {o₄
 module _ {b : List ℕ} (bytes : Bytes b) {c : Checked} {places work : ℕ} {index left : List ℕ} (k : CheckOf c b places work index left) (n : ℕ)
     (p : c ≡ Accepted n) where
   -- slices of full size have places for every table
-  accepted-full : refusal b fullPlaces fullPlaces ≡ none
-  accepted-full =
-      let m = accepted-paper k n p in
-      let few = m .readable .section .few-found in
-      meets-accepted b fullPlaces fullPlaces
-      (record {
-        readable = record { header = m .readable .header; section = m .readable .section; enough-places = omega arith; enough-work = omega arith };
-        sound = m .sound;
-      })
+  full : refusal b fullPlaces fullPlaces ≡ none
+  full = accepted-full b places work (meets-accepted b places work (accepted-paper k n p))
 
   module _ {out : List ℕ} {j : Joined} {output : List ℕ} where
     pub empty-left : FullJoin out (emptyBlob (orderOf b)) b j output → handedBack j output ≡ some b
-    empty-left f = handed-full j (f .joins) ∙ join-empty-left out (f .full) b bytes accepted-full
+    empty-left f = handed-full j (f .joins) ∙ join-empty-left out (f .full) b bytes full
 
     pub empty-right : FullJoin out b (emptyBlob (orderOf b)) j output → handedBack j output ≡ some b
-    empty-right f = handed-full j (f .joins) ∙ join-empty-right out (f .full) b bytes accepted-full
+    empty-right f = handed-full j (f .joins) ∙ join-empty-right out (f .full) b bytes full

@@ -11,6 +11,7 @@ use lib.ListN.{length, take, drop}
 use lib.Seq.{take-at}
 use Rattle.list.specs.Listing.{WriteOf}
 use Rattle.lists.proofs.Written.{readList-listOf}
+use Rattle.lists.proofs.Wrotes.{wrote-one}
 use Rattle.lists.specs.Kept.{WriteOutcome, listIn, writeList, writeOutcome, writeRefusal, wroteAsPaper}
 use Rattle.lists.specs.List.{readList, table}
 use Rattle.lists.specs.declared.Wrote.{Wrote}
@@ -73,5 +74,10 @@ module _ {r : Wrote} {b : List ℕ} {places work : ℕ} {out index left output :
 -- any two results that the contract allows are the same, slice by slice
 pub write-one : {r r′ : Wrote} {b : List ℕ} {places work : ℕ} {out index left output index′ left′ output′ : List ℕ}
     → WriteOf r b places work out index left output → WriteOf r′ b places work out index′ left′ output′
-    → (wroteAsPaper r ≡ wroteAsPaper r′) × (index ≡ index′) × (left ≡ left′) × (output ≡ output′)
-write-one h k = (h .answers ∙ sym (k .answers), h .indexes ∙ sym (k .indexes), h .works ∙ sym (k .works), h .outputs ∙ sym (k .outputs))
+    → (r ≡ r′) × (index ≡ index′) × (left ≡ left′) × (output ≡ output′)
+write-one {r} {r′} h k = (
+  wrote-one r r′ (h .answers ∙ sym (k .answers)),
+  h .indexes ∙ sym (k .indexes),
+  h .works ∙ sym (k .works),
+  h .outputs ∙ sym (k .outputs),
+)

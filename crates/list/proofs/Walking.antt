@@ -1,6 +1,6 @@
 -- The records of an accepted blob gone over one by one: the list of those that are done, and behind it that of those that are left.
 -- Assumes nothing.
-use Prim.Native.Nat.{ℕ, zero, suc, _+_, _-_, _*_, _/_, _≤_, _<_}
+use Prim.Native.Nat.{ℕ, _+_, _-_, _*_, _≤_, _<_}
 use mathlib.Core.Path.{_≡_, refl, sym, ap, ap₂, _∙_, subst}
 use mathlib.Core.List.{List, [], _∷_, _++_, append-assoc, append-nil}
 use native.Mathlib.Omega.{arith}
@@ -14,8 +14,8 @@ use Rattle.paper.proofs.bytes.Blobs.{strings-tableOf, types-length}
 use Rattle.paper.proofs.bytes.Bytes.{below-left, below-right, bytesOfWords-append, length-bytesOfWords, part-rest}
 use Rattle.paper.proofs.bytes.Puts.{length-put, put-put, put-whole}
 use Rattle.paper.proofs.bytes.Reading.{recordIn-whole}
-use Rattle.paper.proofs.bytes.Tables.{bytesOf-parts, length-bytesOf}
-use Rattle.paper.proofs.gates.Acceptance.{accepted-bytes, accepted-fits, accepted-meets}
+use Rattle.paper.proofs.bytes.Tables.{length-bytesOf}
+use Rattle.paper.proofs.gates.Acceptance.{accepted-bytes, accepted-fits, accepted-meets, accepted-sections}
 use Rattle.paper.specs.declared.Order.{Order}
 use Rattle.paper.specs.rules.Header.{orderOf, stringsIn, typeLen}
 use Rattle.paper.specs.rules.Limits.{byteLimit}
@@ -92,9 +92,7 @@ module _ {b : List ℕ} (a : ListAsk b) {w : ℕ} (e : w ≡ wordAt (orderOf b) 
         left = tableOf b .records;
         whole = f .whole;
         fits = f .words-fit;
-        there =
-            ap (drop 24) (sym (accepted-bytes b (a .places) (a .work) (a .accepted) (a .bytes)))
-            ∙ ap (drop 24) (bytesOf-parts (orderOf b) (tableOf b));
+        there = accepted-sections b (a .places) (a .work) (a .accepted) (a .bytes);
         ends = omega (arith, s .types);
         inside = omega (arith, s .sum);
         short = s .short;

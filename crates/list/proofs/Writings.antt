@@ -2,7 +2,7 @@
 -- Assumes nothing.
 use Prim.Native.Nat.{ℕ, _+_, _≤_, _<_}
 use mathlib.Core.Path.{_≡_, refl, sym, ap, ap₂, _∙_}
-use mathlib.Core.Bool.{Bool, true, false}
+use mathlib.Core.Bool.{Bool}
 use mathlib.Core.List.{List, [], _∷_, _++_}
 use mathlib.Core.Option.{Option, none, some}
 use borrow.Author.Tests.{le-ltb, lt-ltb}
@@ -18,7 +18,7 @@ use Rattle.paper.proofs.gates.Answered.{checked-accepted, checked-refused}
 use Rattle.paper.specs.declared.Checked.{Checked}
 use Rattle.paper.specs.declared.Checked.the-variants as checked
 use Rattle.paper.specs.declared.Report.{Report}
-use Rattle.paper.specs.rules.Answer.{Answer, accepted, checkedAsPaper, report, reportAsPaper, value}
+use Rattle.paper.specs.rules.Answer.{Answer, accepted, checkedAsPaper, value}
 use Rattle.paper.specs.rules.Choice.{_when_, firstDue, orElse}
 use Rattle.paper.specs.rules.Gate.{Outcome, gate, naming, refusal}
 use Rattle.paper.specs.rules.Join.{refusedInside}

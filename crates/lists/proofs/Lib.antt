@@ -3,3 +3,4 @@ pub mod OneReading
 pub mod Keeping
 pub mod ListBytes
 pub mod Lengths
+pub mod Wrotes

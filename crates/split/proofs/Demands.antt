@@ -11,7 +11,7 @@ use lib.ListN.{length, take, drop}
 use lib.Seq.{take-append-seam, take-at}
 use Rattle.join.proofs.Demands.{FullJoin, joinable-joined, joined-bytes, joined-joinable}
 use Rattle.join.specs.Joins.{JoinOf, handedBack}
-use Rattle.paper.proofs.gates.Acceptance.{accepted-meets, meets-accepted}
+use Rattle.paper.proofs.gates.Acceptance.{accepted-full, accepted-with}
 use Rattle.paper.proofs.gates.Numbers.{Says, refusal-number, says-naming, says-orElse}
 use Rattle.paper.specs.declared.Joined.{Joined}
 use Rattle.paper.specs.declared.Joined.the-variants.{Whole}
@@ -19,10 +19,10 @@ use Rattle.paper.specs.rules.Answer.{Answer, report}
 use Rattle.paper.specs.rules.Choice.{firstDue}
 use Rattle.paper.specs.rules.Gate.{gate, naming, refusal}
 use Rattle.paper.specs.rules.Join.{joinedBytes}
-use Rattle.paper.specs.rules.Limits.{byteLimit, fullPlaces}
+use Rattle.paper.specs.rules.Limits.{fullPlaces}
 use Rattle.paper.specs.rules.Table.{count}
 use Rattle.paper.specs.rules.Walk.{tableOf}
-use Rattle.paper.specs.terms.Fit.{Accepted, Bytes}
+use Rattle.paper.specs.terms.Fit.{Bytes}
 use Rattle.paper.specs.terms.Good.{Joinable}
 use Rattle.parts.proofs.Cuts.{cut-joins, joins-accepted, joins-cut, joins-first, joins-second}
 use Rattle.parts.proofs.Refusals.{cut-61-first, cut-61-second, cut-made, made-cut, parted-one, refused-60}
@@ -31,19 +31,6 @@ use Rattle.parts.specs.Pair.{JoinsTo}
 use Rattle.parts.specs.declared.Parted.{Parted}
 use Rattle.parts.specs.declared.Parted.the-variants.{Apart, NoCut, OutputShort}
 use Rattle.split.specs.Parting.{SplitOf}
-
--- accepted with some places, a table is accepted with those of full size, and with any that have one for each type and for void
-accepted-with : (b : List ℕ) (places work places′ work′ : ℕ) → refusal b places work ≡ none → count (tableOf b) < places′ → count (tableOf b) < work′
-    → refusal b places′ work′ ≡ none
-accepted-with b places work places′ work′ e p w =
-    let m = accepted-meets b places work e in
-    meets-accepted b places′ work′
-    (record { readable = record { header = m .readable .header; section = m .readable .section; enough-places = p; enough-work = w }; sound = m .sound })
-
-accepted-full : (b : List ℕ) (places work : ℕ) → refusal b places work ≡ none → Accepted b
-accepted-full b places work e =
-    let few = accepted-meets b places work e .readable .section .few-found in
-    accepted-with b places work fullPlaces fullPlaces e (omega arith) (omega arith)
 
 module _ {r : Parted} {b : List ℕ} {n s places work : ℕ} {out out′ index left first second : List ℕ}
     (h : SplitOf r b n s places work out out′ index left first second) where
@@ -166,7 +153,7 @@ module _ {r : Parted} {b : List ℕ} {n s places work : ℕ} {out out′ index l
 
   module _ {x y : List ℕ} (j : JoinsTo b n s x y) (enough : count (tableOf b) < places) (enough′ : count (tableOf b) < work) where
     accepted : refusal b places work ≡ none
-    accepted = accepted-with b fullPlaces fullPlaces places work (joins-accepted j) enough enough′
+    accepted = accepted-with b fullPlaces fullPlaces (joins-accepted j) places work enough enough′
 
     same-long : (length (firstBytes b n s) ≡ length x) × (length (secondBytes b n s) ≡ length y)
     same-long = (ap length (joins-first j), ap length (joins-second j))

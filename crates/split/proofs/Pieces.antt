@@ -1,32 +1,25 @@
 -- The parts of a blob that a cut goes through, as pieces of the blob: where their records and strings stand, and how long they are.
 -- Assumes nothing.
-use Prim.Native.Nat.{ℕ, zero, suc, _+_, _-_, _*_, _≤_, _<_}
-use mathlib.Core.Path.{_≡_, refl, sym, ap, ap₂, _∙_, subst}
-use mathlib.Core.Bool.{true}
-use mathlib.Core.List.{List, [], _∷_, _++_, map, append-assoc}
+use Prim.Native.Nat.{ℕ, _+_, _-_, _*_, _≤_}
+use mathlib.Core.Path.{_≡_, sym, ap, _∙_}
+use mathlib.Core.List.{List, _++_, append-assoc}
 use native.Mathlib.Omega.{arith}
-use lib.ListN.{length, getD, take, drop, length-append, length-drop, take-append-drop}
-use lib.Seq.{drop-at, drop-cons, drop-drop, length-take-le}
-use Rattle.paper.proofs.bytes.Blobs.{header-first, strings-tableOf, types-length}
-use Rattle.paper.proofs.bytes.Bytes.{below-left, below-right, bytesOfWords-append, length-bytesOfWords}
+use lib.ListN.{length, take, drop, length-append, length-drop, take-append-drop}
+use lib.Seq.{drop-at, drop-drop}
+use Rattle.paper.proofs.bytes.Blobs.{strings-tableOf, types-length}
+use Rattle.paper.proofs.bytes.Bytes.{bytesOfWords-append, length-bytesOfWords}
 use Rattle.paper.proofs.bytes.Places.{flat-append}
-use Rattle.paper.proofs.bytes.Tables.{headerOf, bytesOf-parts, length-bytesOf}
-use Rattle.paper.proofs.gates.Acceptance.{accepted-bytes, accepted-fits, accepted-good, accepted-meets, accepted-short}
+use Rattle.paper.proofs.bytes.Tables.{length-bytesOf}
+use Rattle.paper.proofs.gates.Acceptance.{accepted-bytes, accepted-good, accepted-meets, accepted-sections}
 use Rattle.paper.proofs.joins.Grouping.{flat-rename}
-use Rattle.paper.specs.declared.Order.{Order}
 use Rattle.paper.specs.rules.Header.{orderOf, typeLen, stringsIn}
 use Rattle.paper.specs.rules.Limits.{byteLimit}
-use Rattle.paper.specs.rules.Table.{Record, Table, count}
-use Rattle.paper.specs.rules.Walk.{blobLength, bytesOf, flat, tableOf, typeLenOf}
+use Rattle.paper.specs.rules.Table.{Record, Table}
+use Rattle.paper.specs.rules.Walk.{flat, tableOf, typeLenOf}
 use Rattle.paper.specs.rules.Word.{bytesOfWords, wordAt}
-use Rattle.paper.specs.terms.Fit.{Below, EveryWhole, wordBound}
 use Rattle.paper.specs.terms.Good.{Good, HeaderFacts}
-use Rattle.parts.proofs.Cutting.{CutFacts, cutOk-facts, count-first, length-first, count-second, good-first, good-second}
-use Rattle.parts.specs.Cut.{cutOk, firstPart, secondPart, lowered, firstBytes, secondBytes}
-use Rattle.shift.specs.Made.{madeHeader}
-use Rattle.shift.specs.Raising.{recordsBytes}
-use Rattle.shift.specs.declared.groups.Shift.{Shift}
-use Rattle.split.proofs.LoweredBytes.{lowered-bytes, same-bytes}
+use Rattle.parts.proofs.Cutting.{CutFacts, cutOk-facts, length-first}
+use Rattle.parts.specs.Cut.{firstPart, secondPart, lowered, firstBytes, secondBytes}
 use Rattle.split.specs.Parting.{CutAsk}
 
 module _ {b : List ℕ} {n s middle : ℕ} (w : CutAsk b n s middle) where
@@ -55,8 +48,7 @@ module _ {b : List ℕ} {n s middle : ℕ} (w : CutAsk b n s middle) where
 
   pub sections : drop 24 b ≡ bytesOfWords (orderOf b) (flat (take n (tableOf b .records))) ++ (bytesOfWords (orderOf b) (flat (drop n (tableOf b .records))) ++ tableOf b .strings)
   sections =
-      ap (drop 24) (sym (accepted-bytes b (w .places) (w .work) (w .accepted) (w .bytes)))
-      ∙ ap (drop 24) (bytesOf-parts (orderOf b) (tableOf b))
+      accepted-sections b (w .places) (w .work) (w .accepted) (w .bytes)
       ∙ ap (λ (ws : List ℕ). bytesOfWords (orderOf b) ws ++ tableOf b .strings) flat-both
       ∙ ap (λ (x : List ℕ). x ++ tableOf b .strings) (bytesOfWords-append (orderOf b) (flat firsts) (flat seconds))
       ∙ append-assoc (bytesOfWords (orderOf b) (flat firsts)) (bytesOfWords (orderOf b) (flat seconds)) (tableOf b .strings)

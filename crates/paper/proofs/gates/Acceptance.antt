@@ -2,25 +2,26 @@
 -- table is accepted. Assumes nothing.
 use Prim.Native.Nat.{ℕ, _+_, _-_, _≤_, _<_}
 use mathlib.Core.Path.{_≡_, refl, sym, ap, _∙_, subst}
-use mathlib.Core.List.{List}
+use mathlib.Core.List.{List, _++_}
 use mathlib.Core.Option.{none}
 use native.Mathlib.Omega.{arith}
 use borrow.Author.Tests.{ltb-false, le-ltb}
 use lib.Dec.{ltb}
-use lib.ListN.{length, getD}
+use lib.ListN.{length, getD, drop}
 use Rattle.paper.proofs.bytes.Blobs.{stringsIn-length, strings-tableOf, tableOf-found, bytesOf-tableOf, tableOf-fits}
 use Rattle.paper.proofs.basics.Choices.{or-false, false-or, firstDue-none, none-firstDue}
 use Rattle.paper.proofs.gates.Gates.{orElse-none, none-orElse, naming-none, tableReport-sound, sound-tableReport, some≢none}
 use Rattle.paper.proofs.bytes.Headers.{headerReport-facts, facts-headerReport}
 use Rattle.paper.proofs.bytes.Sections.{walkFrom-flat}
-use Rattle.paper.proofs.bytes.Tables.{length-bytesOf, walk-bytesOf, tableOf-bytesOf, bytesOf-facts}
-use Rattle.paper.specs.terms.Fit.{Bytes, Fits}
+use Rattle.paper.proofs.bytes.Tables.{bytesOf-parts, length-bytesOf, walk-bytesOf, tableOf-bytesOf, bytesOf-facts}
+use Rattle.paper.specs.terms.Fit.{Accepted, Bytes, Fits}
 use Rattle.paper.specs.rules.Gate.{naming, phase1, walkReport, phase2, sliceRules, shortSlices, refusal}
 use Rattle.paper.specs.terms.Good.{Readable, Closed, Sound, Meets, Good}
 use Rattle.paper.specs.rules.Header.{headerLength, orderOf, stringsIn, headerReport}
-use Rattle.paper.specs.rules.Limits.{byteLimit, typeLimit}
+use Rattle.paper.specs.rules.Limits.{byteLimit, fullPlaces, typeLimit}
 use Rattle.paper.specs.rules.Table.{Table, count}
-use Rattle.paper.specs.rules.Walk.{Walked, records, stopped, recordsIn, walkFrom, walk, tableOf, blobLength, bytesOf}
+use Rattle.paper.specs.rules.Walk.{Walked, records, stopped, recordsIn, walkFrom, walk, flat, tableOf, blobLength, bytesOf}
+use Rattle.paper.specs.rules.Word.{bytesOfWords}
 use Rattle.paper.specs.declared.Order.{Order}
 
 -- ── phases 1 and 2, and places enough ──
@@ -113,6 +114,19 @@ module _ (b : List ℕ) (places work : ℕ) (accepted : refusal b places work �
   accepted-good =
       record { sound = accepted-meets b places work accepted .sound; closed = accepted-closed; whole = readable .section .whole-found }
 
+  -- other slices do as well, where they have places for its types
+  pub accepted-with : (places′ work′ : ℕ) → count (tableOf b) < places′ → count (tableOf b) < work′ → refusal b places′ work′ ≡ none
+  accepted-with places′ work′ p w =
+      meets-accepted b places′ work′
+      (record {
+        readable = record { header = readable .header; section = readable .section; enough-places = p; enough-work = w };
+        sound = accepted-meets b places work accepted .sound;
+      })
+
+  -- and those of full size have them for every table
+  pub accepted-full : Accepted b
+  accepted-full = let few = readable .section .few-found in accepted-with fullPlaces fullPlaces (omega arith) (omega arith)
+
   module _ (bytes : Bytes b) where
     pub accepted-fits : Fits (tableOf b)
     accepted-fits = tableOf-fits b bytes accepted-header (tableOf b .records) accepted-walk
@@ -120,6 +134,10 @@ module _ (b : List ℕ) (places work : ℕ) (accepted : refusal b places work �
     -- the blob is that of the table that it holds
     pub accepted-bytes : bytesOf (orderOf b) (tableOf b) ≡ b
     accepted-bytes = bytesOf-tableOf b bytes accepted-header (tableOf b .records) accepted-walk
+
+    -- behind its header stand the records' words and the strings
+    pub accepted-sections : drop headerLength b ≡ bytesOfWords (orderOf b) (flat (tableOf b .records)) ++ tableOf b .strings
+    accepted-sections = sym (ap (drop headerLength) accepted-bytes) ∙ ap (drop headerLength) (bytesOf-parts (orderOf b) (tableOf b))
 
     pub accepted-short : blobLength (tableOf b) ≤ byteLimit
     accepted-short = omega (arith, readable .header .short, ap length accepted-bytes, length-bytesOf (orderOf b) (tableOf b))

@@ -5,7 +5,7 @@ use mathlib.Core.Path.{_≡_, sym, ap, ap₂, _∙_, subst}
 use mathlib.Core.List.{List}
 use native.Mathlib.Omega.{arith}
 use denote.Ref.{now}
-use lib.ListN.{length, drop}
+use lib.ListN.{length}
 use Rattle.list.proofs.Walking.{Walking, Step, Sections, sections, walking-start, walking-step, walking-done}
 use Rattle.paper.proofs.bytes.Bytes.{part-rest}
 use Rattle.paper.specs.declared.Order.{Order}

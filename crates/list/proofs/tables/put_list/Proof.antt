@@ -5,7 +5,6 @@ use mathlib.Core.Path.{_≡_, sym, ap, ap₂, _∙_}
 use mathlib.Core.List.{List}
 use native.Mathlib.Omega.{arith}
 use denote.Ref.{now}
-use lib.ListN.{length, drop}
 use Rattle.list.proofs.Walking.{Laying, Sections, Step, laying-done, laying-long, laying-next, laying-room, laying-start, sections, step-cut, walking-step}
 use Rattle.lists.specs.List.{stringTag}
 use Rattle.paper.proofs.bytes.Bytes.{part-rest}
