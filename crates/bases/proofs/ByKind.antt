@@ -2,9 +2,7 @@
 -- Assumes nothing.
 use Prim.Native.Nat.{ℕ, _+_, _/_, _%_}
 use mathlib.Core.Path.{_≡_, refl, sym, ap, _∙_}
-use mathlib.Core.Bool.{Bool, cond, _||_}
 use borrow.Author.Tests.{eq-eqb, ne-eqb}
-use lib.Dec.{eqb}
 use Rattle.paper.specs.rules.KindNo.{ENUM, ENUM64, INT}
 use Rattle.paper.specs.rules.Table.{Record, flagOf, kindOf}
 use Rattle.paper.specs.rules.Tails.{intWord}

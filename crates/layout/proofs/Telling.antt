@@ -1,23 +1,23 @@
 -- Where what the slice tells is right, the rules by it are the paper's.
 -- Assumes nothing.
-use Prim.Native.Nat.{ℕ, _≤_, _<_}
+use Prim.Native.Nat.{ℕ, _<_}
 use mathlib.Core.Path.{_≡_, refl, sym, ap, ap₂, _∙_}
-use mathlib.Core.Bool.{Bool, true, false, not, cond, _&&_, _||_}
+use mathlib.Core.Bool.{Bool, true, false, cond, _&&_, _||_}
 use mathlib.Core.List.{List, [], _∷_}
 use mathlib.Core.Option.{Option, none, some}
 use native.Mathlib.Omega.{arith}
-use borrow.Author.Tests.{leb-true, leb-false, lt-leb, eqb-true}
+use borrow.Author.Tests.{leb-false, lt-leb, eqb-true}
 use lib.Dec.{eqb, leb}
 use lib.ListN.{getD}
 use Rattle.layout.proofs.LayoutKinds.{byKind}
-use Rattle.layout.specs.Told.{Recalled, sized, spanSized, spanTold, memberTold, membersTold, arrayTold, variableTold, namedTold, functionTold, entryTold, sectionTold, layoutTold}
+use Rattle.layout.specs.Told.{Recalled, sized, spanSized, spanTold, memberTold, membersTold, arrayTold, variableTold, functionTold, entryTold, sectionTold, layoutTold}
 use Rattle.paper.specs.rules.Choice.{every, isSome}
 use Rattle.paper.specs.rules.KindNo.{FUNC-PROTO}
 use Rattle.paper.specs.rules.Layout.{allNamed, offsetsOk, memberOk, membersOk, arrayOk, functionOk, tagOk, layoutOk}
 use Rattle.paper.specs.rules.Limits.{sizeLimit}
-use Rattle.paper.specs.rules.Section.{Entry, entriesIn, entriesOf, coversSize, entryCovers, placedFrom, sectionOk}
+use Rattle.paper.specs.rules.Section.{entriesIn, entriesOf, coversSize, entryCovers, placedFrom, sectionOk}
 use Rattle.paper.specs.rules.Size.{exactSize, within, smallSize, hasSize, hasSmallSize}
-use Rattle.paper.specs.rules.Span.{Member, Span, membersOf, baseFrom, baseOf, fieldSpan, plainSpan, spanOfSize, spanOf, endsBy, isRegular}
+use Rattle.paper.specs.rules.Span.{Member, membersOf, baseFrom, baseOf, fieldSpan, plainSpan, spanOfSize, spanOf, endsBy, isRegular}
 use Rattle.paper.specs.rules.Table.{Record, Table, count, recordAt, kindAt, kindOf, flagOf}
 use Rattle.paper.specs.rules.Tails.{parametersOf}
 use Rattle.paper.specs.terms.Fit.{Below, wordBound}

@@ -1,10 +1,10 @@
 -- The index of a pair: what `scan_behind` puts behind the places that the base's check left.
 -- Assumes nothing.
-use Prim.Native.Nat.{ℕ, suc, _+_, _-_, _<_}
+use Prim.Native.Nat.{ℕ, suc, _+_, _-_}
 use mathlib.Core.Path.{_≡_, refl, sym, ap, _∙_}
 use mathlib.Core.List.{List, _∷_, _++_}
 use native.Mathlib.Omega.{arith}
-use lib.ListN.{length, take, drop}
+use lib.ListN.{length, drop}
 use lib.Seq.{take-at, drop-append-add}
 use Rattle.pairs.proofs.Pairs.{count-over}
 use Rattle.pairs.specs.Lean.{ownRecords, tableOver, placesOver, indexOver}

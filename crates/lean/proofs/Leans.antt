@@ -1,6 +1,6 @@
 -- Laws of the leaning check: what is answered at each step of the code is what the definition answers.
 -- Assumes nothing.
-use Prim.Native.Nat.{ℕ, suc, _+_, _≤_, _<_}
+use Prim.Native.Nat.{ℕ, _≤_}
 use mathlib.Core.Path.{_≡_, refl, sym, ap, _∙_, subst}
 use mathlib.Core.Bool.{Bool, true, false}
 use mathlib.Core.List.{List, [], _∷_}
@@ -19,14 +19,14 @@ use Rattle.pairs.specs.Leaning.{PairReadable}
 use Rattle.paper.proofs.Outcomes.{gate-accepted}
 use Rattle.paper.proofs.gates.Acceptance.{accepted-meets}
 use Rattle.paper.proofs.gates.Answered.{checked-accepted}
-use Rattle.paper.specs.rules.Answer.{Answer, accepted, report, inside, reportAsPaper, checkedAsPaper, leanedAsPaper}
-use Rattle.paper.specs.rules.Choice.{Rule, _when_, firstDue, orElse}
-use Rattle.paper.specs.rules.Gate.{naming, walkReport, shortSlices, refusal, zeros, indexOf, Outcome, gate}
+use Rattle.paper.specs.rules.Answer.{Answer, accepted, report, checkedAsPaper, leanedAsPaper}
+use Rattle.paper.specs.rules.Choice.{_when_, firstDue, orElse}
+use Rattle.paper.specs.rules.Gate.{naming, walkReport, shortSlices, refusal, zeros, Outcome}
 use Rattle.paper.specs.rules.Header.{orderOf}
 use Rattle.paper.specs.rules.Join.{refusedInside}
 use Rattle.paper.specs.rules.Limits.{typeLimit}
 use Rattle.paper.specs.rules.Table.{count}
-use Rattle.paper.specs.rules.Walk.{recordsIn, tableOf}
+use Rattle.paper.specs.rules.Walk.{tableOf}
 use Rattle.paper.specs.declared.Checked.{Checked}
 use Rattle.paper.specs.declared.Checked.the-variants as checked
 use Rattle.paper.specs.declared.Leaned.{Leaned}

@@ -1,6 +1,6 @@
 -- The table that a pair's index shows is the table of both, at the places of both.
 -- Assumes nothing.
-use Prim.Native.Nat.{ℕ, zero, suc, _+_, _-_, _≤_, _<_}
+use Prim.Native.Nat.{ℕ, zero, suc, _+_, _-_, _<_}
 use mathlib.Core.Path.{_≡_, refl, sym, ap, _∙_, subst}
 use mathlib.Core.Bool.{Bool, true, false}
 use mathlib.Core.List.{List, _++_}
@@ -10,13 +10,12 @@ use lib.Dec.{leb, ltb}
 use lib.ListN.{length, getD, drop, List·getD-eq-default}
 use Rattle.pairs.proofs.Pairs.{count-over, base-good}
 use Rattle.pairs.proofs.Places.{length-placesOver, length-indexOver, getD-indexOver, base-there, own-there}
-use Rattle.pairs.specs.Lean.{ownRecords, tableOver, placesOver, placeOver, indexOver, leanTableReport, overBoth}
+use Rattle.pairs.specs.Lean.{tableOver, placesOver, placeOver, indexOver, leanTableReport, overBoth}
 use Rattle.pairs.specs.Leaning.{PairReadable}
 use Rattle.paper.proofs.bytes.Blobs.{strings-tableOf}
 use Rattle.paper.proofs.gates.Acceptance.{accepted-meets}
 use Rattle.paper.specs.declared.Order.{Order}
 use Rattle.paper.specs.rules.Header.{orderOf, stringsIn}
-use Rattle.paper.specs.rules.Limits.{typeLimit}
 use Rattle.paper.specs.rules.Table.{Table, count, nothing}
 use Rattle.paper.specs.rules.Walk.{tableOf}
 use Rattle.paper.specs.terms.Fit.{Bytes}

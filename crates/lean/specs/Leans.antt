@@ -4,7 +4,6 @@ use mathlib.Core.Path.{_≡_}
 use mathlib.Core.Bool.{false}
 use mathlib.Core.List.{List}
 use mathlib.Core.Option.{none}
-use lib.ListN.{length}
 use Rattle.pairs.specs.Lean.{otherOpening, leanGate}
 use Rattle.paper.specs.rules.Answer.{leanedAsPaper}
 use Rattle.paper.specs.rules.Gate.{refusal, indexOf}

@@ -10,7 +10,7 @@ use lib.Seq.{drop-at, take-at}
 use Rattle.lists.proofs.OneReading.{Reads, readList-one}
 use Rattle.lists.proofs.Written.{readList-listOf}
 use Rattle.lists.specs.Kept.{listIn}
-use Rattle.lists.specs.List.{Listed, table, bodyFields, listOf, readList}
+use Rattle.lists.specs.List.{table, bodyFields, listOf, readList}
 use Rattle.paper.proofs.bytes.Bytes.{below-append, bytes-bytesOfWords, length-bytesOfWords, words-bytesOfWords}
 use Rattle.paper.proofs.bytes.Sections.{walkFrom-flat}
 use Rattle.paper.proofs.bytes.Tables.{bytesOf-parts, headerOf, length-bytesOf, order-bytesOf}

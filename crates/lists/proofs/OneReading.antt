@@ -13,12 +13,11 @@ use lib.Seq.{drop-at, length-take-le, take-at}
 use Rattle.lists.proofs.Written.{fieldsIn-long}
 use Rattle.lists.specs.List.{stringTag, isStringTag, tagOrder, carryTag, isCarry, isTag, field, fieldMost, fieldsIn, bodyFields}
 use Rattle.lists.specs.List.{recordField, recordFields, listOf, Taken, fault, taken, onTaken, behindTag, takeField, carried, takeBody}
-use Rattle.lists.specs.List.{onlyOne, recordOf, Listed, unread, table, RecordsRead, stop, all, inFront, onBody, readRecords, withStrings, onStrings, readList}
+use Rattle.lists.specs.List.{onlyOne, recordOf, unread, table, RecordsRead, stop, all, inFront, onBody, readRecords, withStrings, onStrings, readList}
 use Rattle.paper.proofs.basics.Choices.{or-cases}
 use Rattle.paper.proofs.bytes.Bytes.{below-append, below-drop, below-take, bytesOfWords-words, length-bytesOfWords, words-fit}
 use Rattle.paper.proofs.bytes.Sections.{flat-walkFrom}
 use Rattle.paper.specs.declared.Order.{Order}
-use Rattle.paper.specs.declared.Order.the-variants.{LowFirst, HighFirst}
 use Rattle.paper.specs.rules.Table.{Record, Table, kindOf, wordsOf}
 use Rattle.paper.specs.rules.Walk.{Walked, records, stopped, flat, known, walkFrom}
 use Rattle.paper.specs.rules.Word.{bytesOfWords, words}

@@ -4,24 +4,24 @@ use Prim.Native.Nat.{ℕ, zero, suc, _+_, _-_, _*_, _/_, _%_, _≤_, _<_}
 use mathlib.Core.Path.{_≡_, refl, sym, ap, ap₂, _∙_}
 use mathlib.Core.Bool.{Bool, true, false, cond}
 use mathlib.Core.List.{List, [], _∷_, _++_, append-assoc, append-nil}
-use mathlib.Core.Option.{Option, none, some}
+use mathlib.Core.Option.{none, some}
 use native.Mathlib.Omega.{arith}
 use borrow.Author.Tests.{eq-eqb, le-leb, lt-ltb, le-ltb, ltb-true, ltb-false}
-use lib.Dec.{eqb, leb, ltb}
+use lib.Dec.{ltb}
 use lib.ListN.{length, take, drop, length-append, length-drop, take-append-drop}
 use lib.Seq.{drop-at, length-take-le, take-at}
 use Rattle.lists.specs.List.{stringTag, isStringTag, tagOrder, carryTag, isCarry, isTag, field, fieldMost, fieldsIn, bodyFields}
 use Rattle.lists.specs.List.{recordField, recordFields, listOf, Taken, fault, taken, onTaken, behindTag, takeField, carried, takeBody}
-use Rattle.lists.specs.List.{onlyOne, recordOf, Listed, table, RecordsRead, all, inFront, onBody, readRecords, withStrings, onStrings, readList}
-use Rattle.paper.proofs.basics.Choices.{or-left, or-right}
+use Rattle.lists.specs.List.{onlyOne, recordOf, table, all, inFront, onBody, readRecords, withStrings, onStrings, readList}
+use Rattle.paper.proofs.basics.Choices.{or-left}
 use Rattle.paper.proofs.bytes.Bytes.{below-left, below-right, length-bytesOfWords, words-bytesOfWords}
 use Rattle.paper.proofs.bytes.Sections.{walkFrom-flat}
 use Rattle.paper.specs.declared.Order.{Order}
 use Rattle.paper.specs.declared.Order.the-variants.{LowFirst, HighFirst}
 use Rattle.paper.specs.rules.Table.{Record, Table, kindOf, wordsOf}
-use Rattle.paper.specs.rules.Walk.{Walked, records, flat, known, walkFrom}
+use Rattle.paper.specs.rules.Walk.{records, flat, known, walkFrom}
 use Rattle.paper.specs.rules.Word.{bytesOfWords, words}
-use Rattle.paper.specs.terms.Fit.{Below, EveryWhole, Fits, Whole, wordBound}
+use Rattle.paper.specs.terms.Fit.{Below, EveryWhole, Whole, wordBound}
 
 -- ── a field ──
 

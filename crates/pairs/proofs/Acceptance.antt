@@ -1,30 +1,29 @@
 -- A leaning table is accepted exactly where the pair meets the rules over both together.
 -- Assumes nothing.
-use Prim.Native.Nat.{ℕ, suc, _+_, _-_, _≤_, _<_}
-use mathlib.Core.Path.{_≡_, refl, sym, ap, _∙_, subst}
-use mathlib.Core.Bool.{Bool, false}
+use Prim.Native.Nat.{ℕ, suc, _+_, _-_, _<_}
+use mathlib.Core.Path.{_≡_, refl, sym, ap, _∙_}
 use mathlib.Core.List.{List, [], _∷_}
 use mathlib.Core.Option.{Option, none, some}
 use native.Mathlib.Omega.{arith}
-use borrow.Author.Tests.{ltb-false, le-ltb, not-false}
+use borrow.Author.Tests.{ltb-false, le-ltb}
 use lib.Dec.{ltb}
 use lib.ListN.{length}
 use Rattle.pairs.proofs.Headers.{behindReport-facts, facts-behindReport, otherOpening-order, order-otherOpening}
 use Rattle.pairs.proofs.Replaced.{replaced, replaced-firstOf, replaced-orElse}
 use Rattle.pairs.specs.Lean.{behindReport, walkBehind, otherOpening, ownRecords, tableOver, placeOver, overBoth, leanTableReport, leanRefusal}
-use Rattle.pairs.specs.Leaning.{BehindFacts, PairReadable, PairMeets}
+use Rattle.pairs.specs.Leaning.{PairReadable, PairMeets}
 use Rattle.paper.proofs.basics.Choices.{or-false, false-or, firstDue-none, none-firstDue}
 use Rattle.paper.proofs.bytes.Sections.{walkFrom-flat, flat-walkFrom}
 use Rattle.paper.proofs.gates.Gates.{orElse-none, none-orElse, naming-none, refusedInside-none, tableReport-sound, sound-tableReport, some≢none}
-use Rattle.paper.specs.rules.Answer.{Answer, reportAt}
+use Rattle.paper.specs.rules.Answer.{Answer}
 use Rattle.paper.specs.rules.Choice.{Rule, _when_, firstDue, orElse}
-use Rattle.paper.specs.rules.Gate.{namingAt, naming, walkReport, sliceRules, shortSlices, firstOf, overTypes, phase3, phase4, phase5, phase6, tableReport, refusal}
+use Rattle.paper.specs.rules.Gate.{naming, walkReport, sliceRules, shortSlices, overTypes, phase3, phase4, phase5, phase6, tableReport, refusal}
 use Rattle.paper.specs.rules.Header.{headerLength}
 use Rattle.paper.specs.rules.Join.{refusedInside}
 use Rattle.paper.specs.rules.Limits.{typeLimit}
 use Rattle.paper.specs.rules.Table.{Table, count}
 use Rattle.paper.specs.rules.Walk.{Walked, records, stopped, recordsIn, walkFrom, typeWords, tableOf, placeAt}
-use Rattle.paper.specs.terms.Good.{WholeWalk, Sound}
+use Rattle.paper.specs.terms.Good.{WholeWalk}
 
 -- ── the phases over both say of a type what they say of the one table, at other places ──
 

@@ -1,7 +1,7 @@
 -- Names by two string sections: where the first ends in a zero byte, or is empty, they are the names of both in one.
 -- Assumes nothing.
 use Prim.Native.Nat.{ℕ, _+_, _-_}
-use mathlib.Core.Path.{_≡_, refl, sym, ap}
+use mathlib.Core.Path.{_≡_, refl, sym}
 use mathlib.Core.Bool.{Bool, true, false, cond, _&&_}
 use mathlib.Core.List.{List, _++_}
 use borrow.Author.Tests.{ltb-true, ltb-false}

@@ -1,7 +1,7 @@
 -- Which numbers a leaning check says: 1 to 15, 25 and 26, so that 0 is acceptance; and from an answer back to what it says of a pair.
 -- Assumes nothing.
 use Prim.Native.Nat.{ℕ, suc, _-_, _≤_}
-use mathlib.Core.Path.{_≡_, refl, sym, ap, _∙_}
+use mathlib.Core.Path.{_≡_, refl, sym, ap}
 use mathlib.Core.List.{List, [], _∷_}
 use mathlib.Core.Logic.{_⊎_, inl, inr}
 use mathlib.Core.Option.{Option, none, some}
@@ -11,7 +11,7 @@ use Rattle.pairs.specs.Lean.{behindRules, behindReport, walkBehind, othe
 use Rattle.pairs.specs.Lean.{leanOutcome, leanGate}
 use Rattle.paper.proofs.gates.Numbers.{Says, Numbers, says-orElse, says-naming, says-firstOf, says-inside, says-walk, says-shortSlices}
 use Rattle.paper.specs.rules.Answer.{Answer, accepted}
-use Rattle.paper.specs.rules.Choice.{Rule, _when_, firstDue, orElse}
+use Rattle.paper.specs.rules.Choice.{Rule, _when_, firstDue}
 use Rattle.paper.specs.rules.Gate.{naming, walkReport, shortSlices, phase3, phase4, phase5, phase6, refusal}
 use Rattle.paper.specs.rules.Header.{headerLength}
 use Rattle.paper.specs.rules.Join.{refusedInside}

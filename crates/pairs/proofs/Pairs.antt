@@ -4,7 +4,6 @@ use Prim.Native.Nat.{ℕ, zero, suc, _+_, _-_, _*_, _≤_, _<_}
 use mathlib.Core.Path.{_≡_, refl, sym, ap, _∙_, subst}
 use mathlib.Core.Bool.{Bool, true, false}
 use mathlib.Core.List.{List, [], _∷_, _++_}
-use mathlib.Core.Option.{none}
 use native.Mathlib.Omega.{arith}
 use borrow.Author.Tests.{eqb-true, eqb-false}
 use lib.Dec.{eqb}
@@ -21,12 +20,11 @@ use Rattle.paper.proofs.joins.Joining.{sound-rename, size-rename}
 use Rattle.paper.proofs.renaming.Names.{nameIn-append}
 use Rattle.paper.proofs.renaming.Rename.{rename-id}
 use Rattle.paper.proofs.renaming.Renaming.{Renaming}
-use Rattle.paper.specs.rules.Header.{headerLength, orderOf, strLen, stringsIn, typeLen}
-use Rattle.paper.specs.rules.Limits.{byteLimit, typeLimit}
+use Rattle.paper.specs.rules.Header.{headerLength, orderOf, stringsIn, typeLen}
 use Rattle.paper.specs.rules.Name.{nameIn}
 use Rattle.paper.specs.rules.Size.{exactSize}
 use Rattle.paper.specs.rules.Table.{Record, Table, count, nothing, recordAt}
-use Rattle.paper.specs.rules.Walk.{typeWords, tableOf, flat, typeLenOf, blobLength, bytesOf}
+use Rattle.paper.specs.rules.Walk.{tableOf, flat, typeLenOf, blobLength, bytesOf}
 use Rattle.paper.specs.terms.Fit.{Bytes, EveryWhole, Fits, wordBound}
 use Rattle.paper.specs.terms.Good.{Closed, SoundAt, Good}
 

@@ -3,15 +3,15 @@
 use Prim.Native.Nat.{ℕ, zero, suc, _+_, _-_, _*_, _≤_, _<_}
 use mathlib.Core.Path.{_≡_, refl, sym, ap, _∙_, subst}
 use mathlib.Core.Bool.{Bool, true, false, cond}
-use mathlib.Core.List.{List, [], _∷_, _++_}
+use mathlib.Core.List.{List, _∷_, _++_}
 use native.Mathlib.Omega.{arith}
-use borrow.Author.Tests.{le-leb, lt-leb, leb-true, leb-false}
+use borrow.Author.Tests.{leb-true, leb-false}
 use lib.Dec.{leb}
 use lib.ListN.{length, getD, take, drop, length-append, length-replicate, List·getD-append}
 use lib.Seq.{getD-append-add, take-at}
-use Rattle.pairs.proofs.Pairs.{count-over, base-record, own-record, base-good, base-fits, own-blob, own-fits}
-use Rattle.pairs.specs.Lean.{ownRecords, tableOver, placesOver, placeOver, indexOver, stepOver, sizeOver}
-use Rattle.pairs.specs.Leaning.{ownTable, PairReadable, PairMeets}
+use Rattle.pairs.proofs.Pairs.{count-over, base-record, own-record, base-fits, own-blob, own-fits}
+use Rattle.pairs.specs.Lean.{ownRecords, tableOver, placesOver, indexOver, stepOver, sizeOver}
+use Rattle.pairs.specs.Leaning.{ownTable, PairReadable}
 use Rattle.paper.proofs.bytes.Bytes.{length-bytesOfWords}
 use Rattle.paper.proofs.bytes.Places.{length-placesOf, place-record, record-fits}
 use Rattle.paper.proofs.bytes.Reading.{recordIn-whole}
@@ -22,7 +22,7 @@ use Rattle.paper.proofs.walks.Insides.{sound-refs, sound-ends}
 use Rattle.paper.specs.rules.Gate.{zeros}
 use Rattle.paper.specs.rules.Header.{headerLength, orderOf}
 use Rattle.paper.specs.rules.Kind.{rowOf}
-use Rattle.paper.specs.rules.Size.{Step, stepBy, stepAt, stepIn, exactSize, answerOf}
+use Rattle.paper.specs.rules.Size.{stepBy, stepAt, stepIn, exactSize, answerOf}
 use Rattle.paper.specs.rules.Table.{Record, Table, count, nothing, recordAt, kindOf, wordsOf}
 use Rattle.paper.specs.rules.Walk.{tableOf, bytesOf, placesFrom, placesOf}
 use Rattle.paper.specs.rules.Word.{bytesOfWords}

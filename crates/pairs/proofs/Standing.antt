@@ -1,13 +1,12 @@
 -- What ties a pair to tables that stand alone: the one standing table that holds both gets the same numbers at the same types from phase 3 on,
 -- and is accepted exactly where the pair is.
 -- Assumes nothing.
-use Prim.Native.Nat.{ℕ, _+_, _≤_, _<_}
+use Prim.Native.Nat.{ℕ, _<_}
 use mathlib.Core.Path.{_≡_, sym, ap, _∙_, subst}
 use mathlib.Core.List.{List}
 use mathlib.Core.Option.{Option, none}
 use native.Mathlib.Omega.{arith}
-use lib.ListN.{length}
-use Rattle.pairs.proofs.Acceptance.{earlyReport, early-first, readable-early, report-both, replaced-none}
+use Rattle.pairs.proofs.Acceptance.{early-first, readable-early, report-both, replaced-none}
 use Rattle.pairs.proofs.Pairs.{pair-fits, pair-closed, length-over}
 use Rattle.pairs.proofs.Replaced.{replaced}
 use Rattle.pairs.specs.Lean.{tableOver, placeOver, leanTableReport, leanRefusal}
@@ -15,10 +14,9 @@ use Rattle.pairs.specs.Leaning.{PairReadable}
 use Rattle.paper.proofs.bytes.Blobs.{tableOf-found}
 use Rattle.paper.proofs.bytes.Tables.{length-bytesOf, walk-bytesOf, tableOf-bytesOf, bytesOf-facts}
 use Rattle.paper.proofs.gates.Acceptance.{readable-phase1, readable-phase2, readable-slices}
-use Rattle.paper.proofs.gates.Gates.{orElse-none}
 use Rattle.paper.specs.rules.Answer.{Answer}
 use Rattle.paper.specs.rules.Choice.{orElse}
-use Rattle.paper.specs.rules.Gate.{phase1, phase2, shortSlices, tableReport, refusal}
+use Rattle.paper.specs.rules.Gate.{tableReport, refusal}
 use Rattle.paper.specs.rules.Header.{orderOf}
 use Rattle.paper.specs.rules.Table.{Table, count}
 use Rattle.paper.specs.rules.Walk.{tableOf, bytesOf}

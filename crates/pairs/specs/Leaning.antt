@@ -2,12 +2,11 @@
 use Prim.Native.Nat.{ℕ, _+_, _-_, _≤_, _<_}
 use mathlib.Core.Path.{_≡_}
 use mathlib.Core.List.{List}
-use mathlib.Core.Logic.{_⊎_}
 use mathlib.Core.Option.{none}
 use lib.ListN.{length, getD}
 use Rattle.pairs.specs.Lean.{ownRecords, tableOver}
 use Rattle.paper.specs.rules.Gate.{refusal}
-use Rattle.paper.specs.rules.Header.{orderOf, strLen, stringsIn}
+use Rattle.paper.specs.rules.Header.{orderOf, stringsIn}
 use Rattle.paper.specs.rules.Limits.{byteLimit, typeLimit}
 use Rattle.paper.specs.rules.Table.{Table, count}
 use Rattle.paper.specs.rules.Walk.{typeWords, tableOf}

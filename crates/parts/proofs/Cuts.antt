@@ -2,7 +2,7 @@
 -- it, with that first count and length, are the parts. So the pair is the only one.
 -- Assumes nothing.
 use Prim.Native.Nat.{ℕ, _+_, _≤_, _<_}
-use mathlib.Core.Path.{_≡_, refl, sym, ap, ap₂, _∙_, subst}
+use mathlib.Core.Path.{_≡_, sym, ap, ap₂, _∙_, subst}
 use mathlib.Core.Bool.{true}
 use mathlib.Core.List.{List}
 use mathlib.Core.Option.{none}
@@ -20,7 +20,7 @@ use Rattle.paper.specs.declared.Order.{Order}
 use Rattle.paper.specs.rules.Gate.{refusal}
 use Rattle.paper.specs.rules.Header.{orderOf}
 use Rattle.paper.specs.rules.Join.{joinTables, joinedBytes, joinRefusal}
-use Rattle.paper.specs.rules.Limits.{byteLimit, fullPlaces, typeLimit}
+use Rattle.paper.specs.rules.Limits.{byteLimit, fullPlaces}
 use Rattle.paper.specs.rules.Table.{Table, count}
 use Rattle.paper.specs.rules.Walk.{tableOf, bytesOf, blobLength}
 use Rattle.paper.specs.terms.Fit.{Bytes, Fits}

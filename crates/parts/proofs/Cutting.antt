@@ -1,12 +1,12 @@
 -- A cut of tables: the parts of a good table are good and join to it, and the parts of a join are what was joined.
 -- Assumes nothing.
-use Prim.Native.Nat.{ℕ, zero, suc, _+_, _-_, _≤_, _<_}
+use Prim.Native.Nat.{ℕ, zero, suc, _+_, _-_, _≤_}
 use mathlib.Core.Path.{_≡_, refl, sym, ap, ap₂, _∙_, subst}
 use mathlib.Core.Bool.{Bool, true, _&&_}
 use mathlib.Core.List.{List, [], _∷_, _++_, map}
 use native.Mathlib.Omega.{arith}
 use borrow.Author.Tests.{eqb-true, leb-true, ltb-true, eq-eqb, le-leb, lt-ltb}
-use lib.Dec.{eqb, leb, ltb}
+use lib.Dec.{leb, ltb}
 use lib.ListN.{length, getD, take, drop, take-append-drop, length-drop, length-map, List·getD-map}
 use lib.Seq.{length-take-le, getD-take, getD-drop}
 use Rattle.parts.proofs.Lowering.{raised-lowered}
@@ -24,7 +24,7 @@ use Rattle.paper.specs.rules.Kind.{Role, names, refers, holds, number, rowOf, r
 use Rattle.paper.specs.rules.Rename.{renameWord, renameWords, rename, raise}
 use Rattle.paper.specs.rules.Table.{Record, Table, count, nothing, recordAt, rolesOf, tailRoles, wordsOf, everyRoled, everyWord}
 use Rattle.paper.specs.terms.Fit.{Whole, EveryWhole}
-use Rattle.paper.specs.terms.Good.{Closed, SoundAt, Sound, Good}
+use Rattle.paper.specs.terms.Good.{Closed, SoundAt, Good}
 
 -- ── what a cut asks, one by one ──
 

@@ -7,15 +7,15 @@ use mathlib.Core.List.{List, [], _∷_}
 use mathlib.Core.Logic.{_⊎_, inl, inr}
 use mathlib.Core.Option.{Option, none, some}
 use native.Mathlib.Omega.{arith}
-use borrow.Author.Tests.{ltb-true, ltb-false, le-ltb, lt-ltb, not-false}
+use borrow.Author.Tests.{ltb-false, le-ltb, lt-ltb, not-false}
 use lib.Dec.{ltb}
 use lib.ListN.{length}
 use Rattle.parts.specs.Cut.{cutOk, firstBytes, secondBytes, cutRules, cutRefusal, partedAsPaper}
 use Rattle.parts.specs.declared.Parted.{Parted}
 use Rattle.parts.specs.declared.Parted.the-variants.{Apart, Refused, NoCut, OutputShort}
 use Rattle.paper.proofs.basics.Answers.{report-one}
-use Rattle.paper.proofs.basics.Choices.{firstDue-none, none-firstDue, or-left, or-right, or-false, false-or, or-cases}
-use Rattle.paper.proofs.gates.Gates.{orElse-none, none-orElse, naming-none}
+use Rattle.paper.proofs.basics.Choices.{firstDue-none, or-left, or-right, or-false, false-or}
+use Rattle.paper.proofs.gates.Gates.{orElse-none, naming-none}
 use Rattle.paper.proofs.gates.Numbers.{Says, refusal-number}
 use Rattle.paper.specs.declared.Report.{Report}
 use Rattle.paper.specs.declared.Report.the-variants.{Length, Opening, HeaderLength, Sections, Strings, RecordCut, UnknownKind, ManyTypes, SlicesShort}

@@ -1,13 +1,13 @@
 -- The parts of a join, cut at the first table's own numbers, are the tables that were joined; the parts of a table that fits a blob fit one.
 -- Assumes nothing.
-use Prim.Native.Nat.{ℕ, zero, suc, _+_, _-_, _≤_, _<_}
+use Prim.Native.Nat.{ℕ, suc, _+_, _-_, _≤_, _<_}
 use mathlib.Core.Path.{_≡_, refl, sym, ap, ap₂, _∙_, subst}
 use mathlib.Core.Bool.{true}
 use mathlib.Core.List.{List, [], _∷_, _++_, map}
 use native.Mathlib.Omega.{arith}
 use lib.ListN.{length, getD, take, drop, take-append-drop, List·getD-append}
 use lib.Seq.{take-append-seam, drop-append-seam}
-use Rattle.parts.proofs.Cutting.{CutFacts, count-first, length-first, count-second, join-parts, closed-first, closed-second, good-first, good-second}
+use Rattle.parts.proofs.Cutting.{CutFacts, count-first, count-second, join-parts, closed-first, closed-second, good-first, good-second}
 use Rattle.parts.proofs.Lowering.{lowered-raised, raised-behind}
 use Rattle.parts.specs.Cut.{pointsBefore, pointsBehind, firstPart, lowered, secondPart}
 use Rattle.paper.proofs.basics.Choices.{and-true}
@@ -21,11 +21,11 @@ use Rattle.paper.proofs.walks.Insides.{sound-inside}
 use Rattle.paper.specs.rules.Choice.{every}
 use Rattle.paper.specs.rules.Join.{raised, joinTables}
 use Rattle.paper.specs.rules.Kind.{Role, names, refers, holds, number}
-use Rattle.paper.specs.rules.Limits.{byteLimit, typeLimit}
+use Rattle.paper.specs.rules.Limits.{byteLimit}
 use Rattle.paper.specs.rules.Rename.{renameWord, renameWords, rename, raise}
 use Rattle.paper.specs.rules.Table.{Record, Table, count, nothing, rolesOf, tailRoles, wordsOf, everyWord}
 use Rattle.paper.specs.rules.Walk.{flat, blobLength}
-use Rattle.paper.specs.terms.Fit.{Below, Bytes, wordBound, Fits}
+use Rattle.paper.specs.terms.Fit.{Below, wordBound, Fits}
 use Rattle.paper.specs.terms.Full.{emptyTable}
 use Rattle.paper.specs.terms.Good.{Closed, Good}
 

@@ -2,16 +2,16 @@
 -- Assumes nothing.
 use Prim.Native.Nat.{ℕ, suc, _+_, _<_, _≤_}
 use mathlib.Core.Path.{_≡_, refl, sym, ap, _∙_}
-use mathlib.Core.Bool.{Bool, true, false, not, cond, _&&_, _||_, false≢true}
+use mathlib.Core.Bool.{Bool, true, false, cond, _&&_, _||_, false≢true}
 use mathlib.Core.List.{List, [], _∷_}
-use mathlib.Core.Option.{Option, none, some}
+use mathlib.Core.Option.{none, some}
 use native.Mathlib.Numerals.{add-one}
 use native.Mathlib.Omega.{arith}
-use borrow.Author.Tests.{ne-eqb, eqb-true, eqb-false, eq-eqb, lt-leb}
+use borrow.Author.Tests.{ne-eqb, eqb-true, eqb-false}
 use lib.Dec.{eqb, leb}
 use lib.ListN.{length, getD, drop, drop-of-length-le}
 use lib.Seq.{drop-cons}
-use Rattle.paper.proofs.basics.Choices.{and-left, and-right, or-cases}
+use Rattle.paper.proofs.basics.Choices.{and-left, and-right}
 use Rattle.paper.specs.rules.Choice.{every, isEmpty, isSome}
 use Rattle.paper.specs.rules.Name.{untilZero, nameIn, between, isDigit, isLetter, identifierLength, isIdentifier}
 use Rattle.idents.specs.declared.Spelt.{Spelt}

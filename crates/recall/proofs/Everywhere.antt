@@ -1,7 +1,7 @@
 -- Where every type of a table is remembered, what is told is right of any number: of void and of numbers above the count too.
 -- Assumes nothing.
 use Prim.Native.Nat.{ℕ, zero, suc, _≤_, _<_}
-use mathlib.Core.Path.{_≡_, refl, sym, ap, ap₂, _∙_}
+use mathlib.Core.Path.{_≡_, refl, sym, ap, _∙_}
 use mathlib.Core.Bool.{Bool, true, false, cond}
 use mathlib.Core.List.{List}
 use mathlib.Core.Logic.{_⊎_, inl, inr, ⊎-elim}
@@ -14,7 +14,7 @@ use Rattle.paper.proofs.walks.Insides.{recordAt-outside}
 use Rattle.paper.specs.rules.KindNo.{FUNC-PROTO}
 use Rattle.paper.specs.rules.Kind.{rows, rowOf}
 use Rattle.paper.specs.rules.Layout.{allNamed}
-use Rattle.paper.specs.rules.Size.{Step, sizeless, Found, goOn, sizeBy, sizeFound, stepBy, stepIn, exactSize}
+use Rattle.paper.specs.rules.Size.{Step, sizeless, goOn, sizeBy, sizeFound, stepBy, stepIn, exactSize}
 use Rattle.paper.specs.rules.Span.{isAlias, baseFrom}
 use Rattle.paper.specs.rules.Table.{Record, Table, count, recordAt, kindAt, kindOf}
 use Rattle.paper.specs.rules.Tails.{parametersOf}

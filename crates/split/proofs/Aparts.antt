@@ -1,20 +1,20 @@
 -- Laws of the answers: an accepted table by its index, 60, 61 and both parts, and the whole by what the check says.
 -- Assumes nothing.
-use Prim.Native.Nat.{ℕ, zero, suc, _+_, _-_, _≤_, _<_}
+use Prim.Native.Nat.{ℕ, suc, _+_, _-_, _≤_, _<_}
 use native.Mathlib.Numerals.{add-one}
-use mathlib.Core.Path.{_≡_, refl, sym, ap, ap₂, _∙_, subst}
+use mathlib.Core.Path.{_≡_, refl, sym, ap, ap₂, _∙_}
 use mathlib.Core.Bool.{Bool, true, false, not, _||_}
 use mathlib.Core.List.{List, [], _∷_, _++_}
 use mathlib.Core.Option.{Option, none, some}
 use native.Mathlib.Omega.{arith}
-use borrow.Author.Tests.{le-ltb, lt-ltb, not-true, not-false}
+use borrow.Author.Tests.{le-ltb, lt-ltb}
 use lib.Dec.{ltb}
 use lib.ListN.{length, getD, take, drop}
 use lib.Seq.{take-all}
 use Rattle.gate.proofs.Stands.{stands-place, stands-shows}
 use Rattle.gate.specs.Check.{CheckOf}
 use Rattle.gate.specs.Standing.{Standing}
-use Rattle.paper.proofs.Outcomes.{gate-accepted, gate-refused, getD-indexOf, length-indexOf}
+use Rattle.paper.proofs.Outcomes.{gate-accepted, getD-indexOf, length-indexOf}
 use Rattle.paper.proofs.basics.Choices.{false-or, or-left, or-right}
 use Rattle.paper.proofs.bytes.Blobs.{types-length}
 use Rattle.paper.proofs.bytes.Places.{placesOf-at}
@@ -23,12 +23,11 @@ use Rattle.paper.proofs.gates.Answered.{checked-accepted, checked-refused}
 use Rattle.paper.specs.declared.Checked.{Checked}
 use Rattle.paper.specs.declared.Checked.the-variants as checked
 use Rattle.paper.specs.declared.Report.{Report}
-use Rattle.paper.specs.rules.Answer.{Answer, accepted, checkedAsPaper, report, reportAsPaper}
+use Rattle.paper.specs.rules.Answer.{Answer, accepted, checkedAsPaper, report}
 use Rattle.paper.specs.rules.Choice.{_when_, firstDue, orElse}
-use Rattle.paper.specs.rules.Gate.{Outcome, gate, indexOf, naming, refusal}
+use Rattle.paper.specs.rules.Gate.{Outcome, gate, indexOf, naming}
 use Rattle.paper.specs.rules.Header.{orderOf, typeLen}
-use Rattle.paper.specs.rules.Table.{count}
-use Rattle.paper.specs.rules.Walk.{placeAt, placesOf, tableOf, typeLenOf}
+use Rattle.paper.specs.rules.Walk.{placeAt, tableOf, typeLenOf}
 use Rattle.paper.specs.rules.Word.{wordAt}
 use Rattle.paper.specs.terms.Fit.{Bytes}
 use Rattle.parts.proofs.Cutting.{cutOk-facts}

@@ -17,10 +17,9 @@ use Rattle.paper.specs.rules.Rename.{renameWord, renameWords, rename, raise}
 use Rattle.paper.specs.rules.Table.{Record, rolesOf, tailRoles, wordsOf, everyRoled, everyWord}
 use Rattle.paper.specs.rules.Walk.{flat}
 use Rattle.paper.specs.rules.Word.{wordBytes, bytesOfWords}
-use Rattle.paper.specs.terms.Fit.{wordBound}
 use Rattle.parts.proofs.Lowering.{behind-type, behind-name}
 use Rattle.parts.specs.Cut.{pointsBehind, lowered}
-use Rattle.shift.specs.Raising.{raisedRecord, recordsBytes}
+use Rattle.shift.specs.Raising.{recordsBytes}
 use Rattle.shift.specs.declared.groups.Shift.{Shift}
 use Rattle.words.proofs.PutWords.{wordBytes-cut}
 

@@ -1,11 +1,11 @@
 -- The two parts as pieces of the blob: what is asked of each piece, and that what is written is the part.
 -- Assumes nothing.
-use Prim.Native.Nat.{ℕ, zero, suc, _+_, _-_, _*_, _≤_, _<_}
-use mathlib.Core.Path.{_≡_, refl, sym, ap, ap₂, _∙_, subst}
+use Prim.Native.Nat.{ℕ, zero, suc, _+_, _-_, _*_, _≤_}
+use mathlib.Core.Path.{_≡_, sym, ap, ap₂, _∙_, subst}
 use mathlib.Core.List.{List, [], _∷_, _++_, map}
 use native.Mathlib.Omega.{arith}
-use lib.ListN.{length, getD, take, drop, length-drop}
-use lib.Seq.{drop-cons, drop-drop, length-take-le}
+use lib.ListN.{length, take, drop, length-drop}
+use lib.Seq.{drop-cons, drop-drop}
 use Rattle.paper.proofs.bytes.Blobs.{header-first}
 use Rattle.paper.proofs.bytes.Bytes.{below-left, below-right, part-rest}
 use Rattle.paper.proofs.bytes.Tables.{headerOf, bytesOf-parts}
@@ -14,17 +14,16 @@ use Rattle.paper.proofs.joins.Grouping.{flat-rename}
 use Rattle.paper.specs.declared.Order.{Order}
 use Rattle.paper.specs.rules.Header.{orderOf}
 use Rattle.paper.specs.rules.Limits.{typeLimit}
-use Rattle.paper.specs.rules.Table.{Record, Table, count}
+use Rattle.paper.specs.rules.Table.{Record, count}
 use Rattle.paper.specs.rules.Walk.{flat, tableOf, typeLenOf}
 use Rattle.paper.specs.rules.Word.{bytesOfWords, wordAt}
-use Rattle.paper.specs.terms.Fit.{Below, EveryWhole, wordBound}
+use Rattle.paper.specs.terms.Fit.{Below, wordBound}
 use Rattle.parts.proofs.Cutting.{count-first, length-first, count-second, whole-take, whole-drop}
 use Rattle.parts.specs.Cut.{firstPart, secondPart, lowered, firstBytes, secondBytes}
 use Rattle.shift.specs.Made.{madeHeader}
-use Rattle.shift.specs.Raising.{recordsBytes}
 use Rattle.shift.specs.declared.groups.Shift.{Shift}
 use Rattle.split.proofs.LoweredBytes.{lowered-bytes, same-bytes, missing}
-use Rattle.split.proofs.Pieces.{facts, good, header, flat-both, sections, behind-middle, strings-here, Widths, widths}
+use Rattle.split.proofs.Pieces.{facts, good, header, flat-both, sections, behind-middle, strings-here, widths}
 use Rattle.split.specs.Parting.{CutAsk, PartAsk, PartPut}
 use Rattle.split.specs.declared.blobs.Piece.{Piece}
 

@@ -1,13 +1,13 @@
 -- Laws of `Header`: phase 1 is silent exactly where the header's facts hold.
 -- Assumes nothing.
-use Prim.Native.Nat.{ℕ, _+_, _-_, _%_, _≤_}
+use Prim.Native.Nat.{ℕ, _-_}
 use mathlib.Core.Path.{_≡_, ap, _∙_}
 use mathlib.Core.Bool.{false, not}
-use mathlib.Core.List.{List, [], _∷_}
+use mathlib.Core.List.{List}
 use mathlib.Core.Option.{none}
 use native.Mathlib.Omega.{arith}
 use borrow.Author.Tests.{ltb-false, eqb-false, not-false, le-ltb, ne-eqb}
-use lib.ListN.{length, getD, take}
+use lib.ListN.{take}
 use Rattle.paper.proofs.basics.Choices.{or-false, false-or, differ-false, differ-equal, same-true, same-refl, firstDue-none, none-firstDue}
 use Rattle.paper.specs.rules.Choice.{same}
 use Rattle.paper.specs.terms.Good.{HeaderFacts}

@@ -1,7 +1,7 @@
 -- A report below 10: which phase has spoken, for which fact, of which record.
 -- Assumes nothing.
 use Prim.Native.Nat.{ℕ, _+_, _≤_, _<_}
-use mathlib.Core.Path.{_≡_, ap}
+use mathlib.Core.Path.{_≡_}
 use mathlib.Core.Bool.{Bool, true, false, _||_}
 use mathlib.Core.List.{List}
 use mathlib.Core.Logic.{_⊎_, inl, inr, ⊎-elim}
@@ -18,7 +18,7 @@ use Rattle.paper.proofs.gates.Wheres.{naming-bare, said-number, says-ta
 use Rattle.paper.specs.rules.Answer.{Answer}
 use Rattle.paper.specs.rules.Choice.{firstDue}
 use Rattle.paper.specs.terms.Early.{SpokenEarly, first, second, ninth}
-use Rattle.paper.specs.rules.Gate.{phase1, phase2, sliceRules, shortSlices, tableReport, refusal}
+use Rattle.paper.specs.rules.Gate.{phase1, phase2, sliceRules, shortSlices, refusal}
 use Rattle.paper.specs.terms.Good.{HeaderFacts}
 use Rattle.paper.specs.rules.Header.{headerRules, headerReport}
 use Rattle.paper.specs.terms.Smallest.{DueFirst}

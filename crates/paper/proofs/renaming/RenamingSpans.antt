@@ -16,7 +16,7 @@ use Rattle.paper.proofs.renaming.RenamingSizes.{exactSize-rename}
 use Rattle.paper.proofs.renaming.RenamingTails.{intWord-rename}
 use Rattle.paper.specs.rules.Chain.{endless}
 use Rattle.paper.specs.rules.Choice.{times, every, member}
-use Rattle.paper.specs.rules.Kind.{Role, names, refers, holds, number, aVar, rows, rowOf}
+use Rattle.paper.specs.rules.Kind.{Role, refers, number, aVar, rows, rowOf}
 use Rattle.paper.specs.rules.KindNo.{INT, STRUCT, ENUM, ENUM64}
 use Rattle.paper.specs.rules.References.{refsOk}
 use Rattle.paper.specs.rules.Rename.{renameWords, rename}

@@ -1,10 +1,8 @@
 -- `cuts::tables::cut_ok` meets its contract: the counts, the strings, and the records on either side.
 -- Assumes nothing.
 use Prim.Native.Nat.{ℕ}
-use mathlib.Core.Bool.{Bool}
 use mathlib.Core.List.{List}
 use mathlib.Core.Path.{_≡_, ap, _∙_}
-use native.Mathlib.Omega.{arith}
 use denote.Ref.{now}
 use Rattle.cuts.proofs.Runs.{cut-many, cut-unended, cut-crossed, cut-through}
 use Rattle.cuts.specs.Sides.{endsAt}

@@ -1,6 +1,6 @@
 -- `links::held::slot_count` meets its contract: one for each member, none, or one.
 -- Assumes nothing.
-use mathlib.Core.Path.{refl, _∙_}
+use mathlib.Core.Path.{refl}
 use borrow.Author.Tests.{eq-eqb, ne-eqb}
 use borrow.Author.Needs.{needs}
 use Rattle.links.proofs.held.slot_count.Statement.{statement}

@@ -1,6 +1,5 @@
 -- `links::whole::links` meets its contract.
 -- Assumes nothing.
-use mathlib.Core.Path.{sym}
 use Rattle.links.proofs.Linking.{links-kept, links-reference, links-ring}
 use borrow.Author.Needs.{needs}
 use Rattle.links.proofs.whole.links.Statement.{statement}

@@ -1,6 +1,5 @@
 -- `quotes::escapes::hex_digit` meets its contract.
 -- Assumes nothing.
-use mathlib.Core.Path.{sym}
 use borrow.Author.Needs.{needs}
 use borrow.Author.Tests.{lt-ltb, le-ltb}
 use Rattle.quotes.specs.Escape.{hexDigit}

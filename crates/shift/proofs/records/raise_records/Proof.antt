@@ -1,7 +1,6 @@
 -- `shift::records::raise_records` meets its contract: a record behind the other, until none is left or one does not fit.
 -- Assumes nothing.
 use native.Mathlib.Omega.{arith}
-use lib.ListN.{length}
 use Rattle.paper.proofs.bytes.Bytes.{part-rest}
 use Rattle.shift.proofs.RaisedRecords.{Running, running-start, running-done, running-stopped, running-on, running-fits}
 use borrow.Author.Needs.{needs}
