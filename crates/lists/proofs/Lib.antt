@@ -4,3 +4,5 @@ pub mod Keeping
 pub mod ListBytes
 pub mod Lengths
 pub mod Wrotes
+pub mod Bodies
+pub mod Faults

@@ -157,13 +157,13 @@ carried-bodied (suc m) t tag before body rest few bb br room {tag′} {whole} {r
     go false x f next = further (ltb-false (length body) fieldMost x) (takeField rest) refl f next
 
 -- a whole body is its fields, in front of what is left
-record Taking (here : ℕ → Bool) (s : List ℕ) (tag : ℕ) (body rest : List ℕ) : Type 0 where
-  is : s ≡ bodyFields tag body ++ rest
-  stands : here tag ≡ true
-  body-bytes : Bytes body
-  rest-bytes : Bytes rest
+pub record Taking (here : ℕ → Bool) (s : List ℕ) (tag : ℕ) (body rest : List ℕ) : Type 0 where
+  pub is : s ≡ bodyFields tag body ++ rest
+  pub stands : here tag ≡ true
+  pub body-bytes : Bytes body
+  pub rest-bytes : Bytes rest
 
-takeBody-taking : (here : ℕ → Bool) (s : List ℕ) → Bytes s → {tag : ℕ} {body rest : List ℕ} → takeBody here s ≡ taken tag body rest → Taking here s tag body rest
+pub takeBody-taking : (here : ℕ → Bool) (s : List ℕ) → Bytes s → {tag : ℕ} {body rest : List ℕ} → takeBody here s ≡ taken tag body rest → Taking here s tag body rest
 unfolding takeBody bodyFields
 takeBody-taking here s bytes {tag} {body} {rest} e = go (takeField s) refl e
   where
@@ -197,13 +197,13 @@ takeBody-taking here s bytes {tag} {body} {rest} e = go (takeField s) refl e
 none≢some : {r : Record} → none ≡ some r → ⊥
 none≢some e = let z : _≡_ {A = ℕ} 0 1 = cc in omega arith
 
-record Recorded (order : Order) (tag : ℕ) (body : List ℕ) (r : Record) : Type 0 where
-  is : body ≡ bytesOfWords order (wordsOf r)
-  kind : kindOf r ≡ tag
-  whole : Whole r
-  fits : Below wordBound (wordsOf r)
+pub record Recorded (order : Order) (tag : ℕ) (body : List ℕ) (r : Record) : Type 0 where
+  pub is : body ≡ bytesOfWords order (wordsOf r)
+  pub kind : kindOf r ≡ tag
+  pub whole : Whole r
+  pub fits : Below wordBound (wordsOf r)
 
-recordOf-recorded : (order : Order) (tag : ℕ) (body : List ℕ) → Bytes body → {r : Record} → recordOf order tag body ≡ some r → Recorded order tag body r
+pub recordOf-recorded : (order : Order) (tag : ℕ) (body : List ℕ) → Bytes body → {r : Record} → recordOf order tag body ≡ some r → Recorded order tag body r
 unfolding recordOf
 recordOf-recorded order tag body bytes {r} e = go (eqb (length body % 4) 0) refl e
   where
@@ -292,7 +292,7 @@ readRecords-one (suc m) order (x ∷ s) bytes room {rs} e =
 
 -- ── the list ──
 
-unread≢table : {n : ℕ} {order : Order} {T : Table} → unread n ≡ table order T → ⊥
+pub unread≢table : {n : ℕ} {order : Order} {T : Table} → unread n ≡ table order T → ⊥
 unread≢table e = let z : _≡_ {A = ℕ} 0 1 = cc in omega arith
 
 string-tag : (tag : ℕ) → isStringTag tag ≡ true → stringTag (tagOrder tag) ≡ tag

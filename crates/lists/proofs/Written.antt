@@ -134,13 +134,13 @@ known-tag : (k : ℕ) → known k ≡ true → isTag k ≡ true
 unfolding isTag
 known-tag k e = or-left _ (or-left _ e)
 
-readRecords-on : (more : ℕ) (order : Order) (s : List ℕ) → 1 ≤ length s
+pub readRecords-on : (more : ℕ) (order : Order) (s : List ℕ) → 1 ≤ length s
     → readRecords (suc more) order s
     ≡ onBody (takeBody known s) (λ (tag : ℕ) (body : List ℕ) (rest : List ℕ). inFront (recordOf order tag body) (readRecords more order rest))
 readRecords-on more order [] h = absurd (omega arith)
 readRecords-on more order (x ∷ s) h = refl
 
-readRecords-none : (m : ℕ) (order : Order) → readRecords m order [] ≡ all []
+pub readRecords-none : (m : ℕ) (order : Order) → readRecords m order [] ≡ all []
 readRecords-none zero order = refl
 readRecords-none (suc m) order = refl
 

@@ -6,6 +6,10 @@ use mathlib.Core.Option.{Option, none, some}
 use lib.Dec.{ltb}
 use lib.ListN.{length, drop}
 use Rattle.lists.specs.List.{Listed, unread, table, listOf, readList}
+use Rattle.lists.specs.declared.Fault.{Fault}
+use Rattle.lists.specs.declared.Fault.the-variants.{UnknownTag, CutShort, OutOfPlace}
+use Rattle.lists.specs.declared.Made.{Made}
+use Rattle.lists.specs.declared.Made.the-variants as made
 use Rattle.lists.specs.declared.Wrote.{Wrote}
 use Rattle.lists.specs.declared.Wrote.the-variants.{Whole, OutputShort, Refused}
 use Rattle.paper.specs.rules.Answer.{Answer, inside, report, reportAsPaper, value}
@@ -82,3 +86,14 @@ readOutcome (table order T) places workPlaces lent out =
 
 unfoldable pub readInto : List ℕ → ℕ → ℕ → ℕ → List ℕ → ReadOutcome
 readInto s places workPlaces lent out = readOutcome (readList s) places workPlaces lent out
+
+unfoldable pub faultNumber : Fault → ℕ
+faultNumber UnknownTag = 50
+faultNumber CutShort = 51
+faultNumber OutOfPlace = 52
+
+unfoldable pub madeAsPaper : Made → Answer
+madeAsPaper (made.Whole n) = value n
+madeAsPaper (made.Unread f) = report (faultNumber f) 0
+madeAsPaper made.Short = report 53 0
+madeAsPaper (made.Refused r) = inside 54 (reportAsPaper r)

@@ -7,3 +7,18 @@ pub enum Wrote {
     OutputShort,
     Refused(Report),
 }
+
+// What is wrong with a list: 50, 51 and 52.
+pub enum Fault {
+    UnknownTag,
+    CutShort,
+    OutOfPlace,
+}
+
+// What reading a list answers: the table's length, 50 to 52, 53, or 54 with the table's report.
+pub enum Made {
+    Whole(u32),
+    Unread(Fault),
+    Short,
+    Refused(Report),
+}

@@ -1,0 +1,5 @@
+pub mod Fields
+pub mod Carrying
+pub mod Bodying
+pub mod Counting
+pub mod Measures
