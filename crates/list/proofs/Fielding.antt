@@ -29,6 +29,22 @@ field-put out at tag body room e f =
 
 -- ── a body ──
 
+-- the first of several fields, and the last
+pub fieldsIn-more : (k t : ℕ) (left : List ℕ) → fieldMost ≤ length left → length left ≤ k
+    → (f : ℕ) × (fieldsIn k t left ≡ field t (take fieldMost left) ++ fieldsIn f carryTag (drop fieldMost left)) × (length left ≤ suc f)
+fieldsIn-more zero t left more h = absurd (omega arith)
+fieldsIn-more (suc f) t left more h = (
+  f,
+  ap (λ (z : Bool). cond z (field t left) (field t (take fieldMost left) ++ fieldsIn f carryTag (drop fieldMost left))) (le-ltb (length left) fieldMost more),
+  h,
+)
+
+pub fieldsIn-last : (k t : ℕ) (left : List ℕ) → length left < fieldMost → fieldsIn k t left ≡ field t left
+fieldsIn-last zero t left last = refl
+fieldsIn-last (suc k) t left last =
+    ap (λ (z : Bool). cond z (field t left) (field t (take fieldMost left) ++ fieldsIn k carryTag (drop fieldMost left)))
+    (lt-ltb (length left) fieldMost last)
+
 -- so much of it is laid: the fields that are done, and behind them those of the rest
 pub record Carrying (tag : ℕ) (body before : List ℕ) (at : ℕ) (out : List ℕ) (t from p : ℕ) : Type 0 where
   pub inside : from ≤ length body
@@ -73,25 +89,17 @@ module _ {tag : ℕ} {body before : List ℕ} {at : ℕ} {out : List ℕ} {t fro
     one-long : length one ≡ fieldMost
     one-long = length-take-le fieldMost left (omega (arith, left-long))
 
-    on : (k : ℕ) → length left ≤ k → (f : ℕ) × (fieldsIn k t left ≡ field t one ++ fieldsIn f carryTag (drop fieldMost left)) × (length left ≤ suc f)
-    on zero h = absurd (omega (arith, left-long))
-    on (suc f) h = (
-      f,
-      ap (λ (z : Bool). cond z (field t left) (field t one ++ fieldsIn f carryTag (drop fieldMost left))) (le-ltb (length left) fieldMost (omega (arith, left-long))),
-      h,
-    )
-
     -- the field that comes next fits
     pub carrying-fits : p + (3 + fieldMost) ≤ length out
     carrying-fits =
-        let n = on (c .fuel) (c .enough) in
+        let n = fieldsIn-more (c .fuel) t left (omega (arith, left-long)) (c .enough) in
         let l = ap length (n .1) ∙ length-append (field t one) (fieldsIn (n .0) carryTag (drop fieldMost left)) in
         omega (arith, whole-long, one-long, c .there, c .room, c .kept)
 
     pub carrying-next : {out₁ : List ℕ} → out₁ ≡ put out p (field t (take (from + fieldMost - from) (drop from body)))
         → Carrying tag body before at out₁ carryTag (from + fieldMost) (p + 3 + fieldMost)
     carrying-next {out₁} e =
-        let n = on (c .fuel) (c .enough) in
+        let n = fieldsIn-more (c .fuel) t left (omega (arith, left-long)) (c .enough) in
         let cut : from + fieldMost - from ≡ fieldMost = omega arith in
         let fits = carrying-fits in
         let made : out₁ ≡ put out p (field t one) = e ∙ ap (λ (k : ℕ). put out p (field t (take k left))) cut in
@@ -117,14 +125,8 @@ module _ {tag : ℕ} {body before : List ℕ} {at : ℕ} {out : List ℕ} {t fro
         }
 
   module _ (last : length body - from < fieldMost) where
-    ends : (k : ℕ) → fieldsIn k t left ≡ field t left
-    ends zero = refl
-    ends (suc k) =
-        ap (λ (z : Bool). cond z (field t left) (field t (take fieldMost left) ++ fieldsIn k carryTag (drop fieldMost left)))
-        (lt-ltb (length left) fieldMost (omega (arith, left-long)))
-
     pub carrying-last : p + (3 + (length body - from)) ≤ length out
-    carrying-last = let l = ap length (ends (c .fuel)) in omega (arith, whole-long, left-long, c .there, c .room, c .kept)
+    carrying-last = let l = ap length (fieldsIn-last (c .fuel) t left (omega (arith, left-long))) in omega (arith, whole-long, left-long, c .there, c .room, c .kept)
 
     pub carrying-done : {out₁ : List ℕ} → out₁ ≡ put out p (field t (take (length body - from) (drop from body))) → out₁ ≡ put before at (bodyFields tag body)
     carrying-done e =
@@ -132,4 +134,4 @@ module _ {tag : ℕ} {body before : List ℕ} {at : ℕ} {out : List ℕ} {t fro
         ∙ ap (λ (s : List ℕ). put out p (field t s)) (part-rest body from)
         ∙ ap (λ (o : List ℕ). put o p (field t left)) (c .puts)
         ∙ put-put before at (c .done) (omega (arith, whole-long, c .room)) (c .there) (field t left)
-        ∙ ap (put before at) (ap (λ (x : List ℕ). c .done ++ x) (sym (ends (c .fuel))) ∙ c .rest)
+        ∙ ap (put before at) (ap (λ (x : List ℕ). c .done ++ x) (sym (fieldsIn-last (c .fuel) t left (omega (arith, left-long)))) ∙ c .rest)

@@ -28,13 +28,13 @@ use Rattle.paper.specs.terms.Reading.{recordIn}
 
 -- ── how long a list can be ──
 
-length-recordField : (order : Order) (r : Record) → length (recordField order r) ≡ fieldsLength (4 * length (wordsOf r))
+pub length-recordField : (order : Order) (r : Record) → length (recordField order r) ≡ fieldsLength (4 * length (wordsOf r))
 unfolding recordField
 length-recordField order r =
     length-bodyFields (kindOf r) (bytesOfWords order (wordsOf r)) ∙ ap fieldsLength (length-bytesOfWords order (wordsOf r))
 
 -- a field's head is no longer than a record's
-records-double : (order : Order) (rs : List Record) → length (recordFields order rs) ≤ 2 * typeLenOf rs
+pub records-double : (order : Order) (rs : List Record) → length (recordFields order rs) ≤ 2 * typeLenOf rs
 records-double order [] = omega arith
 records-double order (r ∷ rs) =
     let l = length-append (recordField order r) (recordFields order rs) in

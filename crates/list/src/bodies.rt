@@ -2,6 +2,7 @@
 ghost use mathlib.Core.Path.{_≡_};
 ghost use Prim.Native.Nat.{_+_, _≤_};
 ghost use lib.ListN.{length};
+ghost use Rattle.list.specs.Making.{BodyPut};
 ghost use Rattle.lists.specs.List.{bodyFields, field, fieldsLength};
 ghost use Rattle.paper.specs.terms.Put.{put};
 
@@ -47,4 +48,25 @@ pub(crate) fn put_body(tag: u8, body: &[u8], out: &mut [u8], at: usize)
         t = CARRY;
     }
     put_field(t, &body[from..], out, p);
+}
+
+// A body's bytes, out of its fields, which begin at a place: laid at a place of an output.
+pub(crate) fn take_body(s: &[u8], at: usize, len: usize, out: &mut [u8], to: usize)
+    requires { ⌜ (len ≤ 1000000) × (at + fieldsLength len ≤ length (now s)) × (to + len ≤ length (now out)) ⌝ }
+    ensures { λ r. ⌜ BodyPut (now (s .entry)) at len (now (out .entry)) to (now (out .exit)) ⌝ }
+{
+    let mut from = 0;
+    let mut p = at;
+    while len - from >= MOST {
+        let start = p + 3;
+        let end = start + MOST;
+        let place = to + from;
+        words::lay(out, place, &s[start..end]);
+        p = end;
+        from += MOST;
+    }
+    let start = p + 3;
+    let end = start + (len - from);
+    let place = to + from;
+    words::lay(out, place, &s[start..end]);
 }
