@@ -1,4 +1,7 @@
 // Every answer in the paper's four numbers, for what hands them out: the test vectors and the C interface.
+use lists::Fault;
+use lists::Made;
+use lists::Wrote;
 use paper::Checked;
 use paper::Joined;
 use paper::Leaned;
@@ -9,6 +12,7 @@ use paper::TYPE_LIMIT;
 use paper::TypeNo;
 use parts::Parted;
 ghost use mathlib.Core.Path.{_≡_};
+ghost use Rattle.lists.specs.Kept.{faultNumber, madeAsPaper, wroteAsPaper};
 ghost use Rattle.paper.specs.rules.Answer.{checkedAsPaper, inside, joinedAsPaper, leanedAsPaper, report, reportAsPaper, reportAt, sizedAsPaper, value};
 ghost use Rattle.parts.specs.Cut.{partedAsPaper};
 ghost use Rattle.answers.specs.Numbers.{asPaper};
@@ -159,5 +163,39 @@ pub fn of_parted(p: Parted) -> Numbers
         Parted::Refused(r) => of_report(r),
         Parted::NoCut => told(60, 0),
         Parted::OutputShort => told(61, 0),
+    }
+}
+
+// What writing a list answers.
+pub fn of_wrote(w: Wrote) -> Numbers
+    ensures { λ n. ⌜ asPaper n ≡ wroteAsPaper w ⌝ }
+{
+    match w {
+        Wrote::Whole(n) => valued(n),
+        Wrote::OutputShort => told(53, 0),
+        Wrote::Refused(r) => within(54, of_report(r)),
+    }
+}
+
+// What is wrong with a list.
+fn number_of(f: Fault) -> u32
+    ensures { λ n. ⌜ n ≡ faultNumber f ⌝ }
+{
+    match f {
+        Fault::UnknownTag => 50,
+        Fault::CutShort => 51,
+        Fault::OutOfPlace => 52,
+    }
+}
+
+// What reading a list answers.
+pub fn of_made(m: Made) -> Numbers
+    ensures { λ n. ⌜ asPaper n ≡ madeAsPaper m ⌝ }
+{
+    match m {
+        Made::Whole(n) => valued(n),
+        Made::Unread(f) => told(number_of(f), 0),
+        Made::Short => told(53, 0),
+        Made::Refused(r) => within(54, of_report(r)),
     }
 }
