@@ -9,6 +9,7 @@ use crate::based::flag_from;
 use crate::based::is_last;
 use crate::halves::cut_call;
 use crate::joining::join_call;
+use crate::keeping::keep_call;
 use crate::records::read_call;
 use crate::verbs::Verb;
 use crate::verbs::is_of_one;
@@ -127,6 +128,8 @@ fn call_by(verb: Verb, first: u32, behind: usize) -> Status {
         Verb::Name => ask_numbered(verb, first),
         Verb::Join => join_call(first, behind),
         Verb::Cut => cut_call(first),
+        Verb::List => keep_call(first, false),
+        Verb::Make => keep_call(first, true),
         Verb::Read => read_call(first, behind),
         Verb::Help => help(),
         Verb::Unknown => wrong_at(place(first, 0), UNKNOWN),

@@ -4,6 +4,7 @@ mod based; // the base behind a call
 mod calls; // the arguments: which verb, of what
 mod halves; // the words behind `cut`
 mod joining; // the words behind `join`
+mod keeping; // the words behind `list` and `make`
 mod records; // the words behind `read`
 mod verbs; // which verbs there are
 

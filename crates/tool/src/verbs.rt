@@ -12,6 +12,8 @@ pub(crate) enum Verb {
     Name,
     Join,
     Cut,
+    List,
+    Make,
     Read,
     Help,
     Unknown,
@@ -35,6 +37,12 @@ fn verb_of(s: &[u8]) -> Verb {
     }
     if check::same(s, b"cut") {
         return Verb::Cut;
+    }
+    if check::same(s, b"list") {
+        return Verb::List;
+    }
+    if check::same(s, b"make") {
+        return Verb::Make;
     }
     if check::same(s, b"read") {
         return Verb::Read;
@@ -60,6 +68,8 @@ pub(crate) fn least(verb: Verb) -> usize {
         Verb::Name => 2,
         Verb::Join => 3,
         Verb::Cut => 5,
+        Verb::List => 2,
+        Verb::Make => 2,
         Verb::Read => 3,
         Verb::Help => 0,
         Verb::Unknown => 0,
@@ -96,6 +106,8 @@ pub(crate) fn is_of_one(verb: Verb) -> bool {
     match verb {
         Verb::Join => false,
         Verb::Cut => false,
+        Verb::List => false,
+        Verb::Make => false,
         Verb::Help => false,
         Verb::Unknown => false,
         _ => true,

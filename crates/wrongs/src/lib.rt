@@ -69,6 +69,8 @@ fn usage(fd: i32) -> bool {
 \x20      scrieve cut JOINED --like FIRST OUT1 OUT2\n\
 \x20                                  a joined table in its two parts, of which the first has so many types and bytes of strings, or\n\
 \x20                                  as many as FIRST; OUT1 and OUT2 change only when all of both is written\n\
+\x20      scrieve list TABLE OUT      the table as a list of tagged fields, which can be kept\n\
+\x20      scrieve make LIST OUT       and the table of such a list; OUT changes only when all of it is written\n\
 \x20      scrieve read TABLE TYPE RECORD [--each]\n\
 \x20      scrieve read TABLE TYPE --hex DIGITS\n\
 \x20                                  a record of a struct or union, by number or by name: each member's bits, bytes and value;\n\
@@ -77,7 +79,7 @@ fn usage(fd: i32) -> bool {
 \x20                                  the same of a table that leans on a base: its numbers and name offsets go on from those of BASE\n\
 \x20      scrieve help                this text; -h and --help too\n\
 \x20      scrieve version             the commit, the toolchain, the requests that have landed\n\
-A dash for FILE, A, B, C, JOINED, FIRST, TABLE, RECORD or BASE is standard input.\n\
+A dash for FILE, A, B, C, JOINED, FIRST, TABLE, LIST, RECORD or BASE is standard input.\n\
 Status: 0 accepted or done, 1 refused, 2 a wrong call, or a file that cannot be read or written.\n",
     )
 }
