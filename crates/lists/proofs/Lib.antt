@@ -1,4 +1,5 @@
 pub mod Written
+pub mod OneBody
 pub mod OneReading
 pub mod Keeping
 pub mod ListBytes

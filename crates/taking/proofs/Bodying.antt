@@ -8,7 +8,7 @@ use mathlib.Core.Option.{Option, none, some}
 use native.Mathlib.Omega.{arith}
 use lib.ListN.{length, take, drop}
 use Rattle.lists.proofs.Bodies.{Says, info-in-field, recordOf-says, says-recordOf}
-use Rattle.lists.proofs.OneReading.{Taking, takeBody-taking}
+use Rattle.lists.proofs.OneBody.{Taking, takeBody-taking}
 use Rattle.lists.specs.Kept.{faultNumber}
 use Rattle.lists.specs.List.{fault, onTaken, carried, takeBody, RecordsRead, stop, inFront, onBody, recordOf}
 use Rattle.lists.specs.List as list
