@@ -3,3 +3,4 @@ pub mod Parts
 pub mod Runs
 pub mod Overs
 pub mod Aparts
+pub mod Keepings

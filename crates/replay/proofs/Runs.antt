@@ -21,6 +21,7 @@ use Rattle.values.specs.Given.{givenAsPaper}
 use Rattle.values.specs.declared.MemberValue.{MemberValue}
 use Rattle.replay.specs.Apart.{apartSeen}
 use Rattle.replay.specs.Case.{checkSeen, sizeSeen, nameSeen, joinSeen, memberSeen, plainly, seenSums}
+use Rattle.replay.specs.Kept.{readSeen, writeSeen}
 use Rattle.replay.specs.Over.{leanSeen, sizeCutSeen, nameOverSeen}
 use Rattle.replay.specs.Run.{ranOf, RanAs, RunOf}
 use Rattle.replay.specs.declared.cases.Head.{Head}
@@ -103,11 +104,11 @@ module _ (must : Seen) where
 
 module _ (h : Head) (a b : List ℕ) where
   pub run-unknown : (h .op ≡ 1 → ⊥) → (h .op ≡ 2 → ⊥) → (h .op ≡ 3 → ⊥) → (h .op ≡ 4 → ⊥) → (h .op ≡ 5 → ⊥)
-      → (h .op ≡ 6 → ⊥) → (h .op ≡ 9 → ⊥) → (h .op ≡ 10 → ⊥) → (h .op ≡ 11 → ⊥) → RunOf Unknown h a b
+      → (h .op ≡ 6 → ⊥) → (h .op ≡ 7 → ⊥) → (h .op ≡ 8 → ⊥) → (h .op ≡ 9 → ⊥) → (h .op ≡ 10 → ⊥) → (h .op ≡ 11 → ⊥) → RunOf Unknown h a b
   unfolding RunOf
-  run-unknown one two three four five six nine ten eleven =
+  run-unknown one two three four five six seven eight nine ten eleven =
       rw (ne-eqb _ _ one, ne-eqb _ _ two, ne-eqb _ _ three, ne-eqb _ _ four, ne-eqb _ _ five)
-      (rw (ne-eqb _ _ six, ne-eqb _ _ nine, ne-eqb _ _ ten, ne-eqb _ _ eleven) refl)
+      (rw (ne-eqb _ _ six, ne-eqb _ _ seven, ne-eqb _ _ eight, ne-eqb _ _ nine, ne-eqb _ _ ten, ne-eqb _ _ eleven) refl)
 
   pub run-check : (r : Ran) → h .op ≡ 1 → RanAs r (checkSeen a (h .index) (h .work) (lentBytes (h .output))) → RunOf r h a b
   unfolding RunOf
@@ -132,6 +133,15 @@ module _ (h : Head) (a b : List ℕ) where
   pub run-apart : (r : Ran) → h .op ≡ 6 → RanAs r (apartSeen (h .x) (h .y) a (h .index) (h .work) (h .output) (length b)) → RunOf r h a b
   unfolding RunOf
   run-apart r op e = rw op e
+
+  -- a list, read and written
+  pub run-read : (r : Ran) → h .op ≡ 7 → RanAs r (readSeen a (h .index) (h .work) (h .output) (length b)) → RunOf r h a b
+  unfolding RunOf
+  run-read r op e = rw op e
+
+  pub run-write : (r : Ran) → h .op ≡ 8 → RanAs r (writeSeen a (h .index) (h .work) (h .output)) → RunOf r h a b
+  unfolding RunOf
+  run-write r op e = rw op e
 
   -- over a base
   pub run-check-over : (r : Ran) → h .op ≡ 9 → RanAs r (leanSeen a b (h .index) (h .work) (lentBytes (h .output))) → RunOf r h a b

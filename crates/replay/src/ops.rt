@@ -6,6 +6,8 @@ use crate::cases::Head;
 use crate::cases::PLACES;
 use crate::cases::Seen;
 use crate::given::places;
+use crate::keeping::read_list;
+use crate::keeping::write_list;
 use crate::leaning::check_over;
 use crate::leaning::name_over;
 use crate::leaning::size_over;
@@ -255,6 +257,8 @@ pub(crate) fn run<'a>(h: Head, a: &'a [u8], b: &'a [u8]) -> Ran
         4 => join(h, a, b),
         5 => member(h, a, b),
         6 => apart(h, a, b),
+        7 => read_list(h, a, b),
+        8 => write_list(h, a),
         9 => check_over(h, a, b),
         10 => size_over(h, a, b),
         11 => name_over(h, a, b),
