@@ -3,7 +3,7 @@
 use Prim.Native.Nat.{ℕ}
 use mathlib.Core.Path.{_≡_, sym, _∙_}
 use mathlib.Core.List.{List}
-use Rattle.abi.specs.Told.{CheckTold, JoinTold, LeanTold, MemberTold, SplitTold, ValueTold, partAnswer, partOver, spanIn, toldIn}
+use Rattle.abi.specs.Told.{CheckTold, JoinTold, LeanTold, ListTold, MakeTold, MemberTold, SplitTold, ValueTold, partAnswer, partOver, spanIn, toldIn}
 use Rattle.pairs.specs.Lean.{sizeOver}
 use Rattle.paper.specs.rules.Size.{sizeOf}
 use Rattle.values.specs.Given.{Finding, Given}
@@ -33,6 +33,19 @@ pub split-told-one : {b : List ℕ} {n s places workPlaces : ℕ} {out out′ to
     → (index ≡ index′) × (work ≡ work′) × (first ≡ first′) × (second ≡ second′) × (answer ≡ answer′)
 split-told-one h k =
     (h .indexes ∙ sym (k .indexes), h .works ∙ sym (k .works), h .firsts ∙ sym (k .firsts), h .seconds ∙ sym (k .seconds), h .answers ∙ sym (k .answers))
+
+pub list-told-one : {b : List ℕ} {places workPlaces : ℕ} {out told index index′ work work′ output output′ answer answer′ : List ℕ}
+    → ListTold b places workPlaces out told index work output answer → ListTold b places workPlaces out told index′ work′ output′ answer′
+    → (index ≡ index′) × (work ≡ work′) × (output ≡ output′) × (answer ≡ answer′)
+list-told-one h k =
+    (h .indexes ∙ sym (k .indexes), h .works ∙ sym (k .works), h .outputs ∙ sym (k .outputs), h .answers ∙ sym (k .answers))
+
+pub make-told-one : {s : List ℕ} {places workPlaces lent : ℕ} {out told index index′ work work′ bytes bytes′ output output′ answer answer′ : List ℕ}
+    → MakeTold s places workPlaces lent out told index work bytes output answer
+    → MakeTold s places workPlaces lent out told index′ work′ bytes′ output′ answer′
+    → (index ≡ index′) × (work ≡ work′) × (bytes ≡ bytes′) × (output ≡ output′) × (answer ≡ answer′)
+make-told-one h k =
+    (h .indexes ∙ sym (k .indexes), h .works ∙ sym (k .works), h .blanks ∙ sym (k .blanks), h .outputs ∙ sym (k .outputs), h .answers ∙ sym (k .answers))
 
 pub span-told-one : (f : Finding) (told : List ℕ) {span span′ : List ℕ} → span ≡ spanIn f told → span′ ≡ spanIn f told → span ≡ span′
 span-told-one f told h k = h ∙ sym k

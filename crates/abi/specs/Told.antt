@@ -6,6 +6,7 @@ use mathlib.Core.List.{List, [], _∷_, _++_}
 use lib.ListN.{length, take, drop}
 use Rattle.handed.specs.Handed.{numbersOf, sixteenOf}
 use Rattle.handed.specs.Places.{foundNumbers, foundIn}
+use Rattle.lists.specs.Kept.{readInto, writeList}
 use Rattle.pairs.specs.Lean.{leanGate, namelessOver, nameAtOver, inBase, nameStartOver}
 use Rattle.paper.specs.rules.Answer.{Answer}
 use Rattle.paper.specs.rules.Gate.{gate}
@@ -72,6 +73,21 @@ pub record SplitTold (b : List ℕ) (n s places workPlaces : ℕ) (out out′ to
   pub firsts : first ≡ cut b n s places workPlaces out out′ .first
   pub seconds : second ≡ cut b n s places workPlaces out out′ .second
   pub answers : answer ≡ toldIn (cut b n s places workPlaces out out′ .answer) told
+
+-- writing a list: its answer and what it leaves in all three
+pub record ListTold (b : List ℕ) (places workPlaces : ℕ) (out told index work output answer : List ℕ) : Type 0 where
+  pub indexes : index ≡ writeList b places workPlaces out .index
+  pub works : work ≡ writeList b places workPlaces out .work
+  pub outputs : output ≡ writeList b places workPlaces out .output
+  pub answers : answer ≡ toldIn (writeList b places workPlaces out .answer) told
+
+-- reading one back: the same, and what it leaves in the lent bytes
+pub record MakeTold (s : List ℕ) (places workPlaces lent : ℕ) (out told index work bytes output answer : List ℕ) : Type 0 where
+  pub indexes : index ≡ readInto s places workPlaces lent out .index
+  pub works : work ≡ readInto s places workPlaces lent out .work
+  pub blanks : bytes ≡ readInto s places workPlaces lent out .bytes
+  pub outputs : output ≡ readInto s places workPlaces lent out .output
+  pub answers : answer ≡ toldIn (readInto s places workPlaces lent out .answer) told
 
 -- a member's answer: its numbers, and its value's sixteen bytes, where there is room for them
 pub record ValueTold (g : Given) (told room answer value : List ℕ) : Type 0 where

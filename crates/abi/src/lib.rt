@@ -3,9 +3,11 @@ use answers::Numbers;
 use answers::of_checked;
 use answers::of_joined;
 use answers::of_leaned;
+use answers::of_made;
 use answers::of_parted;
 use answers::of_report;
 use answers::of_sized;
+use answers::of_wrote;
 use handed::high_of;
 use handed::numbers_of;
 use handed::sixteen_of;
@@ -21,7 +23,7 @@ use values::MemberSpan;
 use values::MemberValue;
 ghost use mathlib.Core.Path.{_≡_};
 ghost use lib.ListN.{length};
-ghost use Rattle.abi.specs.Told.{CheckTold, JoinTold, LeanTold, MemberTold, SplitTold, ValueTold, givenIn, partAnswer, partOver, spanIn, toldIn, toldWide};
+ghost use Rattle.abi.specs.Told.{CheckTold, JoinTold, LeanTold, ListTold, MakeTold, MemberTold, SplitTold, ValueTold, givenIn, partAnswer, partOver, spanIn, toldIn, toldWide};
 ghost use Rattle.answers.specs.Numbers.{asPaper};
 ghost use Rattle.members.specs.Looked.{soughtAt};
 ghost use Rattle.pairs.specs.Lean.{sizeOver};
@@ -194,6 +196,35 @@ pub extern "C" fn scrieve_split(
     let at = TypeNo(types);
     let parted = split::split(blob, at, NameOff(strings), index, work, first, second);
     tell(of_parted(parted), answer);
+}
+
+// A table written out as its list.
+#[no_mangle]
+pub extern "C" fn scrieve_list(
+    blob: &[u8],
+    index: &mut [u32],
+    work: &mut [u32],
+    out: &mut [u8],
+    answer: &mut [u32],
+)
+    ensures { λ r. ⌜ ListTold (now (blob .entry)) (length (now (index .entry))) (length (now (work .entry))) (now (out .entry)) (now (answer .entry)) (now (index .exit)) (now (work .exit)) (now (out .exit)) (now (answer .exit)) ⌝ }
+{
+    tell(of_wrote(list::write(blob, index, work, out)), answer);
+}
+
+// A list read back as its table.
+#[no_mangle]
+pub extern "C" fn scrieve_make(
+    list: &[u8],
+    index: &mut [u32],
+    work: &mut [u32],
+    bytes: &mut [u8],
+    out: &mut [u8],
+    answer: &mut [u32],
+)
+    ensures { λ r. ⌜ MakeTold (now (list .entry)) (length (now (index .entry))) (length (now (work .entry))) (length (now (bytes .entry))) (now (out .entry)) (now (answer .entry)) (now (index .exit)) (now (work .exit)) (now (bytes .exit)) (now (out .exit)) (now (answer .exit)) ⌝ }
+{
+    tell(of_made(list::read(list, index, work, bytes, out)), answer);
 }
 
 // Where a member's bits lie, by the index that a check has left.
