@@ -1,5 +1,6 @@
 /* The C interface of Scrieveply: the check of a BTF table, the size of a type, the name at an offset, the join of two tables and a joined
- * table taken apart, the value of a member in a record's bytes, and check, size and name of a table that leans on a base.
+ * table taken apart, a table written out as a list and read back, the value of a member in a record's bytes, and check, size and name of a
+ * table that leans on a base.
  *
  * Every function is proved: for any bytes in the lent slices it ends, reads and writes nothing outside them, and leaves in each place
  * exactly what is written here (crates/abi/src/lib.rt has the contracts). Build with `tools/archive TARGET OUT`, link
@@ -9,12 +10,12 @@
  * - A slice is a pointer and the number of its elements: bytes for uint8_t, places for uint32_t. All memory is the caller's: nothing
  *   is allocated, nothing is kept after the call, there is no global state. Calls in several threads at once are safe, each with
  *   written slices of its own.
- * - A slice that is written (index of a check, a join, a split or a member, work, out, first, second, answer, span, value) must not overlap any
- *   other slice of the call: the two outputs of a split neither each other. Those that are only read may overlap each other, so a table can be
- *   joined with itself. Nothing may write a slice during the call but the call itself.
+ * - A slice that is written (index of a check, a join, a split, a list or a member, work, bytes, out, first, second, answer, span, value) must
+ *   not overlap any other slice of the call: the two outputs of a split neither each other, nor bytes and out of a list that is read. Those that
+ *   are only read may overlap each other, so a table can be joined with itself. Nothing may write a slice during the call but the call itself.
  * - No pointer may be null, that of an empty slice neither: lend any object and 0 elements. A uint32_t pointer is aligned as
  *   uint32_t is; a uint8_t pointer needs no alignment.
- * - What stands in index, work, out, first, second, answer, span and value before the call has no meaning. They need not be cleared.
+ * - What stands in index, work, bytes, out, first, second, answer, span and value before the call has no meaning. They need not be cleared.
  * - The stack is no part of the proof. No function calls itself; the frames of the deepest call add up to under 2,048 bytes in the
  *   archive's code for x86-64.
  * - `type` and `offset` are a type number and an offset into the string section. Type 0 is void; records are numbered from 1.
@@ -35,6 +36,10 @@
  *                                                        report inside       inside, else 0                of the report inside, else 0
  *   scrieve_split  0 taken apart, or a report 1 to 15,   0                   the first part's length, or   the second part's length, or the
  *                  or 60 or 61                                               the report's type, else 0     report's place, else 0
+ *   scrieve_list   0 written, or 53 or 54                for 54 the report   the type of the report        the list's length, or the place
+ *                                                        inside              inside, else 0                of the report inside, else 0
+ *   scrieve_make   0 made, or 50 to 54                   for 54 the report   the type of the report        the table's length, or the place
+ *                                                        inside              inside, else 0                of the report inside, else 0
  *   scrieve_member 0 unsigned, 1 signed, 2 a longer      for 34 the report   the span's first bit, or      the span's bits, or the place of
  *   scrieve_value  span, 21, 30 to 35                    inside              the type of the report        the report inside, else 0
  *                                                                            inside, else 0
@@ -52,7 +57,8 @@
  *
  * A report's place is where in the blob the record of its type begins, in bytes from the blob's first: for 8, where record 16,385 would
  * begin; for 1 to 5, 9 and 26, which name no type, 0. It is a multiple of 4 and below the blob's length. That of a report inside a join's
- * refusal counts in the blob that was refused, that of a report inside 25 in the base, and a leaning table's in its own blob.
+ * refusal counts in the blob that was refused, that of a report inside 25 in the base, and a leaning table's in its own blob. That of a report
+ * inside 54 counts in the table, also where the table is made of a list.
  *
  * The numbers have names below, and scrieve_words.h has a line of text for each report.
  */
@@ -62,13 +68,17 @@
 #include <stddef.h>
 #include <stdint.h>
 
-/* Which interface this is. It rises where a function comes, or where a number, an argument or what is left in a slice changes its meaning. In 6
- * the change requests 1 to 7, 9, 11, 12, 13 and 14 have landed (docs/orders). */
-#define SCRIEVE_VERSION 6
+/* Which interface this is. It rises where a function comes, or where a number, an argument or what is left in a slice changes its meaning. In 7
+ * the change requests 1 to 7 and 9 to 14 have landed (docs/orders). */
+#define SCRIEVE_VERSION 7
 
 /* Full size: with so many places in index and work, and so many bytes of output, no table is refused for want of room. */
 #define SCRIEVE_FULL_PLACES 16385
 #define SCRIEVE_FULL_BYTES 262144
+
+/* The same for a list: the 262,120 bytes behind the header, and 3 for each field: one for each of 16,384 records, one for the strings, and at
+ * most three that carry a body on. */
+#define SCRIEVE_FULL_LIST_BYTES 311284
 
 /* Places for a whole answer, and what stands in each. */
 #define SCRIEVE_ANSWER_PLACES 4
@@ -88,11 +98,11 @@
 /* Bytes for a value. */
 #define SCRIEVE_VALUE_BYTES 16
 
-/* The reports, and 0 where there is none: `number` of every function, and `inner` of a join, a member and a check on a base. A check gives 1 to
- * 15, on a base 25 and 26 too, a join 16 to 20 and 24, the size question 21 and 22, a member 21 and 30 to 35, a split
- * 1 to 15, 60 and 61. There are no 23, no 27 to 29 and no 36 to 59. */
+/* The reports, and 0 where there is none: `number` of every function, and `inner` of a join, a list, a member and a check on a base. A check
+ * gives 1 to 15, on a base 25 and 26 too, a join 16 to 20 and 24, the size question 21 and 22, a member 21 and 30 to 35, a list that is read
+ * 50 to 54, one that is written 53 and 54, a split 1 to 15, 60 and 61. There are no 23, no 27 to 29, no 36 to 49 and no 55 to 59. */
 enum scrieve_report {
-	SCRIEVE_REPORT_NONE = 0,           /* accepted, joined, taken apart, an exact size, a name */
+	SCRIEVE_REPORT_NONE = 0,           /* accepted, joined, taken apart, a list, a table of a list, an exact size, a name */
 	SCRIEVE_REPORT_LENGTH = 1,         /* under 24 bytes or over 262,144 */
 	SCRIEVE_REPORT_MAGIC = 2,          /* the first four bytes are neither 9F EB 01 00 nor EB 9F 01 00 */
 	SCRIEVE_REPORT_HEADER = 3,         /* the header length is not 24 */
@@ -124,6 +134,11 @@ enum scrieve_report {
 	SCRIEVE_REPORT_NO_NUMBER = 33,     /* the member is neither integer nor enum */
 	SCRIEVE_REPORT_TABLE = 34,         /* the record's table is refused */
 	SCRIEVE_REPORT_HIGH_FIRST = 35,    /* the record's table is big-endian */
+	SCRIEVE_REPORT_LIST_TAG = 50,      /* a field of the list has another tag than 1 to 19, 32, 33 and 127 */
+	SCRIEVE_REPORT_LIST_CUT = 51,      /* a field is cut short; an empty list, and an end where 127 is due */
+	SCRIEVE_REPORT_LIST_FIELD = 52,    /* a field out of its place, or a body that is not one whole record of its tag's kind */
+	SCRIEVE_REPORT_LIST_SHORT = 53,    /* the output is shorter than the list or the table, or the lent bytes are shorter than the table */
+	SCRIEVE_REPORT_LIST_TABLE = 54,    /* the list's table is refused; asked after 53 by scrieve_make and before it by scrieve_list */
 	SCRIEVE_REPORT_NO_CUT = 60,        /* no two accepted tables of this first count and string length join to the table */
 	SCRIEVE_REPORT_PARTS = 61          /* an output is shorter than its part; asked after 60 */
 };
@@ -192,6 +207,34 @@ void scrieve_join(const uint8_t *a, size_t a_length, const uint8_t *b, size_t b_
 void scrieve_split(const uint8_t *blob, size_t blob_length, uint32_t types, uint32_t strings, uint32_t *index, size_t index_places,
 		   uint32_t *work, size_t work_places, uint8_t *first, size_t first_bytes, uint8_t *second, size_t second_bytes,
 		   uint32_t *answer, size_t answer_places);
+
+/* Writes a table out as its house list: tagged fields, each one byte of tag, two bytes of length, low byte first, and the body. The string
+ * section comes first, by tag 32 for a little-endian table and 33 for a big-endian one, then one field for each record, its tag the kind, its
+ * body the record as it stands in the blob. A body of exactly 65,535 bytes is followed by a field of tag 127 that carries it on, empty if need
+ * be. scrieve_make gives the table back byte for byte (proved: crates/list/proofs/Kept.antt).
+ *   blob     the table's bytes, read only. It is checked first: refused, it is 54 with its report inside.
+ *   index    places, count of types + 1 or more, and left as scrieve_check leaves them: with 53 too as that of an accepted blob
+ *   work     as in scrieve_check
+ *   out      bytes, the list's length or more, else 53. That is the blob's length without its 24 bytes of header, and 3 for each field:
+ *            SCRIEVE_FULL_LIST_BYTES are enough for any table. Written: the list, and every byte past its length as it was. Refused: every
+ *            byte as it was.
+ *   answer   see above */
+void scrieve_list(const uint8_t *blob, size_t blob_length, uint32_t *index, size_t index_places, uint32_t *work, size_t work_places,
+		  uint8_t *out, size_t out_length, uint32_t *answer, size_t answer_places);
+
+/* Makes the table of such a list, and checks it. A list whose table is accepted is the one that scrieve_list writes of it, byte for byte (proved
+ * there too).
+ *   list     the list's bytes, read only. 50 to 52 come first: the first field at fault speaks, of a body in several fields the last, by its
+ *            smallest number. Then comes 53, and then 54 with the table's report inside.
+ *   index    places, count of types + 1 or more. Made: as scrieve_check of the table leaves them. Refused: all 0.
+ *   work     as in scrieve_check
+ *   bytes    bytes, the table's length or more, else 53: the table is made and checked in them, so that no refusal touches the output. All 0
+ *            afterwards, made or refused.
+ *   out      bytes, the table's length or more, else 53. Made: the table, and every byte past its length as it was. Refused: every byte as
+ *            it was. The table is at most 21 bytes longer than the list, and SCRIEVE_FULL_BYTES are enough for any that is accepted.
+ *   answer   see above */
+void scrieve_make(const uint8_t *list, size_t list_length, uint32_t *index, size_t index_places, uint32_t *work, size_t work_places,
+		  uint8_t *bytes, size_t bytes_length, uint8_t *out, size_t out_length, uint32_t *answer, size_t answer_places);
 
 /* The value of a member in the bytes of a record. The table is checked in the same call: who reads many records checks once, asks
  * scrieve_span once for a member, and scrieve_value for each record; these give the same (proved: crates/record/proofs/Demands.antt).

@@ -46,12 +46,22 @@ static inline const char *scrieve_report_words(uint32_t number)
 		"the record's table is refused",
 		"the record's table is big-endian"
 	};
+	/* those of a list, from 50 on */
+	static const char *const listing[] = {
+		"a field of the list has a tag that no list has",
+		"the list ends inside a field, or where another is due",
+		"a field of the list is out of its place, or holds no whole record of its kind",
+		"the output or the lent bytes are too short",
+		"the list's table is refused"
+	};
 	/* those of a table taken apart, from 60 on */
 	static const char *const parting[] = {
 		"no two tables of these numbers join to it",
 		"an output is shorter than its table"
 	};
 
+	if (number >= 50 && number - 50 < sizeof listing / sizeof *listing)
+		return listing[number - 50];
 	if (number >= 60 && number - 60 < sizeof parting / sizeof *parting)
 		return parting[number - 60];
 	/* 23 and 27 to 29 are no reports: theirs is the line of every number that is none */

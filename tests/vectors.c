@@ -88,6 +88,13 @@ static int agrees(void) {
         scrieve_split(a, h[6], h[4], h[5], index_, h[1], work, h[2], out, h[3], b, h[7], answer, 4);
         part = add_bytes(sum_bytes(out, h[3]), b, h[7]);
         break;
+    case 7:
+        /* the same of the lent bytes */
+        memset(b, 165, h[7]);
+        scrieve_make(a, h[6], index_, h[1], work, h[2], b, h[7], out, h[3], answer, 4);
+        part = add_bytes(sum_bytes(out, h[3]), b, h[7]);
+        break;
+    case 8: scrieve_list(a, h[6], index_, h[1], work, h[2], out, h[3], answer, 4); break;
     case 9: scrieve_check_leaning(a, h[6], b, h[7], index_, h[1], work, h[2], answer, 4); break;
     case 10: {
         /* b is the module and then the index, whose places the field for an output counts; nothing is lent */
@@ -109,7 +116,7 @@ static int agrees(void) {
     memcpy(seen, answer, 4 * sizeof *answer);
     seen[4] = sum_places(index_, h[1]);
     seen[5] = sum_places(work, h[2]);
-    seen[6] = h[0] == 3 || h[0] == 5 || h[0] == 6 || h[0] == 11 ? part : sum_bytes(out, h[3]);
+    seen[6] = h[0] == 3 || (h[0] >= 5 && h[0] <= 7) || h[0] == 11 ? part : sum_bytes(out, h[3]);
     return memcmp(seen, must, sizeof seen) == 0;
 }
 
