@@ -4,23 +4,11 @@
 use crate::apart::Cut;
 use crate::archive;
 use crate::archive_leaning::{self, Blobs};
+use crate::archive_list;
 use crate::generate::random::Random;
 use crate::vectors::{module_and_index, places, run, start_in, told_name, Case, Seen};
-use crate::vectors::{APART, CHECK, JOIN, LEANING, LEANING_NAME, LEANING_SIZE, MEMBER, NAME, SIZE};
-use crate::vectors::{MOST_BYTES, MOST_PLACES};
-
-/// The ops that the archive has a call for: none yet of lists.
-pub const OPS: [u32; 9] = [
-    CHECK,
-    SIZE,
-    NAME,
-    JOIN,
-    MEMBER,
-    APART,
-    LEANING,
-    LEANING_SIZE,
-    LEANING_NAME,
-];
+use crate::vectors::{APART, CHECK, JOIN, LEANING, LEANING_NAME, LEANING_SIZE};
+use crate::vectors::{LIST_READ, LIST_WRITTEN, MEMBER, MOST_BYTES, MOST_PLACES, NAME, SIZE};
 
 /// What stands in an answer's place before a call; no answer has this number.
 const UNTOLD: u32 = 0xA5A5_A5A5;
@@ -35,7 +23,8 @@ struct Slices {
     index: Vec<u32>,
     work: Vec<u32>,
     output: Vec<u8>,
-    /// That of a table taken apart; else nothing of it is lent.
+    /// The second output of a table taken apart, or the byte work slice of a
+    /// list that is read; else nothing of it is lent.
     second_output: Vec<u8>,
     answer: Vec<u32>,
 }
@@ -51,14 +40,15 @@ pub struct Trial {
 impl Trial {
     /// Lent lengths are mostly the case's own; answers mostly fit.
     pub fn new(r: &mut Random, mut case: Case) -> Trial {
-        if [CHECK, JOIN, MEMBER, APART, LEANING].contains(&case.op) {
+        let question = [SIZE, NAME, LEANING_SIZE, LEANING_NAME].contains(&case.op);
+        if !question {
             case.index_places = lent(r, case.index_places, MOST_PLACES);
             case.work_places = lent(r, case.work_places, MOST_PLACES);
         }
-        if [JOIN, APART].contains(&case.op) {
+        if [JOIN, APART, LIST_READ, LIST_WRITTEN].contains(&case.op) {
             case.output_bytes = lent(r, case.output_bytes, MOST_BYTES);
         }
-        if case.op == APART {
+        if [APART, LIST_READ].contains(&case.op) {
             let bytes = lent(r, case.b.len() as u32, MOST_BYTES);
             case.b.resize(bytes as usize, 0);
         }
@@ -115,7 +105,7 @@ impl Trial {
     /// The bytes of b, which nothing else is asked of.
     fn second_bytes(&self) -> usize {
         match self.case.op {
-            APART => self.case.b.len(),
+            APART | LIST_READ => self.case.b.len(),
             _ => 0,
         }
     }
@@ -137,6 +127,11 @@ impl Trial {
                 let outputs = (inner(&mut s.output), inner(&mut s.second_output));
                 archive::split(a, cut, index, work, outputs.0, outputs.1, answer)
             }
+            LIST_READ => {
+                let (bytes, output) = (inner(&mut s.second_output), inner(&mut s.output));
+                archive_list::read(a, index, work, bytes, output, answer)
+            }
+            LIST_WRITTEN => archive_list::write(a, index, work, inner(&mut s.output), answer),
             LEANING => archive_leaning::check(pair, index, work, answer),
             LEANING_SIZE => {
                 let (count, number) = (self.case.y, self.case.x);
@@ -243,7 +238,7 @@ fn difference(archive: &Slices, second: &Slices) -> String {
         ("work", 1, archive.work.clone(), second.work.clone()),
         ("output", 1, bytes(&archive.output), bytes(&second.output)),
         (
-            "second output",
+            "second output or byte work slice",
             1,
             bytes(&archive.second_output),
             bytes(&second.second_output),

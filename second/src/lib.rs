@@ -10,6 +10,8 @@ pub mod archive;
 #[cfg(feature = "archive")]
 pub mod archive_leaning;
 #[cfg(feature = "archive")]
+pub mod archive_list;
+#[cfg(feature = "archive")]
 pub mod beside;
 pub mod brackets;
 pub mod census;
