@@ -77,7 +77,7 @@
 #define SCRIEVE_FULL_BYTES 262144
 
 /* The same for a list: the 262,120 bytes behind the header, and 3 for each field: one for each of 16,384 records, one for the strings, and at
- * most three that carry a body on. */
+ * most three that carry a body on (proved: crates/abi/proofs/Longest.antt). */
 #define SCRIEVE_FULL_LIST_BYTES 311284
 
 /* Places for a whole answer, and what stands in each. */
