@@ -69,7 +69,7 @@
 #include <stdint.h>
 
 /* Which interface this is. It rises where a function comes, or where a number, an argument or what is left in a slice changes its meaning. In 7
- * the change requests 1 to 7 and 9 to 14 have landed (docs/orders). */
+ * the change requests 1 to 7, 9 and 11 to 14 have landed (docs/orders), and of 10 what a C program calls. */
 #define SCRIEVE_VERSION 7
 
 /* Full size: with so many places in index and work, and so many bytes of output, no table is refused for want of room. */

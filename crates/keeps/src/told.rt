@@ -35,11 +35,11 @@ pub(crate) fn saved(name: &[u8], what: &[u8], s: &[u8], n: u32) -> Status {
 }
 
 fn put_number(buf: &mut [u8; ROOM], o: Out, file: &[u8], why: u32) -> Out {
-    let whys = b"report 50: a field's tag is none of 1 to 19, 32, 33 and 127\n\
-        report 51: a field is cut short\n\
-        report 52: a field is out of its place, or a body is not one whole record of its tag's kind\n\
-        report 53: an output is shorter than what is written to it\n\
-        report 54: the table is refused\n";
+    let whys = b"report 50: a field of the list has a tag that no list has\n\
+        report 51: the list ends inside a field, or where another is due\n\
+        report 52: a field of the list is out of its place, or holds no whole record of its kind\n\
+        report 53: the output or the lent bytes are too short\n\
+        report 54: the list's table is refused\n";
     let o = put_file(buf, o, file);
     let o = put(buf, o, b": refused, ");
     put(buf, o, line(whys, why))
@@ -63,10 +63,13 @@ pub(crate) fn unread(file: &[u8], f: Fault) -> Status {
 
 // Slices of full size are too short only for a table over the byte limit.
 pub(crate) fn short(file: &[u8]) -> Status {
-    told(file, 3)
+    let mut buf = [0u8; ROOM];
+    let o = put_number(&mut buf, lines::to(STDOUT_FILENO), file, 3);
+    let o = put(&mut buf, o, b": a table has 262144 bytes at most\n");
+    end(&mut buf, o, Status::Refused)
 }
 
-// "LIST: refused, report 54: the table is refused, report 13, type 4"
+// "LIST: refused, report 54: the list's table is refused, report 13, type 4"
 pub(crate) fn table_refused(file: &[u8], inner: Numbers) -> Status {
     let mut buf = [0u8; ROOM];
     let o = put_number(&mut buf, lines::to(STDOUT_FILENO), file, 4);
