@@ -57,14 +57,14 @@ list-long order T =
       most = omega (arith, f .most);
     }
 
-pub list-short : (b : List ℕ) (places work : ℕ) → refusal b places work ≡ none → Bytes b → length (listIn b) ≤ 311284
+pub list-longest : (b : List ℕ) (places work : ℕ) → refusal b places work ≡ none → Bytes b → length (listIn b) ≤ 311284
 unfolding listIn
-list-short b places work accepted bytes =
+list-longest b places work accepted bytes =
     let l = list-long (orderOf b) (tableOf b) in
     let few = accepted-meets b places work accepted .readable .section .few-found in
     omega (arith, l .long, l .most, few, accepted-short b places work accepted bytes)
 
-pub made-short : (s : List ℕ) → Bytes s → {order : Order} {T : Table} → readList s ≡ table order T → length (bytesOf order T) ≤ length s + 21
-made-short s bytes {order} {T} e =
+pub made-longest : (s : List ℕ) → Bytes s → {order : Order} {T : Table} → readList s ≡ table order T → length (bytesOf order T) ≤ length s + 21
+made-longest s bytes {order} {T} e =
     let l = list-long order T in
     omega (arith, l .long, ap length (readList-one s bytes e .is), length-bytesOf order T)

@@ -46,7 +46,7 @@ fieldsIn-last (suc k) t left last =
     (lt-ltb (length left) fieldMost last)
 
 -- so much of it is laid: the fields that are done, and behind them those of the rest
-pub record Carrying (tag : ℕ) (body before : List ℕ) (at : ℕ) (out : List ℕ) (t from p : ℕ) : Type 0 where
+pub record Fielding (tag : ℕ) (body before : List ℕ) (at : ℕ) (out : List ℕ) (t from p : ℕ) : Type 0 where
   pub inside : from ≤ length body
   pub kept : length out ≡ length before
   pub room : at + fieldsLength (length body) ≤ length before
@@ -57,9 +57,9 @@ pub record Carrying (tag : ℕ) (body before : List ℕ) (at : ℕ) (out : List 
   pub enough : length (drop from body) ≤ fuel
   pub rest : done ++ fieldsIn fuel t (drop from body) ≡ bodyFields tag body
 
-pub carrying-start : (tag : ℕ) (body before : List ℕ) (at : ℕ) → at + fieldsLength (length body) ≤ length before → Carrying tag body before at before tag 0 at
+pub fielding-start : (tag : ℕ) (body before : List ℕ) (at : ℕ) → at + fieldsLength (length body) ≤ length before → Fielding tag body before at before tag 0 at
 unfolding bodyFields
-carrying-start tag body before at room =
+fielding-start tag body before at room =
     record {
       inside = omega arith;
       kept = refl;
@@ -72,7 +72,7 @@ carrying-start tag body before at room =
       rest = refl;
     }
 
-module _ {tag : ℕ} {body before : List ℕ} {at : ℕ} {out : List ℕ} {t from p : ℕ} (c : Carrying tag body before at out t from p) where
+module _ {tag : ℕ} {body before : List ℕ} {at : ℕ} {out : List ℕ} {t from p : ℕ} (c : Fielding tag body before at out t from p) where
   abbrev left : List ℕ
   left = drop from body
 
@@ -90,18 +90,18 @@ module _ {tag : ℕ} {body before : List ℕ} {at : ℕ} {out : List ℕ} {t fro
     one-long = length-take-le fieldMost left (omega (arith, left-long))
 
     -- the field that comes next fits
-    pub carrying-fits : p + (3 + fieldMost) ≤ length out
-    carrying-fits =
+    pub fielding-fits : p + (3 + fieldMost) ≤ length out
+    fielding-fits =
         let n = fieldsIn-more (c .fuel) t left (omega (arith, left-long)) (c .enough) in
         let l = ap length (n .1) ∙ length-append (field t one) (fieldsIn (n .0) carryTag (drop fieldMost left)) in
         omega (arith, whole-long, one-long, c .there, c .room, c .kept)
 
-    pub carrying-next : {out₁ : List ℕ} → out₁ ≡ put out p (field t (take (from + fieldMost - from) (drop from body)))
-        → Carrying tag body before at out₁ carryTag (from + fieldMost) (p + 3 + fieldMost)
-    carrying-next {out₁} e =
+    pub fielding-next : {out₁ : List ℕ} → out₁ ≡ put out p (field t (take (from + fieldMost - from) (drop from body)))
+        → Fielding tag body before at out₁ carryTag (from + fieldMost) (p + 3 + fieldMost)
+    fielding-next {out₁} e =
         let n = fieldsIn-more (c .fuel) t left (omega (arith, left-long)) (c .enough) in
         let cut : from + fieldMost - from ≡ fieldMost = omega arith in
-        let fits = carrying-fits in
+        let fits = fielding-fits in
         let made : out₁ ≡ put out p (field t one) = e ∙ ap (λ (k : ℕ). put out p (field t (take k left))) cut in
         let l = length-append (c .done) (field t one) in
         let gone = drop-drop fieldMost from body in
@@ -125,11 +125,11 @@ module _ {tag : ℕ} {body before : List ℕ} {at : ℕ} {out : List ℕ} {t fro
         }
 
   module _ (last : length body - from < fieldMost) where
-    pub carrying-last : p + (3 + (length body - from)) ≤ length out
-    carrying-last = let l = ap length (fieldsIn-last (c .fuel) t left (omega (arith, left-long))) in omega (arith, whole-long, left-long, c .there, c .room, c .kept)
+    pub fielding-last : p + (3 + (length body - from)) ≤ length out
+    fielding-last = let l = ap length (fieldsIn-last (c .fuel) t left (omega (arith, left-long))) in omega (arith, whole-long, left-long, c .there, c .room, c .kept)
 
-    pub carrying-done : {out₁ : List ℕ} → out₁ ≡ put out p (field t (take (length body - from) (drop from body))) → out₁ ≡ put before at (bodyFields tag body)
-    carrying-done e =
+    pub fielding-done : {out₁ : List ℕ} → out₁ ≡ put out p (field t (take (length body - from) (drop from body))) → out₁ ≡ put before at (bodyFields tag body)
+    fielding-done e =
         e
         ∙ ap (λ (s : List ℕ). put out p (field t s)) (part-rest body from)
         ∙ ap (λ (o : List ℕ). put o p (field t left)) (c .puts)

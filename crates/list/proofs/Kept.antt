@@ -1,6 +1,6 @@
 -- Order 10 of the code, reading: what it means that `read` has answered, and that what one of the two writes the other gives back.
 -- Each from the contracts alone. Assumes nothing.
-use Prim.Native.Nat.{ℕ, _≤_}
+use Prim.Native.Nat.{ℕ, _≤_, _<_}
 use mathlib.Core.Path.{_≡_, refl, sym, ap, ap₂, _∙_}
 use mathlib.Core.Bool.{Bool, true, false, _||_}
 use mathlib.Core.List.{List, [], _∷_, _++_}
@@ -11,33 +11,30 @@ use lib.Dec.{ltb}
 use lib.ListN.{length, take, drop}
 use lib.Seq.{take-at}
 use Rattle.list.proofs.Demands.{accepted-written}
+use Rattle.list.proofs.Readings.{by-listed}
 use Rattle.list.specs.Listing.{WriteOf}
 use Rattle.list.specs.Reading.{ReadOf}
 use Rattle.lists.proofs.Faults.{unread-number}
 use Rattle.lists.proofs.Keeping.{list-table, table-list}
 use Rattle.lists.proofs.Wrotes.{made-one}
-use Rattle.lists.specs.Kept.{ReadOutcome, listIn, looked, madeAsPaper, madeOutcome, readInto, readOutcome, tooShort}
+use Rattle.lists.specs.Kept.{ReadOutcome, listIn, looked, madeAsPaper, madeOutcome, readInto, readOutcome}
 use Rattle.lists.specs.List.{Listed, unread, table, readList}
 use Rattle.lists.specs.declared.Made.{Made}
 use Rattle.lists.specs.declared.Wrote.{Wrote}
-use Rattle.paper.proofs.gates.Acceptance.{accepted-bytes}
+use Rattle.paper.proofs.gates.Acceptance.{accepted-bytes, accepted-with}
 use Rattle.paper.specs.declared.Order.{Order}
 use Rattle.paper.specs.rules.Answer.{Answer, value}
 use Rattle.paper.specs.rules.Choice.{_when_, firstDue}
-use Rattle.paper.specs.rules.Gate.{gate, refusal, zeros}
+use Rattle.paper.specs.rules.Gate.{gate, refusal}
 use Rattle.paper.specs.rules.Header.{orderOf}
 use Rattle.paper.specs.rules.Join.{refusedInside}
-use Rattle.paper.specs.rules.Table.{Table}
+use Rattle.paper.specs.rules.Table.{Table, count}
 use Rattle.paper.specs.rules.Walk.{bytesOf, tableOf}
 use Rattle.paper.specs.terms.Fit.{Bytes}
 
 -- ── by what a list is read as ──
 
 module _ (s : List ℕ) (places work lent : ℕ) (out : List ℕ) where
-  by-listed : {l : Listed} → readList s ≡ l → readInto s places work lent out ≡ readOutcome l places work lent out
-  unfolding readInto
-  by-listed e = ap (λ (l : Listed). readOutcome l places work lent out) e
-
   abbrev result : List ℕ → Option Answer → ReadOutcome
   result made o = looked made (gate made places work) lent out (refusedInside 54 o)
 
@@ -135,18 +132,20 @@ read-one {r} {r′} h k = (
 
 -- ── table to list to table ──
 
--- an accepted table that `write` has written out, where there was room, `read` gives back byte for byte
+-- an accepted table that `write` has written out, where there was room, `read` gives back byte for byte, in whatever slices have room for it
 pub written-back : {w : Wrote} {r : Made} {b : List ℕ} {places work : ℕ} {paper index left list : List ℕ} → WriteOf w b places work paper index left list
     → refusal b places work ≡ none → Bytes b → length (listIn b) ≤ length paper
-    → {lent : ℕ} {out index′ left′ bytes′ output : List ℕ} → ReadOf r (take (length (listIn b)) list) places work lent out index′ left′ bytes′ output
-    → length b ≤ length out → length b ≤ lent → (madeAsPaper r ≡ value (length b)) × (output ≡ b ++ drop (length b) out)
-written-back {r = r} {b = b} {places} {work} {paper} {list = list} h accepted bytes room {lent} {out} {output = output} k room′ room″ =
+    → {places′ work′ lent : ℕ} {out index′ left′ bytes′ output : List ℕ} → ReadOf r (take (length (listIn b)) list) places′ work′ lent out index′ left′ bytes′ output
+    → count (tableOf b) < places′ → count (tableOf b) < work′ → length b ≤ length out → length b ≤ lent
+    → (madeAsPaper r ≡ value (length b)) × (output ≡ b ++ drop (length b) out)
+written-back {b = b} {places} {work} {paper} {list = list} h accepted bytes room {places′} {work′} {out = out} k enough enough′ room′ room″ =
     let e : readList (take (length (listIn b)) list) ≡ table (orderOf b) (tableOf b) =
     ap readList (ap (take (length (listIn b))) (accepted-written h accepted room .1) ∙ take-at (listIn b) (drop (length (listIn b)) paper) (length (listIn b)) refl)
     ∙ list-table b bytes places work accepted in
     let same : bytesOf (orderOf b) (tableOf b) ≡ b = accepted-bytes b places work accepted bytes in
     let x =
-    listed-read k e (ap (λ (c : List ℕ). refusal c places work) same ∙ accepted) (omega (arith, ap length same)) (omega (arith, ap length same)) in (
+    listed-read k e (ap (λ (c : List ℕ). refusal c places′ work′) same ∙ accepted-with b places work accepted places′ work′ enough enough′)
+    (omega (arith, ap length same)) (omega (arith, ap length same)) in (
       x .0 ∙ ap (λ (c : List ℕ). value (length c)) same,
       x .1 ∙ ap (λ (c : List ℕ). c ++ drop (length c) out) same,
     )

@@ -1,5 +1,5 @@
 pub mod Fielding
-pub mod Taking
+pub mod Gathering
 pub mod Walking
 pub mod Makings
 pub mod Writings

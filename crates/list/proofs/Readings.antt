@@ -73,7 +73,8 @@ output-laid out bytes rest {n} long room e =
     ∙ ap (λ (k : ℕ). bytes ++ drop k out) long
 
 module _ (s : List ℕ) (places work lent : ℕ) (out : List ℕ) where
-  by-listed : {l : Listed} → readList s ≡ l → readInto s places work lent out ≡ readOutcome l places work lent out
+  -- by what the list is read as
+  pub by-listed : {l : Listed} → readList s ≡ l → readInto s places work lent out ≡ readOutcome l places work lent out
   unfolding readInto
   by-listed e = ap (λ (l : Listed). readOutcome l places work lent out) e
 

@@ -51,7 +51,7 @@ pub(crate) fn put_body(tag: u8, body: &[u8], out: &mut [u8], at: usize)
 }
 
 // A body's bytes, out of its fields, which begin at a place: laid at a place of an output.
-pub(crate) fn take_body(s: &[u8], at: usize, len: usize, out: &mut [u8], to: usize)
+pub(crate) fn gather_body(s: &[u8], at: usize, len: usize, out: &mut [u8], to: usize)
     requires { ⌜ (len ≤ 1000000) × (at + fieldsLength len ≤ length (now s)) × (to + len ≤ length (now out)) ⌝ }
     ensures { λ r. ⌜ BodyPut (now (s .entry)) at len (now (out .entry)) to (now (out .exit)) ⌝ }
 {

@@ -1,6 +1,6 @@
 // The table of a list that is known to be one, laid as its blob.
 use crate::bodies::fields_len;
-use crate::bodies::take_body;
+use crate::bodies::gather_body;
 use paper::Order;
 use paper::Place;
 use rows::tail_words;
@@ -42,14 +42,14 @@ pub(crate) fn put_table(s: &[u8], order: Order, types: u32, strings: u32, out: &
 {
     put_front(order, types, strings, out);
     let behind = 24 + types as usize;
-    take_body(s, 0, strings as usize, out, behind);
+    gather_body(s, 0, strings as usize, out, behind);
     let mut p = fields_len(strings as usize);
     let mut q = 24;
     while p < s.len() {
         let from = p + 3;
         let info = words::read(order, &s[from..], Place(4));
         let size = 12 + 4 * tail_words(info) as usize;
-        take_body(s, p, size, out, q);
+        gather_body(s, p, size, out, q);
         q += size;
         p += fields_len(size);
     }

@@ -6,14 +6,14 @@ use native.Mathlib.Omega.{arith}
 use denote.Ref.{now}
 use lib.ListN.{length, drop, length-drop}
 use lib.Seq.{length-take-le}
-use Rattle.list.proofs.Fielding.{Carrying, carrying-start, carrying-fits, carrying-next, carrying-last, carrying-done}
+use Rattle.list.proofs.Fielding.{Fielding, fielding-start, fielding-fits, fielding-next, fielding-last, fielding-done}
 use Rattle.lists.specs.List.{fieldMost}
 use borrow.Author.Needs.{needs}
 use Rattle.list.proofs.bodies.put_body.Statement.{statement}
 use Rattle.list.proofs.bodies.put_body.Tie as tie
 
 abbrev Inv-loop : tie.InvT-loop
-Inv-loop tag body out₀ at len t₀ from₀ p₀ out t from p = (len ≡ length body) × Carrying tag body out₀ at out t from p
+Inv-loop tag body out₀ at len t₀ from₀ p₀ out t from p = (len ≡ length body) × Fielding tag body out₀ at out t from p
 
 abbrev μ-loop : tie.MeasureT-loop
 μ-loop tag body out₀ at len t₀ from₀ p₀ out t from p = length body - from
@@ -22,7 +22,7 @@ loop-holds : tie.Need-loop-holds Inv-loop μ-loop
 loop-holds c =
     let s = c .before .before in
     let a = s .args in
-    (refl, carrying-start (a .tag) (now (a .body)) (now (a .out)) (a .at) (s .pre .1))
+    (refl, fielding-start (a .tag) (now (a .body)) (now (a .out)) (a .at) (s .pre .1))
 
 sub-loop : tie.Need-sub-loop Inv-loop μ-loop
 sub-loop c = omega (arith, c .loop .inv .1 .inside)
@@ -50,19 +50,19 @@ put-field-requires c κs =
     let l = i .before in
     let d = length-drop (l .loop .from) (now (l .before .before .before .args .body)) in
     let t = length-take-le fieldMost (drop (l .loop .from) (now (l .before .before .before .args .body))) (omega (arith, l .loop .inv .1 .inside, i .loop-test .taken)) in
-    (omega arith, omega (arith, carrying-fits (l .loop .inv .1) (omega (arith, i .loop-test .taken))))
+    (omega arith, omega (arith, fielding-fits (l .loop .inv .1) (omega (arith, i .loop-test .taken))))
 
 add-p : tie.Need-add-p Inv-loop μ-loop
 add-p c =
     let i = c .before .before .before .before .before in
     let l = i .before in
-    omega (arith, carrying-fits (l .loop .inv .1) (omega (arith, i .loop-test .taken)))
+    omega (arith, fielding-fits (l .loop .inv .1) (omega (arith, i .loop-test .taken)))
 
 add-p-2 : tie.Need-add-p-2 Inv-loop μ-loop
 add-p-2 c =
     let i = c .before .before .before .before .before in
     let l = i .before in
-    omega (arith, carrying-fits (l .loop .inv .1) (omega (arith, i .loop-test .taken)))
+    omega (arith, fielding-fits (l .loop .inv .1) (omega (arith, i .loop-test .taken)))
 
 loop-less : tie.Need-loop-less Inv-loop μ-loop
 loop-less c =
@@ -75,7 +75,7 @@ loop-again c =
     let p = c .before .before in
     let i = p .before .before .before in
     let l = i .before in
-    (l .loop .inv .0, carrying-next (l .loop .inv .1) (omega (arith, i .loop-test .taken)) (p .put-field .ensures))
+    (l .loop .inv .0, fielding-next (l .loop .inv .1) (omega (arith, i .loop-test .taken)) (p .put-field .ensures))
 
 sub-put-field-2 : tie.Need-sub-put-field-2 Inv-loop μ-loop
 sub-put-field-2 c =
@@ -94,7 +94,7 @@ put-field-requires-2 : tie.Need-put-field-requires-2 Inv-loop μ-loop
 put-field-requires-2 c κs =
     let i = c .before .before in
     let l = i .before in
-    (omega arith, omega (arith, carrying-last (l .loop .inv .1) (omega (arith, i .loop-test .left))))
+    (omega arith, omega (arith, fielding-last (l .loop .inv .1) (omega (arith, i .loop-test .left))))
 
 same-length : tie.Need-same-length Inv-loop μ-loop
 same-length c = search needs
@@ -104,7 +104,7 @@ returns c =
     let p = c .before .before in
     let i = p .before .before .before in
     let l = i .before in
-    carrying-done (l .loop .inv .1) (omega (arith, i .loop-test .left)) (p .put-field2 .ensures)
+    fielding-done (l .loop .inv .1) (omega (arith, i .loop-test .left)) (p .put-field2 .ensures)
 
 pub put-body-spec : {M : Type 1} → statement M
 put-body-spec =

@@ -31,8 +31,8 @@ put-front-requires c κs = let k = known (c .before .before .before .pre) in ome
 add-behind : tie.Need-add-behind Inv-loop μ-loop
 add-behind c = let k = known (c .before .before .before .before .before .before .pre) in omega (arith, k .sum, k .short)
 
-take-body-requires : tie.Need-take-body-requires Inv-loop μ-loop
-take-body-requires c κs =
+gather-body-requires : tie.Need-gather-body-requires Inv-loop μ-loop
+gather-body-requires c κs =
     let f = c .before .before .before in
     let s = f .before .before .before .before in
     let a = s .args in
@@ -48,7 +48,7 @@ loop-holds c =
     let t = c .before .before .before in
     let f = t .before .before .before .before in
     let s = f .before .before .before .before in
-    making-start (now (s .args .out)) (s .pre) (f .put-front .ensures) (t .take-body .ensures) (c .fields-len .ensures)
+    making-start (now (s .args .out)) (s .pre) (f .put-front .ensures) (t .gather-body .ensures) (c .fields-len .ensures)
 
 add-from : tie.Need-add-from Inv-loop μ-loop
 add-from c = let m = c .before .loop .inv in omega (arith, known (m .ask) .few, c .loop-test .taken)
@@ -77,8 +77,8 @@ mul-size c = let k = known (c .before .before .before .before .loop .inv .ask) i
 add-size : tie.Need-add-size Inv-loop μ-loop
 add-size c = let k = known (c .before .before .before .before .loop .inv .ask) in omega (arith, step c .high, k .sum, k .short)
 
-take-body-requires-2 : tie.Need-take-body-requires-2 Inv-loop μ-loop
-take-body-requires-2 c κs =
+gather-body-requires-2 : tie.Need-gather-body-requires-2 Inv-loop μ-loop
+gather-body-requires-2 c κs =
     let t = c .before in
     let s = step t in
     let k = known (t .before .before .before .before .loop .inv .ask) in
@@ -110,7 +110,7 @@ loop-less c =
 loop-again : tie.Need-loop-again Inv-loop μ-loop
 loop-again c =
     let b = c .before .before .before in
-    step (b .before .before) .next _ (b .take-body2 .ensures) _ (c .fields-len2 .ensures)
+    step (b .before .before) .next _ (b .gather-body2 .ensures) _ (c .fields-len2 .ensures)
 
 same-length : tie.Need-same-length Inv-loop μ-loop
 same-length c =
@@ -129,7 +129,7 @@ put-table-spec =
     μ-loop
     put-front-requires
     add-behind
-    take-body-requires
+    gather-body-requires
     fields-len-requires
     loop-holds
     add-from
@@ -141,7 +141,7 @@ put-table-spec =
     cast-size
     mul-size
     add-size
-    take-body-requires-2
+    gather-body-requires-2
     add-q
     fields-len-requires-2
     add-p

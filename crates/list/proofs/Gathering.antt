@@ -21,17 +21,17 @@ pub record Went (s body rest before : List ℕ) (to : ℕ) (out : List ℕ) (fro
   pub puts : out ≡ put before to (take from body)
 
 -- of whatever body of that length begins there
-pub record Taking (s : List ℕ) (at len : ℕ) (before : List ℕ) (to : ℕ) (out : List ℕ) (from p : ℕ) : Type 0 where
+pub record Gathering (s : List ℕ) (at len : ℕ) (before : List ℕ) (to : ℕ) (out : List ℕ) (from p : ℕ) : Type 0 where
   pub inside : from ≤ len
   pub kept : length out ≡ length before
   pub room : to + len ≤ length before
   pub there : p + fieldsLength (len - from) ≤ length s
   pub went : (tag : ℕ) (body rest : List ℕ) → drop at s ≡ bodyFields tag body ++ rest → length body ≡ len → Went s body rest before to out from p
 
-pub taking-start : (s : List ℕ) (at len : ℕ) (before : List ℕ) (to : ℕ) → at + fieldsLength len ≤ length s → to + len ≤ length before
-    → Taking s at len before to before 0 at
+pub gathering-start : (s : List ℕ) (at len : ℕ) (before : List ℕ) (to : ℕ) → at + fieldsLength len ≤ length s → to + len ≤ length before
+    → Gathering s at len before to before 0 at
 unfolding bodyFields
-taking-start s at len before to there room =
+gathering-start s at len before to there room =
     record {
       inside = omega arith;
       kept = refl;
@@ -40,7 +40,7 @@ taking-start s at len before to there room =
       went = λ tag body rest e long. record { tag = tag; fuel = length body; enough = omega arith; fields = e; puts = put-none before to };
     }
 
-module _ {s : List ℕ} {at len : ℕ} {before : List ℕ} {to : ℕ} {out : List ℕ} {from p : ℕ} (c : Taking s at len before to out from p) where
+module _ {s : List ℕ} {at len : ℕ} {before : List ℕ} {to : ℕ} {out : List ℕ} {from p : ℕ} (c : Gathering s at len before to out from p) where
   -- ── one part more ──
 
   module _ (n : ℕ) (few : from + n ≤ len) (inside : p + 3 + n ≤ length s) {out₁ : List ℕ}
@@ -75,13 +75,13 @@ module _ {s : List ℕ} {at len : ℕ} {before : List ℕ} {to : ℕ} {out : Lis
   -- ── a field that is not the last ──
 
   module _ (more : fieldMost ≤ len - from) where
-    pub taking-fits : p + 3 + fieldMost + fieldsLength (len - (from + fieldMost)) ≤ length s
-    taking-fits = omega (arith, c .there)
+    pub gathering-fits : p + 3 + fieldMost + fieldsLength (len - (from + fieldMost)) ≤ length s
+    gathering-fits = omega (arith, c .there)
 
-    pub taking-next : {out₁ : List ℕ} → out₁ ≡ laid out (to + from) (take (p + 3 + fieldMost - (p + 3)) (drop (p + 3) s))
-        → Taking s at len before to out₁ (from + fieldMost) (p + 3 + fieldMost)
-    taking-next {out₁} e =
-        let fits = taking-fits in
+    pub gathering-next : {out₁ : List ℕ} → out₁ ≡ laid out (to + from) (take (p + 3 + fieldMost - (p + 3)) (drop (p + 3) s))
+        → Gathering s at len before to out₁ (from + fieldMost) (p + 3 + fieldMost)
+    gathering-next {out₁} e =
+        let fits = gathering-fits in
         record {
           inside = omega arith;
           kept = part-kept fieldMost (omega arith) (omega arith) e;
@@ -98,7 +98,7 @@ module _ {s : List ℕ} {at len : ℕ} {before : List ℕ} {to : ℕ} {out : Lis
             ≡ field (w .tag) (take fieldMost (drop from body)) ++ fieldsIn f carryTag (drop fieldMost (drop from body))
             → length (drop from body) ≤ suc f → Went s body rest before to out₁ (from + fieldMost) (p + 3 + fieldMost)
         next body rest long w f more-of enough =
-            let fits = taking-fits in
+            let fits = gathering-fits in
             let left-long = length-drop from body in
             let one : List ℕ = take fieldMost (drop from body) in
             let wide : length one ≡ fieldMost = length-take-le fieldMost (drop from body) (omega arith) in
@@ -120,15 +120,15 @@ module _ {s : List ℕ} {at len : ℕ} {before : List ℕ} {to : ℕ} {out : Lis
   -- ── the last ──
 
   module _ (last : len - from < fieldMost) where
-    pub taking-last : p + 3 + (len - from) ≤ length s
-    taking-last = omega (arith, c .there)
+    pub gathering-last : p + 3 + (len - from) ≤ length s
+    gathering-last = omega (arith, c .there)
 
-    pub taking-done : {out₁ : List ℕ} → out₁ ≡ laid out (to + from) (take (p + 3 + (len - from) - (p + 3)) (drop (p + 3) s)) → BodyPut s at len before to out₁
-    taking-done {out₁} e = record { puts = λ tag body rest begins long. whole body rest long (c .went tag body rest begins long) }
+    pub gathering-done : {out₁ : List ℕ} → out₁ ≡ laid out (to + from) (take (p + 3 + (len - from) - (p + 3)) (drop (p + 3) s)) → BodyPut s at len before to out₁
+    gathering-done {out₁} e = record { puts = λ tag body rest begins long. whole body rest long (c .went tag body rest begins long) }
       where
         whole : (body rest : List ℕ) → length body ≡ len → Went s body rest before to out from p → out₁ ≡ put before to body
         whole body rest long w =
-            let fits = taking-last in
+            let fits = gathering-last in
             let left : List ℕ = drop from body in
             let left-long = length-drop from body in
             let in-it = c .inside in
