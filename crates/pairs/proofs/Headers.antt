@@ -41,10 +41,10 @@ module _ (before : ℕ) (own : List ℕ) where
       let facts : SectionFacts own = record {
         long = ltb-false _ _ lengths.0;
         opens = same_true (take 4 own) (opening (order_of own)) (not-false _ due.1.0);
-        header_length = differ-false _ _ due.1.1.0;
-        type_off = differ-false _ _ types.0;
-        type_len = differ-false _ _ types.1;
-        str_off = differ-false _ _ offsets.1;
+        header_length_is = differ-false _ _ due.1.1.0;
+        type_off_is = differ-false _ _ types.0;
+        type_len_is = differ-false _ _ types.1;
+        str_off_is = differ-false _ _ offsets.1;
         sum = differ-false _ _ sections.1;
       } in
       record {
@@ -60,9 +60,9 @@ module _ (before : ℕ) (own : List ℕ) where
       let length-good : length_bad_behind before own ≡ false = false-or (le-ltb _ _ s.long) (le-ltb _ _ f.short) in
       let opening-good : opening_bad own ≡ false =
       ap (λ (s : List ℕ). not (same s (opening (order_of own)))) s.opens ∙ ap not (same_refl (opening (order_of own))) in
-      let header-good : header_length_bad own ≡ false = differ-equal _ _ s.header_length in
+      let header-good : header_length_bad own ≡ false = differ-equal _ _ s.header_length_is in
       let sections-good : sections_bad own ≡ false =
-      false-or (false-or (false-or (differ-equal _ _ s.type_off) (differ-equal _ _ s.type_len)) (differ-equal _ _ s.str_off))
+      false-or (false-or (false-or (differ-equal _ _ s.type_off_is) (differ-equal _ _ s.type_len_is)) (differ-equal _ _ s.str_off_is))
       (differ-equal _ _ s.sum) in
       let end-good : end_bad own ≡ false =
       and_second (differ (str_len own) 0) (differ-equal _ _ (ap (λ (n : ℕ). get_or (strings_in own) (n - 1) 0) (sym (strings-long own s)) ∙ f.ended)) in

@@ -21,12 +21,12 @@ section-of : (b : List ℕ) {n : ℕ} → n ≡ type_len b → type_len b % 4 �
 section-of b e whole sum short = record { is_type_len = e; whole_words = ap (λ (m : ℕ). m % 4) e ∙ whole; inside = omega arith; short = short }
 
 pub header_report-section : (b : List ℕ) {n : ℕ} → header_report b ≡ none → n ≡ type_len b → TypeSection b n
-header_report-section b silent e = let f = header_report-facts b silent in section-of b e f.type_len f.sum f.short
+header_report-section b silent e = let f = header_report-facts b silent in section-of b e f.type_len_is f.sum f.short
 
 pub behind_report-section : (before : ℕ) (b : List ℕ) {n : ℕ} → behind_report before b ≡ none → n ≡ type_len b → TypeSection b n
 behind_report-section before b silent e =
     let f = behind_report-facts before b silent in
-    section-of b e f.sections.type_len f.sections.sum (omega (arith, f.short))
+    section-of b e f.sections.type_len_is f.sections.sum (omega (arith, f.short))
 
 -- ── a finding behind so many types ──
 

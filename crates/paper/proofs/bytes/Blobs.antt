@@ -57,7 +57,7 @@ module _ (b : List ℕ) (f : SectionFacts b) where
   -- the type section has four bytes to a word
   pub words_long : 4 * length (type_words b) ≡ type_len b
   unfolding type_words
-  words_long = omega (arith, length-words (order_of b) (take (type_len b) (drop header_length b)), section-long, f.type_len)
+  words_long = omega (arith, length-words (order_of b) (take (type_len b) (drop header_length b)), section-long, f.type_len_is)
 
 module _ (b : List ℕ) (bytes : Bytes b) (f : SectionFacts b) where
   -- a blob begins with the header of its own numbers
@@ -66,10 +66,10 @@ module _ (b : List ℕ) (bytes : Bytes b) (f : SectionFacts b) where
   header-opens =
       sym (take-append-drop 4 b)
       ∙ ap (λ (s : List ℕ). s ++ drop 4 b) f.opens
-      ∙ ap (λ (s : List ℕ). opening (order_of b) ++ s) (drop-word_at (order_of b) b 4 bytes (omega (arith, f.long)) f.header_length
-      ∙ ap (λ (s : List ℕ). word_bytes (order_of b) header_length ++ s) (drop-word_at (order_of b) b 8 bytes (omega (arith, f.long)) f.type_off
+      ∙ ap (λ (s : List ℕ). opening (order_of b) ++ s) (drop-word_at (order_of b) b 4 bytes (omega (arith, f.long)) f.header_length_is
+      ∙ ap (λ (s : List ℕ). word_bytes (order_of b) header_length ++ s) (drop-word_at (order_of b) b 8 bytes (omega (arith, f.long)) f.type_off_is
       ∙ ap (λ (s : List ℕ). word_bytes (order_of b) 0 ++ s) (drop-word_at (order_of b) b 12 bytes (omega (arith, f.long)) refl
-      ∙ ap (λ (s : List ℕ). word_bytes (order_of b) (type_len b) ++ s) (drop-word_at (order_of b) b 16 bytes (omega (arith, f.long)) f.str_off
+      ∙ ap (λ (s : List ℕ). word_bytes (order_of b) (type_len b) ++ s) (drop-word_at (order_of b) b 16 bytes (omega (arith, f.long)) f.str_off_is
       ∙ ap (λ (s : List ℕ). word_bytes (order_of b) (type_len b) ++ s) (drop-word_at (order_of b) b 20 bytes (omega (arith, f.long)) refl)))))
 
   -- the type section is the bytes of its words
@@ -78,7 +78,7 @@ module _ (b : List ℕ) (bytes : Bytes b) (f : SectionFacts b) where
   words-bytes =
       bytes_of_words-words (order_of b) (take (type_len b) (drop header_length b))
       (below-take 256 (type_len b) (drop header_length b) (below-drop 256 header_length b bytes))
-      (omega (arith, section-long b f, f.type_len))
+      (omega (arith, section-long b f, f.type_len_is))
 
   -- behind the header stand the type section and the strings
   pub sections-behind : drop header_length b ≡ bytes_of_words (order_of b) (type_words b) ++ strings_in b
@@ -106,10 +106,10 @@ facts-sections f =
     record {
       long = f.long;
       opens = f.opens;
-      header_length = f.header_length;
-      type_off = f.type_off;
-      type_len = f.type_len;
-      str_off = f.str_off;
+      header_length_is = f.header_length_is;
+      type_off_is = f.type_off_is;
+      type_len_is = f.type_len_is;
+      str_off_is = f.str_off_is;
       sum = f.sum;
     }
 

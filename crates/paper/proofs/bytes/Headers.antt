@@ -29,10 +29,10 @@ header_report-facts b e =
       long = ltb-false _ _ lengths.0;
       short = ltb-false _ _ lengths.1;
       opens = same_true (take 4 b) (opening (order_of b)) (not-false _ due.1.0);
-      header_length = differ-false _ _ due.1.1.0;
-      type_off = differ-false _ _ types.0;
-      type_len = differ-false _ _ types.1;
-      str_off = differ-false _ _ offsets.1;
+      header_length_is = differ-false _ _ due.1.1.0;
+      type_off_is = differ-false _ _ types.0;
+      type_len_is = differ-false _ _ types.1;
+      str_off_is = differ-false _ _ offsets.1;
       sum = differ-false _ _ sections.1;
       some_strings = omega arith;
       first_zero = differ-false _ _ starts.1;
@@ -45,9 +45,9 @@ unfolding header_report length_bad opening_bad header_length_bad sections_bad st
 facts-header_report b f =
     let length-good : length_bad b ≡ false = false-or (le-ltb _ _ f.long) (le-ltb _ _ f.short) in
     let opening-good : opening_bad b ≡ false = ap (λ (s : List ℕ). not (same s (opening (order_of b)))) f.opens ∙ ap not (same_refl (opening (order_of b))) in
-    let header-good : header_length_bad b ≡ false = differ-equal _ _ f.header_length in
+    let header-good : header_length_bad b ≡ false = differ-equal _ _ f.header_length_is in
     let sections-good : sections_bad b ≡ false =
-    false-or (false-or (false-or (differ-equal _ _ f.type_off) (differ-equal _ _ f.type_len)) (differ-equal _ _ f.str_off))
+    false-or (false-or (false-or (differ-equal _ _ f.type_off_is) (differ-equal _ _ f.type_len_is)) (differ-equal _ _ f.str_off_is))
     (differ-equal _ _ f.sum) in
     let strings-good : strings_bad b ≡ false =
     false-or (false-or (ne_eqb (str_len b) 0 (λ e. omega arith)) (differ-equal _ _ f.first_zero)) (differ-equal _ _ f.last_zero) in

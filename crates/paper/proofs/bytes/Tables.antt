@@ -129,10 +129,10 @@ module _ (order : Order) (T : Table) where
           long = omega (arith, length-bytes_of);
           short = short;
           opens = ap opening (sym order-bytes_of);
-          header_length = header_length-bytes_of;
-          type_off = type_off-bytes_of;
-          type_len = omega (arith, type_len-bytes_of);
-          str_off = str_off-bytes_of ∙ sym type_len-bytes_of;
+          header_length_is = header_length-bytes_of;
+          type_off_is = type_off-bytes_of;
+          type_len_is = omega (arith, type_len-bytes_of);
+          str_off_is = str_off-bytes_of ∙ sym type_len-bytes_of;
           sum = omega (arith, type_len-bytes_of, str_len-bytes_of, length-bytes_of);
           some_strings = omega (arith, str_len-bytes_of, closed.filled);
           first_zero = ap (λ (s : List ℕ). get_or s 0 0) strings_in-bytes_of ∙ closed.first;

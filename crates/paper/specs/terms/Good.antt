@@ -20,10 +20,10 @@ use Rattle.paper.specs.rules.Word.{word_at}
 pub record SectionFacts (b : List ℕ) : Type 0 where
   pub long : header_length ≤ length b
   pub opens : take 4 b ≡ opening (order_of b)
-  pub header_length : word_at (order_of b) b 4 ≡ header_length
-  pub type_off : type_off b ≡ 0
-  pub type_len : type_len b % 4 ≡ 0
-  pub str_off : str_off b ≡ type_len b
+  pub header_length_is : word_at (order_of b) b 4 ≡ header_length
+  pub type_off_is : type_off b ≡ 0
+  pub type_len_is : type_len b % 4 ≡ 0
+  pub str_off_is : str_off b ≡ type_len b
   pub sum : header_length + type_len b + str_len b ≡ length b
 
 -- phase 1: what a header and the sections behind it are
@@ -31,10 +31,10 @@ pub record HeaderFacts (b : List ℕ) : Type 0 where
   pub long : header_length ≤ length b
   pub short : length b ≤ byte_limit
   pub opens : take 4 b ≡ opening (order_of b)
-  pub header_length : word_at (order_of b) b 4 ≡ header_length
-  pub type_off : type_off b ≡ 0
-  pub type_len : type_len b % 4 ≡ 0
-  pub str_off : str_off b ≡ type_len b
+  pub header_length_is : word_at (order_of b) b 4 ≡ header_length
+  pub type_off_is : type_off b ≡ 0
+  pub type_len_is : type_len b % 4 ≡ 0
+  pub str_off_is : str_off b ≡ type_len b
   pub sum : header_length + type_len b + str_len b ≡ length b
   pub some_strings : 1 ≤ str_len b
   pub first_zero : get_or (strings_in b) 0 0 ≡ 0
