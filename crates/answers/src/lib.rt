@@ -13,7 +13,7 @@ use parts::Parted;
 pub use sections::{of_extended, of_found};
 
 // The number, the number of the report inside a join's refusal, the type or the count, the size, the length or the place.
-#[derive(Drop)]
+#[derive(Clone, Copy)]
 pub struct Numbers {
     pub number: u32,
     pub inner: u32,

@@ -9,14 +9,14 @@ use tables::{count, refused, strings_len};
 use texts::first_of;
 
 // Where a table is cut: behind so many types and bytes of strings, or as the table in a file has them.
-#[derive(Drop)]
+#[derive(Clone, Copy)]
 pub enum Cut {
     At(u32, u32),
     Like,
 }
 
 // The two numbers, or how the call has ended without them.
-#[derive(Drop)]
+#[derive(Clone, Copy)]
 enum Known {
     At(u32, u32),
     Ended(Status),

@@ -10,7 +10,7 @@ use texts::first_of;
 use titles::{put_many, put_size, put_type};
 
 // Everything, one type, those of a name, a type's size, or the name at an offset.
-#[derive(Drop)]
+#[derive(Clone, Copy)]
 pub enum Ask {
     Check,
     All,

@@ -15,7 +15,7 @@ use rows::{
 };
 
 // A cut: the last type and the first name offset past the end of the first part, and on which side of it a record stands.
-#[derive(Drop)]
+#[derive(Clone, Copy)]
 pub struct Cut {
     pub types: TypeNo,
     pub strings: NameOff,

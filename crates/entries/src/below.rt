@@ -8,7 +8,7 @@ use rows::{flag_of, info_of, kind_of, name_of, vlen_of};
 use titles::{put_based, put_entry_name, put_many};
 
 // What is written so far, how many lines members without a name may still get in this call, and whether some were left out.
-#[derive(Drop)]
+#[derive(Clone, Copy)]
 pub struct Listed {
     pub o: Out,
     pub left: u32,
@@ -21,7 +21,7 @@ pub const LEVELS: usize = 8;
 pub const LINES: u32 = 256;
 
 // Which bits of a struct or union a member takes: the first, and how many.
-#[derive(Drop)]
+#[derive(Clone, Copy)]
 pub struct Span {
     pub from: u64,
     pub width: u64,

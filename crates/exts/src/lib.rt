@@ -2,7 +2,7 @@
 use paper::{NameOff, Place, Report};
 
 // The sorts of record, in the order of their parts.
-#[derive(Drop)]
+#[derive(Clone, Copy)]
 pub enum Sort {
     Function,
     Line,
@@ -10,7 +10,7 @@ pub enum Sort {
 }
 
 // What a word of a record is: a number that nothing is asked of, a name offset, a type that is a FUNC, or any type.
-#[derive(Drop)]
+#[derive(Clone, Copy)]
 pub enum Role {
     Plain,
     Name,
@@ -19,7 +19,7 @@ pub enum Role {
 }
 
 // What is wrong with a section beside an accepted table: 41 to 48.
-#[derive(Drop)]
+#[derive(Clone, Copy)]
 pub enum Fault {
     Length,
     Opening,
@@ -32,14 +32,14 @@ pub enum Fault {
 }
 
 // What is found wrong with a section, if anything is.
-#[derive(Drop)]
+#[derive(Clone, Copy)]
 pub enum Judged {
     Sound,
     Faulty(Fault),
 }
 
 // What the check of a section answers: nothing is refused, 40 with the table's report, or 41 to 48.
-#[derive(Drop)]
+#[derive(Clone, Copy)]
 pub enum Extended {
     Accepted,
     TableRefused(Report),
@@ -47,7 +47,7 @@ pub enum Extended {
 }
 
 // Where a record of a section stands, and the name offset of its group; or that there is none.
-#[derive(Drop)]
+#[derive(Clone, Copy)]
 pub enum Found {
     At(NameOff, Place),
     Nowhere,

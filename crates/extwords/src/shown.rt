@@ -8,7 +8,7 @@ use texts::line;
 use titles::put_type;
 
 // How many records each part has.
-#[derive(Drop)]
+#[derive(Clone, Copy)]
 pub(crate) struct Counts {
     pub(crate) functions: u32,
     pub(crate) lines: u32,

@@ -3,7 +3,7 @@ use paper::{BYTE_LIMIT, Place};
 use std::num::wrapping_add_u32;
 
 // Where a walk stands: in which part, up to where that goes, how long its records are, and of the group at hand how many are left and its name.
-#[derive(Drop)]
+#[derive(Clone, Copy)]
 pub(crate) struct Walk {
     pub(crate) part: u32,
     pub(crate) at: u32,
@@ -14,7 +14,7 @@ pub(crate) struct Walk {
 }
 
 // What it meets next: a part, a group, a record; a record size or a group that cannot be; the end.
-#[derive(Drop)]
+#[derive(Clone, Copy)]
 pub(crate) enum Met {
     Part,
     Group,
@@ -25,7 +25,7 @@ pub(crate) enum Met {
 }
 
 // And the place where that begins, and where the walk goes on.
-#[derive(Drop)]
+#[derive(Clone, Copy)]
 pub(crate) struct Step {
     pub(crate) met: Met,
     pub(crate) place: u32,

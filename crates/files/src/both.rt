@@ -5,7 +5,7 @@ use lines::{ROOM, flush, put, put_file};
 use texts::{Number, first_of};
 
 // The modes that the two new files have, where they are asked for: the umask gives one mode alone.
-#[derive(Drop)]
+#[derive(Clone, Copy)]
 pub struct Modes {
     pub one: Number,
     pub two: Number,

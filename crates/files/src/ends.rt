@@ -3,7 +3,7 @@ use crate::reads::fail_text;
 use lines::{Out, ROOM, flush};
 
 // How a call ends: as asked, with a refusal, or as a call that is wrong or whose files cannot be read or written.
-#[derive(Drop)]
+#[derive(Clone, Copy)]
 pub enum Status {
     Done,
     Refused,

@@ -9,14 +9,14 @@ use quotes::file_text;
 pub const READ_LIMIT: usize = BYTE_LIMIT + 1;
 
 // What one read gives: so many bytes, 0 at the end; or that it failed.
-#[derive(Drop)]
+#[derive(Clone, Copy)]
 struct Got {
     n: usize,
     is_read: bool,
 }
 
 // What a whole file gives.
-#[derive(Drop)]
+#[derive(Clone, Copy)]
 pub struct Read {
     pub n: usize,
     pub is_read: bool,

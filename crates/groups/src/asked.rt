@@ -12,7 +12,7 @@ use exts::{Found, Sort};
 use paper::BYTE_LIMIT;
 
 // The part that a record is asked of, if there is one: its sort, and the places where it begins and ends.
-#[derive(Drop)]
+#[derive(Clone, Copy)]
 pub(crate) enum Picked {
     Nothing,
     Part(Sort, u32, u32),

@@ -11,14 +11,14 @@ use paper::{Order, Place};
 use words::blob_word;
 
 // What a header says: its fault, or where the parts begin, each behind the one before, and where the last ends.
-#[derive(Drop)]
+#[derive(Clone, Copy)]
 pub(crate) enum Front {
     Bad(Fault),
     Ends(u32, u32, u32, u32),
 }
 
 // What it says of one part: that it does not follow, or the offset where it ends.
-#[derive(Drop)]
+#[derive(Clone, Copy)]
 pub(crate) enum Next {
     Bad,
     To(u64),

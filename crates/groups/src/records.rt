@@ -11,7 +11,7 @@ use views::{View, kind_at};
 use words::blob_word;
 
 // The words of a record behind its instruction offset; those that a sort does not have are plain numbers.
-#[derive(Drop)]
+#[derive(Clone, Copy)]
 pub(crate) struct Row {
     pub(crate) size: u32,
     pub(crate) second: Role,

@@ -12,14 +12,14 @@ use views::View;
 use words::blob_word;
 
 // What stands at a place of a part: no group, or a group's name offset, its count of records, and where it ends.
-#[derive(Drop)]
+#[derive(Clone, Copy)]
 pub(crate) enum Step {
     Broken,
     Group(u32, u32, u32),
 }
 
 // What a group says: its fault, or where the next begins.
-#[derive(Drop)]
+#[derive(Clone, Copy)]
 pub(crate) enum Turn {
     Bad(Fault),
     Next(u32),

@@ -8,14 +8,14 @@ ghost use Rattle.pairs.specs.Lean.{end_bad, length_bad_behind};
 use paper::{BYTE_LIMIT, Order, Place, Report};
 
 // How long the two sections behind a good header are.
-#[derive(Drop)]
+#[derive(Clone, Copy)]
 pub struct Sections {
     pub types: u32,
     pub strings: u32,
 }
 
 // What phase 1 finds: both sections, or a report.
-#[derive(Drop)]
+#[derive(Clone, Copy)]
 pub enum Header {
     Good(Sections),
     Bad(Report),

@@ -1,4 +1,6 @@
 // Report 10: "head words break the list".
+#![tactic(auto)]
+
 ghost use Rattle.std.specs.Prelude.{◌≡◌};
 ghost use Rattle.paper.specs.rules.Heads.{head_ok, spare_zero};
 ghost use Rattle.paper.specs.terms.Reading.{record_in};

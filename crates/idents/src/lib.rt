@@ -1,5 +1,7 @@
 // Identifiers and section names: a name is gone over once, and never past its 128th byte.
 // A set of bytes is four words of a bit for each byte, so that one look-up answers for a byte, and no branch hangs on which it is.
+#![tactic(auto)]
+
 ghost use Rattle.std.specs.Prelude.{◌≡◌, ◌+◌, ◌≤◌, drop, length};
 ghost use Rattle.paper.specs.rules.Name.{identifier_length, is_section_name, name_in};
 ghost use Rattle.idents.specs.Spelling.{Begun, Lower, Passing, Past, Surely, among, identifier_byte, left_at, run_length, spelt_as_paper};
@@ -7,7 +9,7 @@ ghost use Rattle.idents.specs.Spelling.{Begun, Lower, Passing, Past, Surely, amo
 use paper::NameOff;
 
 // How many bytes a name has, or that it is not what was asked for.
-#[derive(Drop)]
+#[derive(Clone, Copy)]
 pub enum Spelt {
     Bytes(u32),
     Not,

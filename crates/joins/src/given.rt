@@ -6,7 +6,7 @@ use texts::first_of;
 pub const TABLES: u32 = 16;
 
 // The number of the argument that is the verb, and how many tables stand behind it. Behind them stands OUT.
-#[derive(Drop)]
+#[derive(Clone, Copy)]
 pub struct Given {
     pub verb: u32,
     pub count: u32,

@@ -10,7 +10,7 @@ use texts::first_of;
 pub(crate) const KEPT: usize = TABLES as usize;
 
 // What is joined so far has so many bytes; or how the call has ended without it.
-#[derive(Drop)]
+#[derive(Clone, Copy)]
 pub(crate) enum Step {
     Whole(usize),
     Ended(Status),

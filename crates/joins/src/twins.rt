@@ -17,7 +17,7 @@ const NOTES: u32 = 8;
 const LOOKS: u32 = 16;
 
 // The types of one table among those of the joined one: from behind `before` up to `last`.
-#[derive(Drop)]
+#[derive(Clone, Copy)]
 struct Own {
     before: u32,
     last: u32,

@@ -1,4 +1,6 @@
 // The kinds: their names, and the row of each.
+#![tactic(auto)]
+
 mod names; // the kinds' names
 mod table; // the kinds' rows
 

@@ -21,7 +21,7 @@ pub fn size_leaning<'a>(
 }
 
 // Whose strings hold an offset, and which of theirs it is.
-#[derive(Drop)]
+#[derive(Clone, Copy)]
 pub(crate) enum Side {
     Base(NameOff),
     Own(NameOff),
@@ -70,7 +70,7 @@ pub fn nameless_leaning(base: &[u8], own: &[u8], at: NameOff) -> bool
 }
 
 // Where a name lies, and in which blob.
-#[derive(Drop)]
+#[derive(Clone, Copy)]
 pub enum Lying {
     InBase(Part),
     InOwn(Part),

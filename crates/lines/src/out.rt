@@ -10,7 +10,7 @@ pub const ROOM: usize = 65536;
 
 // Where it goes, how many bytes wait in the buffer, whether every write has taken all its bytes, whether lines get a mark, and how many
 // bytes of records and of strings a base has before the table whose places are told: no strings where there is no base.
-#[derive(Drop)]
+#[derive(Clone, Copy)]
 pub struct Out {
     pub fd: i32,
     pub at: usize,

@@ -12,14 +12,14 @@ use recall::mark_of;
 use views::{View, record_of};
 
 // The smallest type that leads to a ring of some sort, if there is one.
-#[derive(Drop)]
+#[derive(Clone, Copy)]
 pub(crate) enum Ring {
     Nowhere,
     From(TypeNo),
 }
 
 // How the search goes on: at a slot of a type; or a reference leads back into the way; or the root is finished.
-#[derive(Drop)]
+#[derive(Clone, Copy)]
 enum Move {
     On(TypeNo, u32),
     Met,

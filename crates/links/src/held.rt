@@ -8,7 +8,7 @@ use recall::FIRST_TELLING;
 use rows::{held_place, kind_of, vlen_of};
 
 // A type that is held, with the number of the slot behind the reference, or that all others are done.
-#[derive(Drop)]
+#[derive(Clone, Copy)]
 pub(crate) enum Held {
     Found(TypeNo, u32),
     Nothing,

@@ -12,7 +12,7 @@ use scan::clear;
 use views::{View, record_of};
 
 // The smallest type with a bad reference, or else the smallest with an endless walk.
-#[derive(Drop)]
+#[derive(Clone, Copy)]
 pub enum Linked {
     Good,
     Reference(TypeNo),

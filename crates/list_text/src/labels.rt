@@ -33,7 +33,7 @@ pub(crate) const THIRD: u32 = 1;
 pub(crate) const TAIL: u32 = 2;
 
 // A word of a kind's text: the line of its label, whether it begins an entry, and whether it is a name.
-#[derive(Drop)]
+#[derive(Clone, Copy)]
 pub(crate) struct Slot {
     pub(crate) line: u32,
     pub(crate) is_entry: bool,

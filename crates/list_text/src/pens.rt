@@ -4,7 +4,7 @@ ghost use Rattle.std.specs.Prelude.{◌≤◌, length};
 use words::lay;
 
 // Where it goes on; whether it is held against what stands there; whether there was room, or all was the same, so far.
-#[derive(Drop)]
+#[derive(Clone, Copy)]
 pub(crate) struct Pen {
     pub(crate) at: usize,
     pub(crate) is_held: bool,

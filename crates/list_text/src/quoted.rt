@@ -9,14 +9,14 @@ const QUOTE: u8 = 34;
 const BACKSLASH: u8 = 92;
 
 // A byte, and how many bytes it is written in; 0 where none can be read.
-#[derive(Drop)]
+#[derive(Clone, Copy)]
 struct Byte {
     c: u8,
     n: usize,
 }
 
 // Where the text goes on, and how many bytes were read.
-#[derive(Drop)]
+#[derive(Clone, Copy)]
 pub(crate) struct Unquoted {
     pub(crate) eye: Eye,
     pub(crate) n: usize,

@@ -12,14 +12,14 @@ use texts::line;
 use titles::KIND_NAMES;
 
 // Where the text goes on, and where the next record would.
-#[derive(Drop)]
+#[derive(Clone, Copy)]
 pub(crate) struct Kept {
     pub(crate) eye: Eye,
     pub(crate) end: usize,
 }
 
 // A head's words: its name, its info word, its third.
-#[derive(Drop)]
+#[derive(Clone, Copy)]
 struct Head {
     eye: Eye,
     name: u32,

@@ -2,7 +2,7 @@
 use std::num::wrapping_add_u32;
 
 // Lines, and the bytes of a line, are counted from 1.
-#[derive(Drop)]
+#[derive(Clone, Copy)]
 pub struct Spot {
     pub line: u32,
     pub byte: u32,

@@ -5,14 +5,14 @@ use paper::Order;
 use words::lay;
 
 // Where the text goes on, and how many bytes of strings were read.
-#[derive(Drop)]
+#[derive(Clone, Copy)]
 pub(crate) struct Strung {
     pub(crate) eye: Eye,
     pub(crate) n: usize,
 }
 
 // The byte order, and where the text goes on behind it.
-#[derive(Drop)]
+#[derive(Clone, Copy)]
 pub(crate) struct Ordered {
     pub(crate) eye: Eye,
     pub(crate) order: Order,

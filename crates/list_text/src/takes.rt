@@ -31,14 +31,14 @@ pub(crate) const QUOTED: u32 = 12;
 pub const LABEL: u32 = 13;
 
 // Where a text is read, and what is expected there in vain; 0 as long as all is there.
-#[derive(Drop)]
+#[derive(Clone, Copy)]
 pub struct Eye {
     pub at: usize,
     pub what: u32,
 }
 
 // And the number that stood there.
-#[derive(Drop)]
+#[derive(Clone, Copy)]
 pub(crate) struct Seen {
     pub(crate) eye: Eye,
     pub(crate) n: u32,

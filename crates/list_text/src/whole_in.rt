@@ -9,7 +9,7 @@ use words::lay;
 const HEADER: usize = 24;
 
 // The length of the table; or where the text cannot be read, and what is expected there.
-#[derive(Drop)]
+#[derive(Clone, Copy)]
 pub enum Taken {
     Table(usize),
     Fault(Eye),

@@ -9,7 +9,7 @@ use views::strings_in;
 use words::rest_from;
 
 // How far a text is what would be written, and whether it is that to its end.
-#[derive(Drop)]
+#[derive(Clone, Copy)]
 pub struct Held {
     pub at: usize,
     pub is_same: bool,

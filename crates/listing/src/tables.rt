@@ -11,7 +11,7 @@ use titles::put_many;
 pub const NESTED: u32 = 4096;
 
 // What is written so far, how many lines are left, how many types' were cut, and how many types were shown.
-#[derive(Drop)]
+#[derive(Clone, Copy)]
 struct Call {
     o: Out,
     left: u32,
@@ -20,7 +20,7 @@ struct Call {
 }
 
 // What a listing by name has written, and whether a type has that name.
-#[derive(Drop)]
+#[derive(Clone, Copy)]
 pub struct Named {
     pub o: Out,
     pub is_found: bool,

@@ -2,7 +2,7 @@
 use paper::Report;
 
 // What writing a list answers: its length, 53, or 54 with the table's report.
-#[derive(Drop)]
+#[derive(Clone, Copy)]
 pub enum Wrote {
     Whole(u32),
     OutputShort,
@@ -10,7 +10,7 @@ pub enum Wrote {
 }
 
 // What is wrong with a list: 50, 51 and 52.
-#[derive(Drop)]
+#[derive(Clone, Copy)]
 pub enum Fault {
     UnknownTag,
     CutShort,
@@ -18,7 +18,7 @@ pub enum Fault {
 }
 
 // What reading a list answers: the table's length, 50 to 52, 53, or 54 with the table's report.
-#[derive(Drop)]
+#[derive(Clone, Copy)]
 pub enum Made {
     Whole(u32),
     Unread(Fault),

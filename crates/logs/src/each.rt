@@ -11,7 +11,7 @@ use titles::{put_many, put_type};
 use words::rest_from;
 
 // What is written so far, how many records, and how many bytes they have.
-#[derive(Drop)]
+#[derive(Clone, Copy)]
 struct Told {
     l: Listed,
     count: u64,
@@ -19,7 +19,7 @@ struct Told {
 }
 
 // The same behind some bytes: how many of them are no whole record, whether more can follow, and whether they could be read.
-#[derive(Drop)]
+#[derive(Clone, Copy)]
 struct Turn {
     c: Told,
     left: usize,

@@ -9,7 +9,7 @@ use texts::first_of;
 use titles::put_many;
 
 // How many bytes were counted, and whether all could be read.
-#[derive(Drop)]
+#[derive(Clone, Copy)]
 struct Counted {
     n: u64,
     is_read: bool,

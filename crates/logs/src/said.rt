@@ -10,7 +10,7 @@ use titles::{put_many, put_type};
 pub const RECORD_LIMIT: usize = 65536;
 
 // What is read: a struct or union by its number, in a table of so many types, and how many bytes it has.
-#[derive(Drop)]
+#[derive(Clone, Copy)]
 pub struct Asked {
     pub n: u32,
     pub t: u32,

@@ -10,7 +10,7 @@ use paper::{Order, Place, TYPE_LIMIT};
 use rows::{is_known, kind_of, tail_words, vlen_of};
 
 // How the pass went: a record was not told; or every type is settled, or some are open.
-#[derive(Drop)]
+#[derive(Clone, Copy)]
 pub(crate) enum Ran {
     Untold,
     Settled(u32),

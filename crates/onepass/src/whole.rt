@@ -13,7 +13,7 @@ use scan::clear;
 use views::strings_in;
 
 // A table that is good for sure, or one of which phases 1 to 3 have nothing to say, with its count of types; or nothing is told.
-#[derive(Drop)]
+#[derive(Clone, Copy)]
 pub enum Sure {
     Good(u32),
     Read(u32),

@@ -9,33 +9,33 @@ pub const BYTE_LIMIT: usize = 262144;
 pub const FULL_PLACES: usize = 16385;
 
 // The number of a type: 0 is void, the records are numbered from 1.
-#[derive(Drop)]
+#[derive(Clone, Copy)]
 pub struct TypeNo(pub u32);
 
 // An offset into the string section.
-#[derive(Drop)]
+#[derive(Clone, Copy)]
 pub struct NameOff(pub u32);
 
 // The place of a byte in a blob.
-#[derive(Drop)]
+#[derive(Clone, Copy)]
 pub struct Place(pub u32);
 
 // A part of a blob: where it begins, and how many bytes it has.
-#[derive(Drop)]
+#[derive(Clone, Copy)]
 pub struct Part {
     pub start: Place,
     pub length: u32,
 }
 
 // How the four bytes of a word stand: the low byte first, or the high.
-#[derive(Drop)]
+#[derive(Clone, Copy)]
 pub enum Order {
     LowFirst,
     HighFirst,
 }
 
 // The gate's reports 1 to 15, in the paper's order: the type that each names, and where its record stands in the blob.
-#[derive(Drop)]
+#[derive(Clone, Copy)]
 pub enum Report {
     Length,
     Opening,
@@ -55,14 +55,14 @@ pub enum Report {
 }
 
 // What a check answers: the count of types, or a report.
-#[derive(Drop)]
+#[derive(Clone, Copy)]
 pub enum Checked {
     Accepted(u32),
     Refused(Report),
 }
 
 // What the size question answers: the exact size, no size, overflow, 21 and 22.
-#[derive(Drop)]
+#[derive(Clone, Copy)]
 pub enum Sized {
     Exact(u32),
     NoSize,
@@ -72,7 +72,7 @@ pub enum Sized {
 }
 
 // What a join answers: the joined length, 16, 17, 24, 18, 19 and 20.
-#[derive(Drop)]
+#[derive(Clone, Copy)]
 pub enum Joined {
     Whole(u32),
     FirstRefused(Report),
@@ -84,7 +84,7 @@ pub enum Joined {
 }
 
 // What the check of a table that leans on a base answers: the count of both tables' types, 25 with the base's report, 26, or a report of the leaning table.
-#[derive(Drop)]
+#[derive(Clone, Copy)]
 pub enum Leaned {
     Accepted(u32),
     BaseRefused(Report),

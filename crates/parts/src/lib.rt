@@ -2,7 +2,7 @@
 use paper::Report;
 
 // What taking a table apart answers: the lengths of both parts, the blob's own report, 60 and 61.
-#[derive(Drop)]
+#[derive(Clone, Copy)]
 pub enum Parted {
     Apart(u32, u32),
     Refused(Report),

@@ -12,7 +12,7 @@ use rules::Due;
 use views::{View, place_of, record_of, strings_in};
 
 // What a phase says: nothing, or a report.
-#[derive(Drop)]
+#[derive(Clone, Copy)]
 pub enum Said {
     Nothing,
     Says(Report),

@@ -1,4 +1,6 @@
 // A type number and a name offset raised, as a join raises those of its second table. The two cannot be exchanged: they are different types.
+#![tactic(auto)]
+
 ghost use Rattle.std.specs.Prelude.{◌≡◌, ◌%◌};
 ghost use Rattle.paper.specs.rules.Rename.{raise};
 

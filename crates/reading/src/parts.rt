@@ -11,7 +11,7 @@ use values::MemberSpan;
 use views::View;
 
 // A member or an element: its type, its bits, counted from the start of what holds it, and how they are read there.
-#[derive(Drop)]
+#[derive(Clone, Copy)]
 pub(crate) struct Part {
     pub t: u32,
     pub from: u64,

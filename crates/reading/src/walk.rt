@@ -76,7 +76,7 @@ fn put_part(
 }
 
 // What a line leaves: what is written, the struct, union or array that it is of, 0 where it is of none, and the bit where that begins.
-#[derive(Drop)]
+#[derive(Clone, Copy)]
 struct Step {
     o: Out,
     inner: u32,

@@ -2,7 +2,7 @@
 use logs::RECORD_LIMIT;
 
 // So many bytes, a digit that has no second, or a byte that is no digit.
-#[derive(Drop)]
+#[derive(Clone, Copy)]
 pub enum Decoded {
     Bytes(usize),
     Odd,

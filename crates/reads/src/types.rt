@@ -9,7 +9,7 @@ use rows::{info_of, kind_of};
 use titles::put_type;
 
 // How many structs and unions have a name, and the first of them.
-#[derive(Drop)]
+#[derive(Clone, Copy)]
 pub(crate) struct Found {
     pub count: u32,
     pub first: u32,

@@ -14,7 +14,7 @@ use texts::{Number, first_of, parse};
 use titles::put_type;
 
 // Where records come from: bytes that are given, the start of a file, or a whole file.
-#[derive(Drop)]
+#[derive(Clone, Copy)]
 pub enum Source {
     Bytes,
     One,

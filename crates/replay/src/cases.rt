@@ -15,7 +15,7 @@ pub(crate) const BYTES: usize = 280000;
 pub(crate) const GIVEN: usize = 70000;
 
 // The op, the places and bytes that are lent, the two numbers that are passed, and the lengths of a and b.
-#[derive(Drop)]
+#[derive(Clone, Copy)]
 pub(crate) struct Head {
     pub op: u32,
     pub index: u32,
@@ -28,7 +28,7 @@ pub(crate) struct Head {
 }
 
 // An answer's four numbers, and the sums of what was lent.
-#[derive(Drop)]
+#[derive(Clone, Copy)]
 pub(crate) struct Seen {
     pub number: u32,
     pub inner: u32,
@@ -39,20 +39,20 @@ pub(crate) struct Seen {
     pub output: u32,
 }
 
-#[derive(Drop)]
+#[derive(Clone, Copy)]
 pub(crate) enum HeadRead {
     Got(Head),
     Cut,
 }
 
-#[derive(Drop)]
+#[derive(Clone, Copy)]
 pub(crate) enum SeenRead {
     Got(Seen),
     Cut,
 }
 
 // What a file begins with: the number of its cases, or bytes that no vector file begins with.
-#[derive(Drop)]
+#[derive(Clone, Copy)]
 pub(crate) enum Opening {
     Cases(u32),
     Foreign,

@@ -20,7 +20,7 @@ use paper::{NameOff, TypeNo};
 use sums::{bytes_lent, fill_bytes, fill_places, of_bytes, of_places, places_lent};
 
 // What running a case gives: what was seen; that there is no such op; or that the case asks for more than the op's arrays hold.
-#[derive(Drop)]
+#[derive(Clone, Copy)]
 pub(crate) enum Ran {
     Saw(Seen),
     Unknown,

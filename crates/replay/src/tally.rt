@@ -3,14 +3,14 @@ ghost use Rattle.std.specs.Prelude.{◌≡◌, ◌<◌};
 ghost use Rattle.replay.specs.Count.{Counted, ran};
 
 // A case that ran agreed or differed.
-#[derive(Drop)]
+#[derive(Clone, Copy)]
 pub(crate) enum Outcome {
     Agreed,
     Differed,
 }
 
 // A case ran, or the input ends inside it, or it asks for more than the buffers hold.
-#[derive(Drop)]
+#[derive(Clone, Copy)]
 pub(crate) enum Turn {
     Ran(Outcome),
     Cut,
@@ -18,7 +18,7 @@ pub(crate) enum Turn {
 }
 
 // The counts, and whether the file was read to its last case.
-#[derive(Drop)]
+#[derive(Clone, Copy)]
 pub(crate) struct Tally {
     pub agreed: u32,
     pub differed: u32,

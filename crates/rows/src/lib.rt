@@ -1,4 +1,6 @@
 // What an info word says, and the row of each kind: what its head may hold, the role of each word, where its size comes from.
+#![tactic(auto)]
+
 mod firsts; // the words of a head
 mod heads; // what a head may hold
 mod info; // the parts of an info word

@@ -11,7 +11,7 @@ use paper::Order;
 use tails::tail_ok;
 
 // What phase 3 says of a record: nothing, or 10, 11 or 12.
-#[derive(Drop)]
+#[derive(Clone, Copy)]
 pub enum Due {
     Nothing,
     Head,

@@ -11,7 +11,7 @@ use header::Header;
 use paper::{Place, Report, TYPE_LIMIT};
 
 // What phases 1 and 2 find: the count of types, or a report.
-#[derive(Drop)]
+#[derive(Clone, Copy)]
 pub enum Scanned {
     Counted(u32),
     Refused(Report),

@@ -6,7 +6,7 @@ use paper::{Place, Report, TYPE_LIMIT, TypeNo};
 use rows::{is_known, kind_of, tail_words};
 
 // What stands at a record's place: the place behind the record, or why there is none.
-#[derive(Drop)]
+#[derive(Clone, Copy)]
 pub(crate) enum Behind {
     Next(Place),
     Cut,
@@ -14,7 +14,7 @@ pub(crate) enum Behind {
 }
 
 // What a walk of the type section finds: the count of types, those before it and its records, or a report.
-#[derive(Drop)]
+#[derive(Clone, Copy)]
 pub(crate) enum Walked {
     Whole(u32),
     Stopped(Report),

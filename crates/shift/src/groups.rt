@@ -8,7 +8,7 @@ use paper::{NameOff, Order, Place, TypeNo};
 use rows::{is_name, is_reference, name_role, third_role};
 
 // By how much type numbers and name offsets are raised, and the byte order of the words that are.
-#[derive(Drop)]
+#[derive(Clone, Copy)]
 pub struct Shift {
     pub order: Order,
     pub types: TypeNo,
@@ -16,7 +16,7 @@ pub struct Shift {
 }
 
 // How many words a group has, three at the most, and the role of each.
-#[derive(Drop)]
+#[derive(Clone, Copy)]
 pub(crate) struct Group {
     pub(crate) words: u32,
     pub(crate) first: u32,

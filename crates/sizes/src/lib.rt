@@ -15,7 +15,7 @@ use rows::{is_known, kind_of, size_rule};
 pub use shown::{size_in, step_in};
 
 // What one record says of a size: it, so many times another type's, none, or that it cannot be read.
-#[derive(Drop)]
+#[derive(Clone, Copy)]
 pub enum Step {
     Is(u32),
     ManyOf(u32, TypeNo),

@@ -17,7 +17,7 @@ use paper::{Order, Place};
 use rows::kind_of;
 
 // Where a span lies: nowhere, or from a bit on, so many bits.
-#[derive(Drop)]
+#[derive(Clone, Copy)]
 pub enum Lies {
     Nowhere,
     From(u64, u64),

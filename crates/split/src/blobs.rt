@@ -5,7 +5,7 @@ ghost use Rattle.split.specs.Parting.{PartAsk, PartPut};
 use shift::{Shift, put_header, raise_records};
 
 // Where the records and the strings of a part stand in the blob: `records` many from a place on, that have `types` bytes; and `strings` bytes.
-#[derive(Drop)]
+#[derive(Clone, Copy)]
 pub(crate) struct Piece {
     pub(crate) from: usize,
     pub(crate) records: u32,

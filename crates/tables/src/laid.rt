@@ -9,14 +9,14 @@ use paper::{Checked, FULL_PLACES, Leaned};
 use texts::first_of;
 
 // Whether a table leans on a base, and how many types that has.
-#[derive(Drop)]
+#[derive(Clone, Copy)]
 pub struct Lean {
     pub is_there: bool,
     pub n: u32,
 }
 
 // How many bytes the table has that is asked of, and what it leans on; or how the call has ended without one.
-#[derive(Drop)]
+#[derive(Clone, Copy)]
 pub enum Laid {
     Table(usize, Lean),
     Ended(Status),

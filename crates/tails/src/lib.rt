@@ -1,4 +1,6 @@
 // Report 12: "a tail word breaks the list".
+#![tactic(auto)]
+
 ghost use Rattle.std.specs.Prelude.{◌≡◌, [], ◌∷◌, ◌<◌};
 ghost use Rattle.paper.specs.rules.Choice.{member};
 ghost use Rattle.paper.specs.terms.Reading.{record_in};

@@ -10,7 +10,7 @@ use rows::is_known;
 const MOST: usize = 65535;
 
 // What some bytes begin with: a fault, or the tag of a body, how many bytes it has, and where its last field ends.
-#[derive(Drop)]
+#[derive(Clone, Copy)]
 pub(crate) enum Body {
     Bad(Fault),
     Whole(u32, usize, usize),

@@ -9,7 +9,7 @@ use rows::is_known;
 pub(crate) const CARRY: u32 = 127;
 
 // What some bytes begin with: a fault, or a tag and the length of its body, which stands behind three bytes.
-#[derive(Drop)]
+#[derive(Clone, Copy)]
 pub(crate) enum Field {
     Bad(Fault),
     Taken(u32, usize),

@@ -10,7 +10,7 @@ use paper::Order;
 use totals::{Totals, after};
 
 // The table that a list is read as: the byte order, how many bytes its strings have, how many records there are and how many bytes they have.
-#[derive(Drop)]
+#[derive(Clone, Copy)]
 pub struct Sections {
     pub order: Order,
     pub strings: usize,
@@ -18,14 +18,14 @@ pub struct Sections {
 }
 
 // What a list is read as: 50 to 52, or a table.
-#[derive(Drop)]
+#[derive(Clone, Copy)]
 pub enum Measured {
     Unread(Fault),
     Table(Sections),
 }
 
 // What some bytes are read as: 50 to 52, or so many records.
-#[derive(Drop)]
+#[derive(Clone, Copy)]
 pub(crate) enum Counted {
     Bad(Fault),
     All(Totals),

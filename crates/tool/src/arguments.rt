@@ -3,7 +3,7 @@ use files::fail_text;
 use texts::{Number, first_of, parse};
 
 // An argument's length in the lent bytes, and whether it is there as a whole.
-#[derive(Drop)]
+#[derive(Clone, Copy)]
 pub(crate) struct Arg {
     pub n: usize,
     pub is_whole: bool,

@@ -2,7 +2,7 @@
 use crate::joining::MOST;
 use wrongs::{FEW_TABLES, MANY_TABLES, TOO_FEW, TOO_MANY};
 
-#[derive(Drop)]
+#[derive(Clone, Copy)]
 pub(crate) enum Verb {
     Check,
     Show,

@@ -4,7 +4,7 @@ ghost use Rattle.totals.specs.Running.{later};
 
 use std::num::wrapping_add_usize;
 
-#[derive(Drop)]
+#[derive(Clone, Copy)]
 pub struct Totals {
     pub types: usize,
     pub bytes: usize,

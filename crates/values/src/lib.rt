@@ -13,7 +13,7 @@ use reading::{bytes_at, value_at};
 pub use signs::sixteen;
 
 // How a member's bits are read, or why they are not: 35, 21 and 31 whatever the record is, 32 and 33 behind its length.
-#[derive(Drop)]
+#[derive(Clone, Copy)]
 pub enum Sort {
     Unsigned,
     Signed,
@@ -25,7 +25,7 @@ pub enum Sort {
 }
 
 // A member of a type, before there is a record: the bytes that the type has, the first bit of the span, and its bits; 0 where there is none.
-#[derive(Drop)]
+#[derive(Clone, Copy)]
 pub struct MemberSpan {
     pub sort: Sort,
     pub size: u32,
@@ -34,7 +34,7 @@ pub struct MemberSpan {
 }
 
 // What a member of a record says: its value, that it is longer than 64 bits, or a refusal: 34, 35, 21, 31, 30, 32 and 33.
-#[derive(Drop)]
+#[derive(Clone, Copy)]
 pub enum Valued {
     Unsigned(u64),
     Signed(i64),
@@ -49,7 +49,7 @@ pub enum Valued {
 }
 
 // The value, beside its span. A longer one is the sixteen bytes, low byte first; beside any other answer they are 0.
-#[derive(Drop)]
+#[derive(Clone, Copy)]
 pub struct MemberValue {
     pub value: Valued,
     pub from: u64,

@@ -9,7 +9,7 @@ use paper::{Order, Place, TypeNo};
 use rows::kind_of;
 
 // How a table is looked at: how many types its index shows, the byte order of their words, and how many of the types stand in the base.
-#[derive(Drop)]
+#[derive(Clone, Copy)]
 pub struct View {
     pub n: u32,
     pub before: u16,

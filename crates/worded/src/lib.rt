@@ -9,7 +9,7 @@ pub use heads::put_head;
 
 // What a record is looked at for: a report's number; how many types there are; the bytes that break the rule, none where both
 // places are the same.
-#[derive(Drop)]
+#[derive(Clone, Copy)]
 pub struct Look {
     pub number: u32,
     pub n: u32,

@@ -12,7 +12,7 @@ use rows::{
 use texts::line;
 
 // Which word of a tail: its entry, from 1, or 0 where it stands once; its number there, from 0; its role.
-#[derive(Drop)]
+#[derive(Clone, Copy)]
 pub(crate) struct Spot {
     entry: u64,
     which: u32,

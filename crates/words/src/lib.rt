@@ -1,5 +1,7 @@
 // Words of 32 bits at a place of a slice, in a byte order; the order of a blob; the bytes from a place on; a run of bytes laid over others.
 // Total: a word that is not wholly inside reads as 0 and is not written, and a run that does not fit is not laid.
+#![tactic(auto)]
+
 ghost use Rattle.std.specs.Prelude.{◌≡◌, ◌+◌, ◌%◌, ◌≤◌, length};
 ghost use Rattle.paper.specs.declared.Order.TheVariants.{HighFirst, LowFirst};
 ghost use Rattle.paper.specs.rules.Header.{order_of};

@@ -1,0 +1,31 @@
+-- `rows::roles::once_role` meets its contract: a column for each of three places, and past them a plain number.
+use mathlib.Core.Path.{refl}
+use Rattle.paper.specs.rules.Kind.{Row, rows, row_of}
+use Rattle.kindrows.specs.Codes.{role_at, tail_code}
+use Rattle.kindrows.proofs.Columns.{column-is}
+use Rattle.rows.proofs.RoleCodes.{once-few, role_at-past}
+use Rattle.rows.proofs.roles.once_role.Goals as goal
+
+pub returns-in-0 : goal.returns-in-0
+unfolding tail_code rows
+returns-in-0 c =
+    rw c.in-0.is
+    (column-is tail_code (λ (r : Row). role_at r.once 0) 281474976710656 refl _ c.tail_row.ensures c.column.ensures)
+
+pub returns-in-1 : goal.returns-in-1
+unfolding tail_code rows
+returns-in-1 c =
+    rw c.in-1.is
+    (column-is tail_code (λ (r : Row). role_at r.once 1) 1099511627776 refl _ c.tail_row-in-1.ensures c.column-in-1.ensures)
+
+pub returns-in-2 : goal.returns-in-2
+unfolding tail_code rows
+returns-in-2 c =
+    rw c.in-2.is
+    (column-is tail_code (λ (r : Row). role_at r.once 2) 4294967296 refl _ c.tail_row-in-2.ensures c.column-in-2.ensures)
+
+pub returns-in_default : goal.returns-in_default
+returns-in_default c =
+    let a = c.args in
+    let r = c.in_default.in_default-own.rest in
+    role_at-past (row_of a.kind).once a.i (once-few a.kind) r.0.0.1 r.0.1 r.1
