@@ -1,4 +1,6 @@
 // Order 8: a .BTF.ext section beside the table that an index shows, of any bytes and any index, 41 to 48; and the records of a section alone.
+#![tactic(auto)]
+
 mod records; // one record, its words by their roles
 mod walk; // records, groups and a part: one walk for all sorts of record
 mod front; // the header, and where the parts begin and end

@@ -1,5 +1,7 @@
 // Report 11: "a name breaks the list". A record's words are gone over three at a time, each by its role.
 // Names stand in two string sections, one behind the other: `base` is that of the table that is leaned on, of no bytes where there is none.
+#![tactic(auto)]
+
 mod optional; // a name that may be missing
 
 ghost use Rattle.std.specs.Prelude.{◌≡◌, true, [], ◌∷◌, ◌+◌, ◌<◌, ◌≤◌, ltb, length};

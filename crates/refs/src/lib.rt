@@ -1,4 +1,6 @@
 // Phase 4, report 13: "a reference above n or to a forbidden kind". A record's words are gone over three at a time, each by its role.
+#![tactic(auto)]
+
 mod quick; // the common records whose references are good, with no look at a row
 
 ghost use Rattle.std.specs.Prelude.{◌≡◌, true, [], ◌∷◌, ◌<◌, ◌≤◌};

@@ -1,4 +1,6 @@
 // The exact size of a type, asked of any blob and any index. Counts are multiplied down the chain of records.
+#![tactic(auto)]
+
 mod shown; // of a type of the table that an index shows
 
 ghost use Rattle.std.specs.Prelude.{◌≡◌, ◌*◌, ◌≤◌, not};

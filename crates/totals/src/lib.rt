@@ -1,4 +1,6 @@
 // The running totals of types and bytes, as a list's fields are taken: "handed back at first and later changed in place".
+#![tactic(auto)]
+
 ghost use Rattle.std.specs.Prelude.{◌≡◌};
 ghost use Rattle.totals.specs.Running.{later};
 

@@ -1,5 +1,7 @@
 // The table that an index shows: the one place that knows where a type's record stands. Any bytes, any index, any number of types.
 // `base` is the blob that a table leans on; of a table that stands alone it has no bytes, and the view none of its types.
+#![tactic(auto)]
+
 ghost use Rattle.std.specs.Prelude.{◌≡◌, drop};
 ghost use Rattle.paper.specs.rules.Table.{kind_at};
 ghost use Rattle.paper.specs.rules.Word.{word_at};

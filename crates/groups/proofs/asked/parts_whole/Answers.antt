@@ -1,0 +1,8 @@
+-- `groups::asked::parts_whole` meets its contract: each of the three.
+use Rattle.groups.proofs.Picks.{parts-whole-is}
+use Rattle.groups.proofs.asked.parts_whole.Goals as goal
+
+pub returns : goal.returns
+returns c =
+    let a = c.args in
+    parts-whole-is a.s.now a.from a.first a.second a.end c.part_whole.ensures c.part_whole-2.ensures c.part_whole-3.ensures
