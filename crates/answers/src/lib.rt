@@ -1,4 +1,6 @@
 // Every answer in the paper's four numbers, for what hands them out: the test vectors and the C interface.
+#![tactic(auto)]
+
 mod sections; // those about a .BTF.ext section
 
 ghost use Rattle.std.specs.Prelude.{◌≡◌};

@@ -1,4 +1,6 @@
 // A table that is good for sure, told by one look at each record.
+#![tactic(auto)]
+
 mod looks; // what a record says of its type
 mod fields; // what a struct or a union with bit fields says
 mod arrays; // what an ARRAY says

@@ -1,4 +1,6 @@
 // What is handed out of a member's answer, to test vectors and to C: its numbers, and the sixteen bytes of its value; and its span in places, and back.
+#![tactic(auto)]
+
 mod spans; // a span in places
 
 ghost use Rattle.std.specs.Prelude.{◌≡◌};

@@ -1,4 +1,6 @@
 // A member's span from a blob and an index alone: read once for a type, and used for every record. It trusts nobody, as the size question does.
+#![tactic(auto)]
+
 mod found; // what is said of a member of a type's record
 mod shown; // what an index shows: how many types, and which have no place
 

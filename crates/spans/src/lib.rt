@@ -1,4 +1,6 @@
 // A member's span: which bits of a record it takes, of any table that an index shows. Sums are in 64 bits, since an offset and a span pass 2^32 together.
+#![tactic(auto)]
+
 mod bases; // the base of a type
 mod members; // the span of a member, by its words
 

@@ -1,4 +1,6 @@
 // What a member of a record says: the span of its bits, and the value that those bits are in a record's bytes.
+#![tactic(auto)]
+
 mod judging; // which rule is due
 mod numbers; // the number of a span's bits
 mod reading; // what a span inside the record says

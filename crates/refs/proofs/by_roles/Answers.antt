@@ -2,12 +2,12 @@
 use mathlib.Core.Bool.{not}
 use mathlib.Core.Path.{ap}
 use mathlib.Core.Path.{refl, sym, ◌∙◌}
-use mathlib.Core.Logic.{⊎_elim}
 use Rattle.paper.specs.rules.References.{ref_word_ok, refs_ok}
 use Rattle.views.specs.Shown.{table_by}
 use Rattle.rows.proofs.ByRole.{record-head, record-tail}
 use Rattle.refs.proofs.References.{head-ref, word_none}
 use Rattle.refs.proofs.by_roles.Goals as goal
+use Rattle.refs.proofs.by_roles.Goals.{then-is_reference+else-not-ref_ok, else-is_reference}
 
 pub ref_ok-requires : goal.ref_ok-requires
 ref_ok-requires c = sym c.is_reference.ensures ∙ c.if-is_reference.true
@@ -25,10 +25,13 @@ unfolding refs_ok
 returns c =
     let a = c.args in
     let T = table_by a.base.now a.b.now a.index.now a.view in
-    ⊎_elim
-    (λ x. record-tail a.view.order (ref_word_ok T) a.bytes.now c.read-info.ensures c.kind_of.ensures refl c.third_role-role.ensures
-    (head-ref a.view.order T a.bytes.now c.kind_of.result c.third_role-role.result x.1.ensures) x.2.left c.tail_refs_ok.ensures)
-    (λ x. record-tail a.view.order (ref_word_ok T) a.bytes.now c.read-info.ensures c.kind_of.ensures refl c.third_role-role.ensures
-    (head-ref a.view.order T a.bytes.now c.kind_of.result c.third_role-role.result
-    (word_none T _ c.third_role-role.result (sym c.is_reference.ensures ∙ x.left))) refl c.tail_refs_ok.ensures)
-    c.if-is_reference.branch
+    elim c.if-is_reference.branch [
+      | then-is_reference+else-not-ref_ok w ↦
+          record-tail a.view.order (ref_word_ok T) a.bytes.now c.read-info.ensures c.kind_of.ensures refl c.third_role-role.ensures
+          (head-ref a.view.order T a.bytes.now c.kind_of.result c.third_role-role.result w.ref_ok.ensures) (ap not w.if-not-ref_ok.false)
+          c.tail_refs_ok.ensures
+      | else-is_reference w ↦
+          record-tail a.view.order (ref_word_ok T) a.bytes.now c.read-info.ensures c.kind_of.ensures refl c.third_role-role.ensures
+          (head-ref a.view.order T a.bytes.now c.kind_of.result c.third_role-role.result
+          (word_none T _ c.third_role-role.result (sym c.is_reference.ensures ∙ w.if-is_reference.false))) refl c.tail_refs_ok.ensures
+    ]
