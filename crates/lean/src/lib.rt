@@ -1,4 +1,6 @@
 // A table that leans on a base: its check, the size of a type of either, and the name at an offset of both. Any bytes.
+#![tactic(auto)]
+
 mod checks; // the check
 mod questions; // size and name
 

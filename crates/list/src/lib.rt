@@ -1,4 +1,6 @@
 // A table written out as the house list, and read back.
+#![tactic(auto)]
+
 mod bodies; // a body in as many fields as it takes
 mod making; // the table of a list is laid
 mod reading; // the list, the lengths, the check of its table, the answer

@@ -1,0 +1,9 @@
+use Rattle.glance.proofs.FitsLeft.{Fitting}
+use Rattle.paper.specs.terms.Reading.{record_in}
+use Rattle.glance.proofs.looks.members_fit.Given as goal
+
+abbrev pub invariant-loop-left : goal.invariant-loop-left
+invariant-loop-left l = Fitting l.work (record_in l.order l.bytes) l.order l.bytes l.p l.left l.before
+
+abbrev pub decreases-loop-left : goal.decreases-loop-left
+decreases-loop-left l = l.left
