@@ -1,5 +1,7 @@
 // Reading the records themselves: a member of a record by a table that is checked here. Who reads many records checks once, asks `members::span_of` once for a
 // member and `values::value_of` for each record: proofs/Demands.antt has the law that these give the same.
+#![tactic(auto)]
+
 ghost use Rattle.std.specs.Prelude.{length};
 ghost use Rattle.record.specs.Gives.{MemberOf};
 

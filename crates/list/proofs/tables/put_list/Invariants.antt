@@ -1,0 +1,11 @@
+use Prim.Native.Nat.{◌-◌}
+use mathlib.Core.Path.{◌≡◌}
+use Rattle.list.proofs.Walking.{Laying}
+use Rattle.paper.specs.rules.Header.{order_of}
+use Rattle.list.proofs.tables.put_list.Given as goal
+
+abbrev pub invariant-loop-p : goal.invariant-loop-p
+invariant-loop-p l = (l.order ≡ order_of l.b) × Laying l.b l.end l.p l.q l.out
+
+abbrev pub decreases-loop-p : goal.decreases-loop-p
+decreases-loop-p l = l.end - l.p
