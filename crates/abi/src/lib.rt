@@ -1,4 +1,6 @@
 // The entry points for C, as include/scrieve.h declares them. An answer is four numbers, or five where there is a span or a record, of which as many are handed out as fit.
+#![tactic(auto)]
+
 ghost use Rattle.std.specs.Prelude.{◌≡◌, length};
 ghost use Rattle.abi.specs.Told.{CheckTold, ExtTold, JoinTold, LeanTold, ListTold, MakeTold, MemberTold, SplitTold, ValueTold, given_in, part_answer, part_over, record_in, span_in, told_in, told_wide};
 ghost use Rattle.answers.specs.Numbers.{as_paper};

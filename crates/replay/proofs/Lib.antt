@@ -4,4 +4,3 @@ pub mod Runs
 pub mod Overs
 pub mod Aparts
 pub mod Keepings
-pub mod Extendings

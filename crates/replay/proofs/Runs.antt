@@ -20,7 +20,6 @@ use Rattle.sums.specs.Sum.{sum_of, lent_places, lent_bytes}
 use Rattle.values.specs.Given.{given_as_paper}
 use Rattle.values.specs.declared.MemberValue.{MemberValue}
 use Rattle.replay.specs.Apart.{apart_seen}
-use Rattle.replay.specs.Beside.{ext_seen, record_seen}
 use Rattle.replay.specs.Case.{check_seen, size_seen, name_seen, join_seen, member_seen, plainly, seen_sums}
 use Rattle.replay.specs.Kept.{read_seen, write_seen}
 use Rattle.replay.specs.Over.{lean_seen, size_cut_seen, name_over_seen}
@@ -105,13 +104,11 @@ module _ (must : Seen) where
 
 module _ (h : Head) (a b : List ℕ) where
   pub run-unknown : (h.op ≡ 1 → ⊥) → (h.op ≡ 2 → ⊥) → (h.op ≡ 3 → ⊥) → (h.op ≡ 4 → ⊥) → (h.op ≡ 5 → ⊥)
-      → (h.op ≡ 6 → ⊥) → (h.op ≡ 7 → ⊥) → (h.op ≡ 8 → ⊥) → (h.op ≡ 9 → ⊥) → (h.op ≡ 10 → ⊥) → (h.op ≡ 11 → ⊥) → (h.op ≡ 12 → ⊥)
-      → (h.op ≡ 13 → ⊥) → RunOf Unknown h a b
+      → (h.op ≡ 6 → ⊥) → (h.op ≡ 7 → ⊥) → (h.op ≡ 8 → ⊥) → (h.op ≡ 9 → ⊥) → (h.op ≡ 10 → ⊥) → (h.op ≡ 11 → ⊥) → RunOf Unknown h a b
   unfolding RunOf
-  run-unknown one two three four five six seven eight nine ten eleven twelve thirteen =
+  run-unknown one two three four five six seven eight nine ten eleven =
       rw (ne_eqb _ _ one, ne_eqb _ _ two, ne_eqb _ _ three, ne_eqb _ _ four, ne_eqb _ _ five)
-      (rw (ne_eqb _ _ six, ne_eqb _ _ seven, ne_eqb _ _ eight, ne_eqb _ _ nine, ne_eqb _ _ ten, ne_eqb _ _ eleven)
-      (rw (ne_eqb _ _ twelve, ne_eqb _ _ thirteen) refl))
+      (rw (ne_eqb _ _ six, ne_eqb _ _ seven, ne_eqb _ _ eight, ne_eqb _ _ nine, ne_eqb _ _ ten, ne_eqb _ _ eleven) refl)
 
   pub run-check : (r : Ran) → h.op ≡ 1 → RanAs r (check_seen a h.index h.work (lent_bytes h.output)) → RunOf r h a b
   unfolding RunOf
@@ -158,12 +155,3 @@ module _ (h : Head) (a b : List ℕ) where
   pub run-name-over : (r : Ran) → h.op ≡ 11 → RanAs r (name_over_seen h.x a b) → RunOf r h a b
   unfolding RunOf
   run-name-over r op e = rw op e
-
-  -- a section, and a record of it
-  pub run-ext : (r : Ran) → h.op ≡ 12 → RanAs r (ext_seen a b h.index h.work (lent_bytes h.output)) → RunOf r h a b
-  unfolding RunOf
-  run-ext r op e = rw op e
-
-  pub run-record : (r : Ran) → h.op ≡ 13 → RanAs r (record_seen h.x h.y a) → RunOf r h a b
-  unfolding RunOf
-  run-record r op e = rw op e

@@ -1,5 +1,4 @@
 pub mod Apart
-pub mod Beside
 pub mod Case
 pub mod Count
 pub mod Kept

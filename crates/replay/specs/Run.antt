@@ -3,7 +3,6 @@ use Rattle.std.specs.Prelude.{ℕ, ◌≡◌, Bool, cond, List, eqb, length}
 use Rattle.paper.specs.declared.Order.TheVariants.{LowFirst}
 use Rattle.paper.specs.rules.Word.{words}
 use Rattle.replay.specs.Apart.{apart_seen}
-use Rattle.replay.specs.Beside.{ext_seen, record_seen}
 use Rattle.replay.specs.Case.{check_seen, size_seen, name_seen, join_seen, member_seen, same_seen}
 use Rattle.replay.specs.Kept.{read_seen, write_seen}
 use Rattle.replay.specs.Over.{lean_seen, size_cut_seen, name_over_seen}
@@ -39,9 +38,7 @@ RunOf r h a b =
     (cond (eqb h.op 8) (RanAs r (write_seen a h.index h.work h.output))
     (cond (eqb h.op 9) (RanAs r (lean_seen a b h.index h.work (lent_bytes h.output)))
     (cond (eqb h.op 10) (RanAs r (size_cut_seen h.x h.y a b h.output))
-    (cond (eqb h.op 11) (RanAs r (name_over_seen h.x a b))
-    (cond (eqb h.op 12) (RanAs r (ext_seen a b h.index h.work (lent_bytes h.output)))
-    (cond (eqb h.op 13) (RanAs r (record_seen h.x h.y a)) (r ≡ Unknown)))))))))))))
+    (cond (eqb h.op 11) (RanAs r (name_over_seen h.x a b)) (r ≡ Unknown)))))))))))
 
 -- what was seen agrees where it is what must be; an op that there is not differs
 abbrev pub turn_of : Seen → Ran → turn.Turn

@@ -4,7 +4,8 @@ ghost use Rattle.paper.specs.declared.Order.TheVariants.{LowFirst};
 ghost use Rattle.paper.specs.rules.Word.{word_at};
 ghost use Rattle.replay.specs.Case.{head_of, seen_of, opening_of, same_seen};
 
-use libc::STDIN_FILENO;
+// standard input
+const STDIN_FILENO: i32 = 0;
 use paper::{Order, Place};
 
 // What a case may lend: places in an index or a work slice, bytes in a, b and the output, and the places that the bytes of b stand for.

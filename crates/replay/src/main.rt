@@ -1,13 +1,12 @@
 // Runs the cases of a vector file on standard input: a line for each that differs, and a last line that counts.
 // The committed input is made by `second vectors --large --edges --thin --seed 1 --cases 1000 --small --members 1000 --leaning 1000
-// --apart 1000 --listed 1000 --ext 500`.
+// --apart 1000 --listed 1000`.
 mod cases; // what a case lends and passes, and what must be seen
 mod says; // what is written
 mod ops; // a function for each op
 mod parting; // for the one that takes a table apart
 mod keeping; // for a list read and a list written
 mod leaning; // and for those over a base
-mod extending; // for a .BTF.ext section and its records
 mod given; // the places that bytes stand for
 mod tally; // what becomes of a case, and the count
 

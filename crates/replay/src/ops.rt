@@ -9,7 +9,6 @@ ghost use Rattle.replay.specs.Run.{RanAs, RunOf, ran_of};
 ghost use Rattle.sums.specs.Sum.{lent_bytes};
 
 use crate::cases::{BYTES, GIVEN, Head, PLACES, Seen};
-use crate::extending::{record_of, section_beside};
 use crate::given::places;
 use crate::keeping::{read_list, write_list};
 use crate::leaning::{check_over, name_over, size_over};
@@ -244,8 +243,6 @@ pub(crate) fn run<'a>(h: Head, a: &'a [u8], b: &'a [u8]) -> Ran
         9 => check_over(h, a, b),
         10 => size_over(h, a, b),
         11 => name_over(h, a, b),
-        12 => section_beside(h, a, b),
-        13 => record_of(h, a),
         _ => Ran::Unknown,
     }
 }

@@ -1,7 +1,8 @@
 // What is written: a line for each case that differs, for what stops a file, and for the counts.
 use crate::cases::Seen;
 use crate::tally::Tally;
-use libc::STDOUT_FILENO;
+// standard output
+const STDOUT_FILENO: i32 = 1;
 
 fn text(s: &[u8]) {
     io::write_all(STDOUT_FILENO, s);

@@ -1,7 +1,7 @@
 -- `replay::ops::run` meets its contract: what each op gives.
 -- Assumes nothing.
 use Rattle.replay.proofs.Runs.{run-check, run-size, run-name, run_join, run-member, run-apart, run-unknown, ran-as}
-use Rattle.replay.proofs.Runs.{run-read, run-write, run-check-over, run-size-over, run-name-over, run-ext, run-record}
+use Rattle.replay.proofs.Runs.{run-read, run-write, run-check-over, run-size-over, run-name-over}
 use borrow.Author.Rules.{rules}
 use Rattle.replay.proofs.ops.run.Statement.{statement}
 use Rattle.replay.proofs.ops.run.Tie as tie
@@ -39,12 +39,6 @@ size-over-requires c κs = search rules
 name-over-requires : tie.Need-name-over-requires
 name-over-requires c κs = search rules
 
-section-beside-requires : tie.Need-section-beside-requires
-section-beside-requires c κs = search rules
-
-record-of-requires : tie.Need-record-of-requires
-record-of-requires c κs = search rules
-
 returns : tie.Need-returns
 returns c = run-check _ _ _ _ c.before.match.keys1 c.check.ensures
 
@@ -79,18 +73,11 @@ returns-11 : tie.Need-returns-11
 returns-11 c = run-name-over _ _ _ _ c.before.match.keys11 c.name-over.ensures
 
 returns-12 : tie.Need-returns-12
-returns-12 c = run-ext _ _ _ _ c.before.match.keys12 c.section-beside.ensures
-
-returns-13 : tie.Need-returns-13
-returns-13 c = run-record _ _ _ _ c.before.match.keys13 c.record_of.ensures
-
-returns-14 : tie.Need-returns-14
-returns-14 c =
-    let q = c.match.rest in
-    let r = q.0.0 in
+returns-12 c =
+    let r = c.match.rest in
     let u = r.0.0.0.0 in
     let s = u.0.0 in
-    run-unknown _ _ _ s.0.0.0.0.1 s.0.0.0.1 s.0.0.1 s.0.1 s.1 u.0.1 u.1 r.0.0.0.1 r.0.0.1 r.0.1 r.1 q.0.1 q.1
+    run-unknown _ _ _ s.0.0.0.0.1 s.0.0.0.1 s.0.0.1 s.0.1 s.1 u.0.1 u.1 r.0.0.0.1 r.0.0.1 r.0.1 r.1
 
 pub run_spec : {M : Type 1} → statement M
 run_spec =
@@ -107,8 +94,6 @@ run_spec =
     check-over-requires
     size-over-requires
     name-over-requires
-    section-beside-requires
-    record-of-requires
     returns
     returns-2
     returns-3
@@ -120,6 +105,4 @@ run_spec =
     returns-9
     returns-10
     returns-11
-    returns-12
-    returns-13
-    returns-14)
+    returns-12)
