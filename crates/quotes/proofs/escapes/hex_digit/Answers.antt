@@ -1,0 +1,12 @@
+-- `quotes::escapes::hex_digit` meets its contract.
+use borrow.Author.Tests.{lt-ltb, le-ltb}
+use Rattle.quotes.specs.Escape.{hex_digit}
+use Rattle.quotes.proofs.escapes.hex_digit.Goals as goal
+
+pub returns-then-d-lt10 : goal.returns-then-d-lt10
+unfolding hex_digit
+returns-then-d-lt10 c = rw (lt-ltb _ _ c.if-d-lt10.true)
+
+pub returns : goal.returns
+unfolding hex_digit
+returns c = rw (le-ltb _ _ c.if-d-lt10.false)
