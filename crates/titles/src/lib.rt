@@ -1,4 +1,6 @@
 // A type as it is named in a line: number, kind, name, and how the numbers of its base are read.
+#![tactic(auto)]
+
 mod kinds; // a type in a line
 mod measures; // a size
 
