@@ -1,4 +1,6 @@
 // The rule that a report from 10 to 15 says is broken, by the kind of the record: a line for each kind, from 0 on.
+#![tactic(auto)]
+
 use kindrows::{STRUCT, UNION};
 use lines::{Out, ROOM, put};
 use rows::{flag_of, kind_of};
