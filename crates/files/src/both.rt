@@ -1,7 +1,7 @@
 // Two tables are written, and neither takes its name before both are on the disk.
 use crate::saves::{OTHER, set_aside, sync_directory, take_name};
-use libc::STDERR_FILENO;
-use lines::{ROOM, flush, put, put_file};
+use crate::system::unlink;
+use lines::{ROOM, STDERR_FILENO, flush, put, put_file};
 use texts::{Number, first_of};
 
 // The modes that the two new files have, where they are asked for: the umask gives one mode alone.
@@ -23,34 +23,53 @@ fn tell_half(one: &[u8], two: &[u8]) {
 }
 
 // The second step: both take their names, and the directories are on the disk too.
-fn take_names(one_other: &[u8], one: &[u8], two_other: &[u8], two: &[u8]) -> bool {
-    if !take_name(one_other, one) {
-        os::unlink(two_other);
+fn take_names(
+    rt: &HostRuntime,
+    one_other: &[u8],
+    one: &[u8],
+    two_other: &[u8],
+    two: &[u8],
+) -> bool {
+    if !take_name(rt, one_other, one) {
+        unlink(rt, two_other);
         return false;
     }
-    if !take_name(two_other, two) {
+    if !take_name(rt, two_other, two) {
         tell_half(one, two);
         return false;
     }
-    let is_one = sync_directory(one);
-    let is_two = sync_directory(two);
+    let is_one = sync_directory(rt, one);
+    let is_two = sync_directory(rt, two);
     is_one & is_two
 }
 
 // Both stand under their names, and on the disk; else standard error says why not.
-pub fn save_both(one: &[u8], first: &[u8], two: &[u8], second: &[u8], modes: Modes) -> bool {
+pub fn save_both(
+    rt: &HostRuntime,
+    one: &[u8],
+    first: &[u8],
+    two: &[u8],
+    second: &[u8],
+    modes: Modes,
+) -> bool {
     let mut one_other = [0u8; OTHER];
     let mut two_other = [0u8; OTHER];
     let one_mode = modes.one;
     let two_mode = modes.two;
-    let n = set_aside(one, first, one_mode, &mut one_other);
+    let n = set_aside(rt, one, first, one_mode, &mut one_other);
     if n == 0 {
         return false;
     }
-    let m = set_aside(two, second, two_mode, &mut two_other);
+    let m = set_aside(rt, two, second, two_mode, &mut two_other);
     if m == 0 {
-        os::unlink(first_of(&one_other, n));
+        unlink(rt, first_of(&one_other, n));
         return false;
     }
-    take_names(first_of(&one_other, n), one, first_of(&two_other, m), two)
+    take_names(
+        rt,
+        first_of(&one_other, n),
+        one,
+        first_of(&two_other, m),
+        two,
+    )
 }

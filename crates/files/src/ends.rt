@@ -1,5 +1,5 @@
 // How a call ends, which the launcher's status tells.
-use crate::reads::fail_text;
+use crate::failures::fail_output;
 use lines::{Out, ROOM, flush};
 
 // How a call ends: as asked, with a refusal, or as a call that is wrong or whose files cannot be read or written.
@@ -16,6 +16,6 @@ pub fn end(buf: &mut [u8; ROOM], o: Out, s: Status) -> Status {
     if o.is_whole {
         return s;
     }
-    fail_text(b"standard output");
+    fail_output();
     Status::Failed
 }

@@ -1,18 +1,20 @@
 // What is read, from a file or from standard input where the name is a dash.
-ghost use Rattle.std.specs.Prelude.{◌≤◌, length};
+ghost use Rattle.std.specs.Prelude.{◌≤◌, IfOk, length};
 
-use libc::{STDERR_FILENO, STDIN_FILENO};
+use crate::failures::{fail, fail_text};
+use crate::system::open_read;
 use paper::BYTE_LIMIT;
-use quotes::file_text;
+use std::fs::File;
+use std::io::{Error, Read as Reader, Result, Stdin};
 
 // As many bytes as are read of a file: one more than a table may have, so that a file that is too large gets report 1.
 pub const READ_LIMIT: usize = BYTE_LIMIT + 1;
 
-// What one read gives: so many bytes, 0 at the end; or that it failed.
-#[derive(Clone, Copy)]
-struct Got {
-    n: usize,
-    is_read: bool,
+// What whole bytes are read from.
+#[derive(Drop)]
+pub enum Opened {
+    Standard(Stdin),
+    Named(File),
 }
 
 // What a whole file gives.
@@ -22,100 +24,76 @@ pub struct Read {
     pub is_read: bool,
 }
 
-// "scrieve: WHAT: why", by the errno that a call has left: what failed in words of ours.
-pub fn fail_text(what: &[u8]) {
-    io::write_all(STDERR_FILENO, b"scrieve: ");
-    os::fail(what);
-}
-
-// The same of a file. A name that is longer than any path is left out.
-pub fn fail(name: &[u8]) {
-    let mut space = [0u8; 16386];
-    let n = file_text(name, &mut space);
-    fail_text(&space[..n]);
-}
-
-fn read_some(fd: i32, s: &mut [u8]) -> Got
-    ensures { result.n ≤ length s.old }
+// The next bytes, 0 at the end.
+fn read_some(from: &mut Opened, s: &mut [u8]) -> Result<usize>
+    ensures { IfOk result (λ n. n ≤ length s.old) }
 {
-    let got = libc::read(fd, s);
-    Got {
-        n: io::count(got, s),
-        is_read: 0 <= got,
+    match from {
+        Opened::Standard(input) => input.read(s),
+        Opened::Named(file) => file.read(s),
     }
 }
 
 // Reads until the input ends, the slice is full or a read fails.
-fn read_from(fd: i32, s: &mut [u8]) -> Read {
+fn read_from(from: &mut Opened, s: &mut [u8]) -> Result<usize>
+    ensures { IfOk result (λ n. n ≤ length s.old) }
+{
     let mut done = 0;
     while done < s.len() {
-        let got = read_some(fd, &mut s[done..]);
-        if !got.is_read {
-            return Read {
-                n: 0,
-                is_read: false,
-            };
+        let n = read_some(from, &mut s[done..])?;
+        if n == 0 {
+            return Ok(done);
         }
-        if got.n == 0 {
-            return Read {
-                n: done,
-                is_read: true,
-            };
-        }
-        done += got.n;
+        done += n;
     }
-    Read {
-        n: done,
-        is_read: true,
-    }
+    Ok(done)
 }
 
-// The descriptor of a file, or of standard input where the name is a dash; below 0 where there is none, and standard error says why.
-pub fn open_input(name: &[u8]) -> i32 {
+// What is read under a name: a file, or standard input where the name is a dash; nothing where there is none, and standard error says why.
+pub fn open_input(rt: &HostRuntime, name: &[u8]) -> Option<Opened> {
     if check::same(name, b"-") {
-        return STDIN_FILENO;
+        return Some(Opened::Standard(rt.stdin()));
     }
-    let fd = os::open_read(name);
-    if fd < 0 {
-        fail(name);
+    match open_read(rt, name) {
+        Ok(file) => Some(Opened::Named(file)),
+        Err(why) => {
+            fail(name, why);
+            None
+        }
     }
-    fd
 }
 
-pub fn close_input(fd: i32) {
-    if fd == STDIN_FILENO {
+pub fn close_input(_from: Opened) {}
+
+fn fail_input(name: &[u8], why: Error) {
+    if check::same(name, b"-") {
+        fail_text(b"standard input", why);
         return;
     }
-    libc::close(fd);
-}
-
-fn fail_input(name: &[u8]) {
-    if check::same(name, b"-") {
-        fail_text(b"standard input");
-        return;
-    }
-    fail(name);
+    fail(name, why);
 }
 
 // The next bytes of what is open under a name, as many as the slice holds. Where they cannot be read, standard error says why.
-pub fn read_input(name: &[u8], fd: i32, s: &mut [u8]) -> Read {
-    let read = read_from(fd, s);
-    if !read.is_read {
-        fail_input(name);
+pub fn read_input(name: &[u8], from: &mut Opened, s: &mut [u8]) -> Read {
+    match read_from(from, s) {
+        Ok(n) => Read { n, is_read: true },
+        Err(why) => {
+            fail_input(name, why);
+            Read {
+                n: 0,
+                is_read: false,
+            }
+        }
     }
-    read
 }
 
 // The bytes of the file, as many as the slice holds. Where it cannot be read, standard error says why.
-pub fn read_file(name: &[u8], s: &mut [u8]) -> Read {
-    let fd = open_input(name);
-    if fd < 0 {
-        return Read {
+pub fn read_file(rt: &HostRuntime, name: &[u8], s: &mut [u8]) -> Read {
+    match open_input(rt, name) {
+        Some(mut from) => read_input(name, &mut from, s),
+        None => Read {
             n: 0,
             is_read: false,
-        };
+        },
     }
-    let read = read_input(name, fd, s);
-    close_input(fd);
-    read
 }

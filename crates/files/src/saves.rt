@@ -1,8 +1,12 @@
 // A table is written under another name beside its own, and renamed when all of it is on the disk: whatever fails, what
 // stood under its name before stands there still.
-use crate::reads::fail;
-use libc::EISDIR;
+use crate::failures::fail;
+use crate::system::{create, open_read, open_update, rename, unlink};
 use paper::{Order, Place};
+use std::fs::{File, Permissions};
+use std::io::{ErrorKind, Result, Write};
+use std::os::unix::fs::PermissionsExt;
+use std::random::RandomSource;
 use texts::{Number, first_of};
 use words::lay;
 
@@ -10,9 +14,9 @@ use words::lay;
 pub(crate) const OTHER: usize = 4128;
 
 // Four random bytes; zeros where the system has none.
-fn random() -> u32 {
+fn random(rt: &HostRuntime) -> u32 {
     let mut s = [0u8; 4];
-    libc::getentropy(&mut s);
+    let _ = rt.fill_bytes(&mut s);
     words::read(Order::LowFirst, &s, Place(0))
 }
 
@@ -30,69 +34,67 @@ pub fn append(to: &mut [u8], at: usize, s: &[u8]) -> usize {
 
 // The other name: a dot and eight random digits behind the name. A new file under a name of our own, and not one of
 // mkstemp's, has the mode that the caller's umask gives.
-fn other_name(name: &[u8], other: &mut [u8]) -> usize {
+fn other_name(rt: &HostRuntime, name: &[u8], other: &mut [u8]) -> usize {
     let mut digits = [0u8; 16];
-    let k = io::hex(random() as u64, 8, &mut digits);
+    let k = io::hex(random(rt) as u64, 8, &mut digits);
     let n = append(other, 0, name);
     let n = append(other, n, b".");
     append(other, n, &digits[..k])
 }
 
 // A new file has the mode that is asked for, else the one that the umask has given it.
-fn set_mode(fd: i32, mode: Number) -> bool {
+fn set_mode(file: &File, mode: Number) -> Result<()> {
     match mode {
-        Number::Is(bits) => libc::fchmod(fd, bits) == 0,
-        Number::Not => true,
+        Number::Is(bits) => file.set_permissions(Permissions::from_mode(bits)),
+        Number::Not => Ok(()),
     }
 }
 
 // All bytes are written, and on the disk.
-fn fill(fd: i32, s: &[u8], mode: Number) -> bool {
-    if !set_mode(fd, mode) {
-        return false;
-    }
-    if !io::write_all(fd, s) {
-        return false;
-    }
-    libc::fsync(fd) == 0
+fn fill(file: &mut File, s: &[u8], mode: Number) -> Result<()> {
+    set_mode(file, mode)?;
+    file.write_all(s)?;
+    file.sync_all()
 }
 
 // The file of the other name is written and closed.
-fn write_other(fd: i32, s: &[u8], mode: Number, name: &[u8]) -> bool {
-    if !fill(fd, s, mode) {
-        fail(name);
-        libc::close(fd);
-        return false;
+fn write_other(mut file: File, s: &[u8], mode: Number, name: &[u8]) -> bool {
+    match fill(&mut file, s, mode) {
+        Ok(()) => true,
+        Err(why) => {
+            fail(name, why);
+            false
+        }
     }
-    if libc::close(fd) != 0 {
-        fail(name);
-        return false;
-    }
-    true
 }
 
 // The file of the other name is there and whole. Where anything fails it is removed.
-fn make_other(other: &[u8], name: &[u8], s: &[u8], mode: Number) -> bool {
-    let fd = os::create(other);
-    if fd < 0 {
-        fail(name);
-        return false;
+fn make_other(rt: &HostRuntime, other: &[u8], name: &[u8], s: &[u8], mode: Number) -> bool {
+    match create(rt, other) {
+        Ok(file) => {
+            if write_other(file, s, mode, name) {
+                return true;
+            }
+            unlink(rt, other);
+            false
+        }
+        Err(why) => {
+            fail(name, why);
+            false
+        }
     }
-    if !write_other(fd, s, mode, name) {
-        os::unlink(other);
-        return false;
-    }
-    true
 }
 
 // The file of the other name takes the name; else it is removed.
-pub(crate) fn take_name(other: &[u8], name: &[u8]) -> bool {
-    if os::rename(other, name) != 0 {
-        fail(name);
-        os::unlink(other);
-        return false;
+pub(crate) fn take_name(rt: &HostRuntime, other: &[u8], name: &[u8]) -> bool {
+    match rename(rt, other, name) {
+        Ok(()) => true,
+        Err(why) => {
+            fail(name, why);
+            unlink(rt, other);
+            false
+        }
     }
-    true
 }
 
 // How many bytes of a name are its directory's, with the slash.
@@ -107,68 +109,75 @@ fn directory_length(name: &[u8]) -> usize {
     0
 }
 
-// What the directory has of its names is on the disk too. One that cannot be opened is left to the system.
-fn sync(directory: &[u8]) -> bool {
-    let fd = os::open_read(directory);
-    if fd < 0 {
-        return true;
+// What was written to a file is on the disk; else standard error says why not.
+fn is_synced(file: &File, name: &[u8]) -> bool {
+    match file.sync_all() {
+        Ok(()) => true,
+        Err(why) => {
+            fail(name, why);
+            false
+        }
     }
-    let is_synced = libc::fsync(fd) == 0;
-    if !is_synced {
-        fail(directory);
-    }
-    libc::close(fd);
-    is_synced
 }
 
-pub(crate) fn sync_directory(name: &[u8]) -> bool {
+// What the directory has of its names is on the disk too. One that cannot be opened is left to the system.
+fn sync(rt: &HostRuntime, directory: &[u8]) -> bool {
+    match open_read(rt, directory) {
+        Ok(file) => is_synced(&file, directory),
+        Err(_) => true,
+    }
+}
+
+pub(crate) fn sync_directory(rt: &HostRuntime, name: &[u8]) -> bool {
     let n = directory_length(name);
     if n == 0 {
-        return sync(b".");
+        return sync(rt, b".");
     }
-    sync(first_of(name, n))
+    sync(rt, first_of(name, n))
 }
 
 // A folder, a device or a pipe is no file that another can take the place of; nothing of the latter two can be brought to a disk.
-fn is_file(name: &[u8]) -> bool {
-    let fd = os::open_update(name);
-    if fd < 0 {
-        if os::errno() == EISDIR {
-            fail(name);
-            return false;
+fn is_file(rt: &HostRuntime, name: &[u8]) -> bool {
+    match open_update(rt, name) {
+        Ok(file) => is_synced(&file, name),
+        Err(why) => {
+            if let ErrorKind::IsADirectory = why.kind() {
+                fail(name, why);
+                return false;
+            }
+            true // there is none, or the system will say what is wrong with it
         }
-        return true; // there is none, or the system will say what is wrong with it
     }
-    let is_synced = libc::fsync(fd) == 0;
-    if !is_synced {
-        fail(name);
-    }
-    libc::close(fd);
-    is_synced
 }
 
 // The first step: the bytes stand on the disk under another name, which is put into the lent bytes. Its length is answered, or 0 where
 // standard error says why not.
-pub(crate) fn set_aside(name: &[u8], s: &[u8], mode: Number, other: &mut [u8]) -> usize {
-    if !is_file(name) {
+pub(crate) fn set_aside(
+    rt: &HostRuntime,
+    name: &[u8],
+    s: &[u8],
+    mode: Number,
+    other: &mut [u8],
+) -> usize {
+    if !is_file(rt, name) {
         return 0;
     }
-    let n = other_name(name, other);
-    if !make_other(first_of(other, n), name, s, mode) {
+    let n = other_name(rt, name, other);
+    if !make_other(rt, first_of(other, n), name, s, mode) {
         return 0;
     }
     n
 }
 
 // The bytes stand under the name, and on the disk; else standard error says why not.
-pub fn save(name: &[u8], s: &[u8]) -> bool {
+pub fn save(rt: &HostRuntime, name: &[u8], s: &[u8]) -> bool {
     let mut other = [0u8; OTHER];
-    let n = set_aside(name, s, Number::Not, &mut other);
+    let n = set_aside(rt, name, s, Number::Not, &mut other);
     if n == 0 {
         return false;
     }
-    if !take_name(first_of(&other, n), name) {
+    if !take_name(rt, first_of(&other, n), name) {
         return false;
     }
-    sync_directory(name)
+    sync_directory(rt, name)
 }

@@ -1,4 +1,6 @@
 // The fill of a lent slice before a call of a vector file's, and its sum after it.
+#![tactic(auto)]
+
 ghost use Rattle.std.specs.Prelude.{◌≡◌, ◌++◌, ◌<◌, length};
 ghost use Rattle.paper.specs.declared.Order.TheVariants.{LowFirst};
 ghost use Rattle.paper.specs.rules.Word.{bytes_of_words, word_bytes};
