@@ -1,7 +1,8 @@
 // A wrong call: which word is wrong and why, then the usage.
-use files::{Status, fail_text};
-use libc::{STDERR_FILENO, STDOUT_FILENO};
-use lines::{flush, put, put_file};
+#![tactic(auto)]
+
+use files::{Status, arg, fail_output};
+use lines::{STDERR_FILENO, STDOUT_FILENO, flush, put, put_file};
 use texts::{first_of, line};
 
 // Which line of the reasons.
@@ -92,7 +93,7 @@ pub fn help() -> Status {
     if usage(STDOUT_FILENO) {
         return Status::Done;
     }
-    fail_text(b"standard output");
+    fail_output();
     Status::Failed
 }
 
@@ -133,9 +134,9 @@ fn put_wrong(word: &[u8], why: u32) {
 }
 
 // The argument of this number is wrong.
-pub fn wrong_at(i: usize, why: u32) -> Status {
+pub fn wrong_at(rt: &HostRuntime, i: usize, why: u32) -> Status {
     let mut s = [0u8; 4096];
-    let n = os::arg(i, &mut s);
+    let n = arg(rt, i, &mut s);
     put_wrong(first_of(&s, n), why);
     usage(STDERR_FILENO);
     Status::Failed
