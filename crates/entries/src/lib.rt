@@ -1,4 +1,6 @@
 // The lines below a type: members, values, parameters and the entries of a section.
+#![tactic(auto)]
+
 mod below; // the lines of members
 mod kinds; // an entry by the kind of its record
 
