@@ -47,8 +47,8 @@ fn named_list(which: usize, lines: &[String]) -> String {
 
 /// How cases are held against the definitions, and what those of a pair, of a
 /// cut, of a list and of a section unfold.
-const UNFOLDED: &str = "leans cuts lists sectionComputes checked sized named joined apart \
-                        listRead listWritten leaning leaningSized leaningNamed sectioned recorded";
+const UNFOLDED: &str = "leans cuts lists section_computes checked sized named joined apart \
+                        list_read list_written leaning leaning_sized leaning_named sectioned recorded";
 
 /// The surface syntax of a list of numbers.
 fn numbers(list: &[u32]) -> String {
