@@ -7,6 +7,9 @@ FNR == 1 {
     side = step[1]; crate = step[3]; folder = step[4]
     file = FILENAME; sub(/^[a-z]*\/crates\//, "", file); sub(/\.[a-z]*$/, "", file)
     module = file; sub(/^[^\/]*\/[^\/]*\//, "", module); gsub(/\//, "::", module)
+    inside = file; sub(/\/[^\/]*$/, "", inside); isFile[side, file]
+    # what answers for a function, and no law; a file of the name in a folder that is a module's is one like any other
+    answers = file ~ /\/proofs\/(.*\/)?(Proof|Answers|Invariants)$/ && !((side, inside) in isFile)
 }
 folder !~ /^(specs|proofs|src)$/ { next }
 
@@ -53,7 +56,7 @@ function endChunk(    words) {
     if (words ~ /^use /) readUse(words)
     else if (words != "" && words !~ /^(pub )?mod /) {
         proof = proof words " "
-        if (file !~ /\/proofs\/(.*\/)?Proof$/) readChunk(words)
+        if (!answers) readChunk(words)
     }
     chunk = ""
 }
@@ -108,7 +111,7 @@ function addClause(words, first,    i) {
 # a name, and the words of one with places for arguments in it, stand for a key
 function callable(called, key,    n, i, part) {
     at[side, file, called] = key
-    n = split(called, part, "_")
+    n = split(called, part, "◌")
     for (i = 1; i <= n; i++) if (n > 1 && part[i] != "") at[side, file, part[i]] = key
 }
 
@@ -120,18 +123,16 @@ function readUse(words,    open, from, n, m, i, j, names, part) {
     n = split(substr(words, open + 2), names, /[ ,{}]+/)
     for (i = 1; i <= n; i++) if (names[i] != "") {
         source[side, file, names[i]] = from
-        m = split(names[i], part, "_")
+        m = split(names[i], part, "◌")
         for (j = 1; j <= m; j++) if (m > 1 && part[j] != "") source[side, file, part[j]] = from
     }
 }
 
-# Rattle·paper·specs.specs.rules.Kind and Rattle·paper.specs.rules.Kind are paper/specs/rules/Kind
-function fileAt(path,    dot, part) {
-    if (path !~ /^Rattle·/) return path
-    dot = index(path, ".")
-    split(substr(path, 1, dot - 1), part, "·")
-    path = substr(path, dot + 1); gsub(/\./, "/", path)
-    return part[2] "/" path
+# Rattle.paper.specs.rules.Kind is paper/specs/rules/Kind
+function fileAt(path) {
+    if (!sub(/^Rattle\./, "", path)) return path
+    gsub(/\./, "/", path)
+    return path
 }
 
 # ── src/ ──
@@ -152,14 +153,14 @@ FILENAME ~ /\.rt$/ {
     promised[promises] = side SUBSEP crate SUBSEP module SUBSEP impl SUBSEP file
 }
 
-# a struct or an enum, which specs/ files name by declared.Type, or declared.module.Type, and its cases by the-variants below that
+# a struct or an enum, which specs/ files name by declared.Type, or declared.module.Type, and its cases by TheVariants below that
 function readType(    key, by) {
     by = crate "/specs/declared/" (module == "lib" ? "" : module "/") type
     gsub(/::/, "/", by)
     key = "D|" crate "/src/" module "|" type
     add(key, plain($0))
     at[side, by, type] = at[side, file, type] = key
-    if (match($0, /^    [A-Z][A-Za-z0-9_]*/)) at[side, by "/the-variants", substr($0, 5, RLENGTH - 4)] = key
+    if (match($0, /^    [A-Z][A-Za-z0-9_]*/)) at[side, by "/TheVariants", substr($0, 5, RLENGTH - 4)] = key
     if (/^}/ || /[;}]$/) type = ""
 }
 
@@ -175,7 +176,7 @@ function handOn(words,    n, names, path) {
 function beforeBody(words,    done, depth, here, brace) {
     while (match(words, /[{}]/)) {
         here = substr(words, 1, RSTART - 1); brace = substr(words, RSTART, 1)
-        if (!depth && (done here) !~ /(requires|ensures)[ \n]*$/) return done here
+        if (!depth && (done here) !~ /(requires|ensures)\*?([ \n]+[a-z_0-9]+)?[ \n]*$/) return done here
         done = done here brace; words = substr(words, RSTART + 1)
         depth += brace == "{" ? 1 : -1
     }

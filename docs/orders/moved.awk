@@ -32,10 +32,10 @@ function readCited(side, key,    n, i, token, to) {
 function meant(side, file, token,    dot, from) {
     sub(/\.$/, "", token)
     dot = index(token, ".")
-    if (dot) { # .field, or module.name
-        if (!((side, file, substr(token, 1, dot - 1)) in alias)) return ""
+    if (dot && (side, file, substr(token, 1, dot - 1)) in alias) { # module.name
         from = alias[side, file, substr(token, 1, dot - 1)]; token = substr(token, dot + 1)
-    } else if ((side, file, token) in at) from = file
+    } else if (dot) return meant(side, file, substr(token, 1, dot - 1)) # name.field
+    else if ((side, file, token) in at) from = file
     else if ((side, file, token) in source) from = source[side, file, token]
     else return ""
     return (side, from, token) in at ? at[side, from, token] : from "|" token
