@@ -6,6 +6,7 @@ ghost use Rattle.replay.specs.Case.{head_of, seen_of, opening_of, same_seen};
 
 // standard input
 const STDIN_FILENO: i32 = 0;
+
 use paper::{Order, Place};
 
 // What a case may lend: places in an index or a work slice, bytes in a, b and the output, and the places that the bytes of b stand for.

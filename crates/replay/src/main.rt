@@ -1,6 +1,8 @@
 // Runs the cases of a vector file on standard input: a line for each that differs, and a last line that counts.
 // The committed input is made by `second vectors --large --edges --thin --seed 1 --cases 1000 --small --members 1000 --leaning 1000
 // --apart 1000 --listed 1000`.
+#![tactic(auto)]
+
 mod cases; // what a case lends and passes, and what must be seen
 mod says; // what is written
 mod ops; // a function for each op

@@ -1,0 +1,26 @@
+-- `replay::ops::check_in` meets its contract: both slices are cut to what a case lends.
+use mathlib.Core.Path.{sym}
+use native.Mathlib.Omega.{arith}
+use lib.Seq.{length-take-le}
+use Rattle.replay.proofs.Runs.{check-cut, ran-large, ran-large-and, ran-whole, ran-and}
+use Rattle.replay.proofs.ops.check_in.Goals as goal
+
+pub returns-then-index-places : goal.returns-then-index-places
+returns-then-index-places c = ran-large-and _ _ c.if-index-places.true
+
+pub returns-then-work-works : goal.returns-then-work-works
+returns-then-work-works c = ran-and _ _ c.if-index-places.false (ran-large _ c.if-work-works.true)
+
+pub slice_bounds-index-end-2 : goal.slice_bounds-index-end-2
+slice_bounds-index-end-2 c = sym (length-take-le _ _ (omega arith))
+
+pub slice_bounds-check_lent-end-2 : goal.slice_bounds-check_lent-end-2
+slice_bounds-check_lent-end-2 c = sym (length-take-le _ _ (omega arith))
+
+pub returns : goal.returns
+returns c =
+    let s = c.args in
+    ran-and _ _ c.if-index-places.false
+    (ran-whole _ c.if-work-works.false
+    (check-cut s.a.now s.h.output (length-take-le s.h.index s.index.now (omega (arith, c.if-index-places.false)))
+    (length-take-le s.h.work s.work.now (omega (arith, c.if-work-works.false))) c.check_lent.ensures))

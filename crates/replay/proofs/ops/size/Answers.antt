@@ -1,0 +1,6 @@
+-- `replay::ops::size` meets its contract: it hands its arrays on.
+use Rattle.replay.proofs.Runs.{ran-as}
+use Rattle.replay.proofs.ops.size.Goals as goal
+
+pub returns : goal.returns
+returns c = ran-as _ _ c.size_in.ensures
