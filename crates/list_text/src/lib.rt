@@ -1,5 +1,7 @@
 // A table as a text that people read and edit: a line for its strings, then one for each type, each word in decimal behind what it is.
 // There is one text of a table: what is read is held against what would be written.
+#![tactic(auto)]
+
 mod labels; // what stands before each word
 mod names; // where a name stands in the strings
 mod pens; // what is written, or held against what stands there
