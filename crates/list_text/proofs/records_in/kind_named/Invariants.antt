@@ -1,0 +1,6 @@
+-- `list_text::records_in::kind_named` is safe and ends.
+use Rattle.std.proofs.Common.{◌-◌}
+use Rattle.list_text.proofs.records_in.kind_named.Given as goal
+
+abbrev pub decreases-loop-k : goal.decreases-loop-k
+decreases-loop-k l = 20 - l.k
