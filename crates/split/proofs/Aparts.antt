@@ -11,9 +11,10 @@ use borrow.Author.Tests.{le-ltb, lt-ltb}
 use lib.Dec.{ltb}
 use lib.ListN.{length, get_or, take, drop}
 use lib.Seq.{take_all}
-use Rattle.gate.proofs.Stands.{gate-standing, stands-place, stands-shows}
+use Rattle.gate.proofs.Stands.{stands-place, stands-shows}
 use Rattle.gate.specs.Check.{CheckOf}
 use Rattle.gate.specs.Standing.{Standing}
+use Rattle.paper.proofs.Outcomes.{gate-accepted, get_d-index_of, length-index_of}
 use Rattle.paper.proofs.basics.Choices.{false-or, or_left, or_right}
 use Rattle.paper.proofs.bytes.Blobs.{types-length}
 use Rattle.paper.proofs.bytes.Places.{places_of-at}
@@ -24,7 +25,7 @@ use Rattle.paper.specs.declared.Checked.TheVariants as checked
 use Rattle.paper.specs.declared.Report.{Report}
 use Rattle.paper.specs.rules.Answer.{Answer, accepted, checked_as_paper, report}
 use Rattle.paper.specs.rules.Choice.{◌when◌, first_due, or_else}
-use Rattle.paper.specs.rules.Gate.{Outcome, gate, naming}
+use Rattle.paper.specs.rules.Gate.{Outcome, gate, index_of, naming}
 use Rattle.paper.specs.rules.Header.{order_of, type_len}
 use Rattle.paper.specs.rules.Walk.{place_at, table_of, type_len_of}
 use Rattle.paper.specs.rules.Word.{word_at}
@@ -42,8 +43,21 @@ use Rattle.views.specs.declared.View.{View}
 -- ── an accepted table by the index that its check has left ──
 
 module _ {b index : List ℕ} {n : ℕ} (a : AcceptedBy b index n) where
+  index_is : index ≡ index_of (table_of b) a.places
+  index_is = a.indexed ∙ ap (λ (o : Outcome). o.index) (gate-accepted b a.places a.work a.accepted)
+
   standing : Standing b index n
-  standing = gate-standing b index a.places a.work a.accepted a.bytes a.indexed a.counted
+  standing =
+      let m = accepted-meets b a.places a.work a.accepted in
+      let enough = m.readable.enough_places in
+      let long = ap length index_is ∙ length-index_of (table_of b) a.places enough in
+      let c = a.counted in
+      record {
+        bytes = a.bytes;
+        readable = record { header = m.readable.header; section = m.readable.section; enough_places = omega arith; enough_work = omega arith };
+        counted = c;
+        placed = λ t h. ap (λ (i : List ℕ). get_or i (suc t) 0) index_is ∙ get_d-index_of (table_of b) a.places enough t (omega arith);
+      }
 
   module _ (v : View) (many : v.n ≡ n) where
     -- the cut of the table that the index shows is that of the blob's own
