@@ -1,4 +1,6 @@
 // A table in words: a line for each type and entry.
+#![tactic(auto)]
+
 mod faults; // what can be read of a refused table
 mod show; // the lines of a type
 mod tables; // which types, and how much
