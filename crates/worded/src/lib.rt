@@ -1,4 +1,6 @@
 // The words of a record, each with its place, its bytes and what it is.
+#![tactic(auto)]
+
 mod behind; // the words behind a head, as many as are shown
 mod heads; // a record's head, word by word
 mod referents; // what stands at a number that a word refers to
