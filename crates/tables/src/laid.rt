@@ -23,8 +23,8 @@ pub enum Laid {
 }
 
 // A table of a file, by itself.
-fn lay_file(file: &[u8], blob: &mut [u8; READ_LIMIT]) -> Laid {
-    let read = read_file(file, blob);
+fn lay_file(rt: &HostRuntime, file: &[u8], blob: &mut [u8; READ_LIMIT]) -> Laid {
+    let read = read_file(rt, file, blob);
     if !read.is_read {
         return Laid::Ended(Status::Failed);
     }
@@ -84,6 +84,7 @@ fn lay_both<'a>(
 
 // Two files are read.
 fn lay_files(
+    rt: &HostRuntime,
     is_all: bool,
     file: &[u8],
     base_file: &[u8],
@@ -93,11 +94,11 @@ fn lay_files(
 ) -> Laid {
     let mut base = [0u8; READ_LIMIT];
     let mut own = [0u8; READ_LIMIT];
-    let base_read = read_file(base_file, &mut base);
+    let base_read = read_file(rt, base_file, &mut base);
     if !base_read.is_read {
         return Laid::Ended(Status::Failed);
     }
-    let own_read = read_file(file, &mut own);
+    let own_read = read_file(rt, file, &mut own);
     if !own_read.is_read {
         return Laid::Ended(Status::Failed);
     }
@@ -116,6 +117,7 @@ fn lay_files(
 // The table that a call is about, in lent bytes: that of a file, or with the name of a base's file the one that holds both. By itself it is
 // not checked yet; with a base it is accepted. Whether all types are asked for tells what a refusal is told with.
 pub fn lay_table(
+    rt: &HostRuntime,
     is_all: bool,
     file: &[u8],
     base_file: &[u8],
@@ -124,7 +126,7 @@ pub fn lay_table(
     work: &mut [u32; FULL_PLACES],
 ) -> Laid {
     if base_file.len() == 0 {
-        return lay_file(file, blob);
+        return lay_file(rt, file, blob);
     }
-    lay_files(is_all, file, base_file, blob, index, work)
+    lay_files(rt, is_all, file, base_file, blob, index, work)
 }

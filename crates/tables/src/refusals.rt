@@ -2,8 +2,7 @@
 use crate::standing::{records_len, stand, strings_len};
 use answers::Numbers;
 use files::{READ_LIMIT, Status, end};
-use libc::STDOUT_FILENO;
-use lines::{Out, ROOM, behind, put, put_file};
+use lines::{Out, ROOM, STDOUT_FILENO, behind, put, put_file};
 use listing::show_before;
 use paper::Order;
 use reports::put_report;
