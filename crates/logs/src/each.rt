@@ -2,9 +2,8 @@
 // length is read.
 use crate::said::{Asked, RECORD_LIMIT, put_cut, put_record, put_short, started};
 use entries::{Listed, plus, with};
-use files::{Read, Status, close_input, end, open_input, read_input};
-use libc::{STDERR_FILENO, STDOUT_FILENO};
-use lines::{Out, ROOM, flush, put, put_with};
+use files::{Opened, Read, Status, close_input, end, open_input, read_input};
+use lines::{Out, ROOM, STDERR_FILENO, STDOUT_FILENO, flush, put, put_with};
 use listing::put_title;
 use texts::first_of;
 use titles::{put_many, put_type};
@@ -86,11 +85,11 @@ fn whole_records(size: usize) -> usize {
 }
 
 // The next bytes, so many at most.
-fn read_part(name: &[u8], fd: i32, s: &mut [u8], n: usize) -> Read {
+fn read_part(name: &[u8], from: &mut Opened, s: &mut [u8], n: usize) -> Read {
     if s.len() < n {
-        return read_input(name, fd, s);
+        return read_input(name, from, s);
     }
-    read_input(name, fd, &mut s[..n])
+    read_input(name, from, &mut s[..n])
 }
 
 // Nothing waits to be written that could not be.
@@ -108,11 +107,11 @@ fn put_turn(
     index: &[u32],
     a: Asked,
     name: &[u8],
-    fd: i32,
+    from: &mut Opened,
     s: &mut [u8; RECORD_LIMIT],
 ) -> Turn {
     let most = whole_records(a.size);
-    let read = read_part(name, fd, s, most);
+    let read = read_part(name, from, s, most);
     if !read.is_read {
         return Turn {
             c,
@@ -139,7 +138,7 @@ fn put_turns(
     index: &[u32],
     a: Asked,
     name: &[u8],
-    fd: i32,
+    from: &mut Opened,
     s: &mut [u8; RECORD_LIMIT],
 ) -> Turn {
     let mut turn = Turn {
@@ -151,7 +150,7 @@ fn put_turns(
     let mut turns: u64 = 18446744073709551615;
     while 0 < turns {
         let c = turn.c;
-        turn = put_turn(buf, c, blob, index, a, name, fd, s);
+        turn = put_turn(buf, c, blob, index, a, name, from, s);
         turns -= 1;
         if !turn.is_more {
             turns = 0;
@@ -195,7 +194,7 @@ fn ended(buf: &mut [u8; ROOM], turn: Turn, blob: &[u8], index: &[u32], a: Asked)
 }
 
 // The records of what is open, below the line of their type.
-fn show_open(name: &[u8], fd: i32, blob: &[u8], index: &[u32], a: Asked) -> Status {
+fn show_open(name: &[u8], from: &mut Opened, blob: &[u8], index: &[u32], a: Asked) -> Status {
     let mut buf = [0u8; ROOM];
     let mut s = [0u8; RECORD_LIMIT];
     let o = put_title(&mut buf, lines::to(STDOUT_FILENO), blob, index, a.t);
@@ -204,7 +203,7 @@ fn show_open(name: &[u8], fd: i32, blob: &[u8], index: &[u32], a: Asked) -> Stat
         count: 0,
         at: 0,
     };
-    let turn = put_turns(&mut buf, c, blob, index, a, name, fd, &mut s);
+    let turn = put_turns(&mut buf, c, blob, index, a, name, from, &mut s);
     ended(&mut buf, turn, blob, index, a)
 }
 
@@ -219,15 +218,16 @@ fn no_bytes(blob: &[u8], index: &[u32], a: Asked) -> Status {
 }
 
 // Every record of a file.
-pub fn show_each(name: &[u8], blob: &[u8], index: &[u32], a: Asked) -> Status {
+pub fn show_each(rt: &HostRuntime, name: &[u8], blob: &[u8], index: &[u32], a: Asked) -> Status {
     if a.size == 0 {
         return no_bytes(blob, index, a);
     }
-    let fd = open_input(name);
-    if fd < 0 {
-        return Status::Failed;
+    match open_input(rt, name) {
+        Some(mut from) => {
+            let status = show_open(name, &mut from, blob, index, a);
+            close_input(from);
+            status
+        }
+        None => Status::Failed,
     }
-    let status = show_open(name, fd, blob, index, a);
-    close_input(fd);
-    status
 }

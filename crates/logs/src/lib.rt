@@ -1,4 +1,6 @@
 // Records in words: one, of bytes or of a file, or as many as a file holds.
+#![tactic(auto)]
+
 mod each; // as many records as a file holds
 mod one; // one record
 mod said; // what stands around records

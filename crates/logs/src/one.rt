@@ -1,9 +1,8 @@
 // One record: of bytes, or of a file, whose further bytes are counted.
 use crate::said::{Asked, RECORD_LIMIT, put_cut, put_record, put_short, started};
 use entries::plus;
-use files::{Status, close_input, end, open_input, read_input};
-use libc::STDOUT_FILENO;
-use lines::{Out, ROOM, put, put_file};
+use files::{Opened, Status, close_input, end, open_input, read_input};
+use lines::{Out, ROOM, STDOUT_FILENO, put, put_file};
 use listing::put_title;
 use texts::first_of;
 use titles::put_many;
@@ -58,13 +57,13 @@ pub fn show_bytes(name: &[u8], blob: &[u8], index: &[u32], a: Asked, s: &[u8]) -
 }
 
 // How many bytes are left to read.
-fn count_rest(name: &[u8], fd: i32, s: &mut [u8; RECORD_LIMIT]) -> Counted {
+fn count_rest(name: &[u8], from: &mut Opened, s: &mut [u8; RECORD_LIMIT]) -> Counted {
     let mut n: u64 = 0;
     let mut turns: u64 = 18446744073709551615;
     let mut is_read = true;
     while 0 < turns {
         turns -= 1;
-        let read = read_input(name, fd, s);
+        let read = read_input(name, from, s);
         n = plus(n, read.n as u64);
         is_read = read.is_read;
         if read.n == 0 {
@@ -75,12 +74,19 @@ fn count_rest(name: &[u8], fd: i32, s: &mut [u8; RECORD_LIMIT]) -> Counted {
 }
 
 // What was read of a file that is open.
-fn show_read(name: &[u8], fd: i32, blob: &[u8], index: &[u32], a: Asked, s: &[u8]) -> Status {
+fn show_read(
+    name: &[u8],
+    from: &mut Opened,
+    blob: &[u8],
+    index: &[u32],
+    a: Asked,
+    s: &[u8],
+) -> Status {
     if s.len() < a.size {
         return short(name, blob, index, a, s.len());
     }
     let mut more = [0u8; RECORD_LIMIT];
-    let counted = count_rest(name, fd, &mut more);
+    let counted = count_rest(name, from, &mut more);
     if !counted.is_read {
         return Status::Failed;
     }
@@ -88,22 +94,23 @@ fn show_read(name: &[u8], fd: i32, blob: &[u8], index: &[u32], a: Asked, s: &[u8
 }
 
 // The first record of what is open.
-fn show_first(name: &[u8], fd: i32, blob: &[u8], index: &[u32], a: Asked) -> Status {
+fn show_first(name: &[u8], from: &mut Opened, blob: &[u8], index: &[u32], a: Asked) -> Status {
     let mut s = [0u8; RECORD_LIMIT];
-    let read = read_input(name, fd, &mut s);
+    let read = read_input(name, from, &mut s);
     if !read.is_read {
         return Status::Failed;
     }
-    show_read(name, fd, blob, index, a, first_of(&s, read.n))
+    show_read(name, from, blob, index, a, first_of(&s, read.n))
 }
 
 // The record that a file begins with.
-pub fn show_file(name: &[u8], blob: &[u8], index: &[u32], a: Asked) -> Status {
-    let fd = open_input(name);
-    if fd < 0 {
-        return Status::Failed;
+pub fn show_file(rt: &HostRuntime, name: &[u8], blob: &[u8], index: &[u32], a: Asked) -> Status {
+    match open_input(rt, name) {
+        Some(mut from) => {
+            let status = show_first(name, &mut from, blob, index, a);
+            close_input(from);
+            status
+        }
+        None => Status::Failed,
     }
-    let status = show_first(name, fd, blob, index, a);
-    close_input(fd);
-    status
 }
