@@ -1,8 +1,11 @@
 // What is asked of one table, and its answer.
+#![tactic(auto)]
+
 use answers::of_report;
 use files::{READ_LIMIT, Status, end};
-use libc::{STDERR_FILENO, STDOUT_FILENO};
-use lines::{Out, ROOM, flush, put, put_file, put_name, put_whole, put_with};
+use lines::{
+    Out, ROOM, STDERR_FILENO, STDOUT_FILENO, flush, put, put_file, put_name, put_whole, put_with,
+};
 use listing::{show_all, show_named, show_one};
 use paper::{Checked, FULL_PLACES, NameOff, Order, TypeNo};
 use tables::{Laid, Lean, lay_table, refused};
@@ -227,11 +230,19 @@ fn answer_first(
 }
 
 // The file is read, and asked of in slices of full size; where it leans on a base, with that base's file.
-pub fn ask_file(ask: Ask, file: &[u8], base: &[u8], name: &[u8]) -> Status {
+pub fn ask_file(rt: &HostRuntime, ask: Ask, file: &[u8], base: &[u8], name: &[u8]) -> Status {
     let mut blob = [0u8; READ_LIMIT];
     let mut index = [0u32; FULL_PLACES];
     let mut work = [0u32; FULL_PLACES];
-    match lay_table(is_all(ask), file, base, &mut blob, &mut index, &mut work) {
+    match lay_table(
+        rt,
+        is_all(ask),
+        file,
+        base,
+        &mut blob,
+        &mut index,
+        &mut work,
+    ) {
         Laid::Ended(status) => status,
         Laid::Table(n, lean) => {
             answer_first(ask, file, &blob, n, &mut index, &mut work, name, lean)
