@@ -1,8 +1,7 @@
 // Which type a word asks for: by a number any, by a name the only struct or union that has it.
 use bases::record_of;
 use files::Status;
-use libc::STDERR_FILENO;
-use lines::{Out, ROOM, flush, put, put_file, put_name, put_number};
+use lines::{Out, ROOM, STDERR_FILENO, flush, put, put_file, put_name, put_number};
 use listing::is_named;
 use members::is_struct;
 use rows::{info_of, kind_of};

@@ -4,8 +4,7 @@ use answers::of_report;
 use asks::{Ask, missing};
 use bases::record_of;
 use files::{READ_LIMIT, Status, end};
-use libc::{STDERR_FILENO, STDOUT_FILENO};
-use lines::{ROOM, flush, put, put_file, put_with};
+use lines::{ROOM, STDERR_FILENO, STDOUT_FILENO, flush, put, put_file, put_with};
 use logs::{Asked, RECORD_LIMIT, put_refusal, show_bytes, show_each, show_file};
 use paper::{Checked, FULL_PLACES, Order};
 use rows::third_of;
@@ -60,16 +59,24 @@ fn too_long(file: &[u8], blob: &[u8], index: &[u32], t: u32, size: u32) -> Statu
 }
 
 // Records of a type, from where they come; what is given is the bytes, or the name of the file.
-fn read_from(blob: &[u8], index: &[u32], a: Asked, source: Source, given: &[u8]) -> Status {
+fn read_from(
+    rt: &HostRuntime,
+    blob: &[u8],
+    index: &[u32],
+    a: Asked,
+    source: Source,
+    given: &[u8],
+) -> Status {
     match source {
         Source::Bytes => show_bytes(b"--hex", blob, index, a, given),
-        Source::One => show_file(given, blob, index, a),
-        Source::Each => show_each(given, blob, index, a),
+        Source::One => show_file(rt, given, blob, index, a),
+        Source::Each => show_each(rt, given, blob, index, a),
     }
 }
 
 // Records of a type of a table of so many.
 fn read_type(
+    rt: &HostRuntime,
     file: &[u8],
     blob: &[u8],
     index: &[u32],
@@ -90,11 +97,12 @@ fn read_type(
         t,
         size: size as usize,
     };
-    read_from(blob, index, a, source, given)
+    read_from(rt, blob, index, a, source, given)
 }
 
 // The type that a word asks for.
 fn read_word(
+    rt: &HostRuntime,
     file: &[u8],
     blob: &[u8],
     index: &[u32],
@@ -108,20 +116,21 @@ fn read_word(
             if n < t {
                 return missing(file, Ask::One(t), n);
             }
-            read_type(file, blob, index, n, t, source, given)
+            read_type(rt, file, blob, index, n, t, source, given)
         }
         Number::Not => {
             let found = by_name(blob, index, n, word);
             if found.count != 1 {
                 return unclear(file, blob, index, n, word, found.count);
             }
-            read_type(file, blob, index, n, found.first, source, given)
+            read_type(rt, file, blob, index, n, found.first, source, given)
         }
     }
 }
 
 // A table that is accepted, of so many types.
 fn read_accepted(
+    rt: &HostRuntime,
     file: &[u8],
     blob: &[u8],
     index: &[u32],
@@ -132,12 +141,13 @@ fn read_accepted(
 ) -> Status {
     match words::order_of(blob) {
         Order::HighFirst => high_first(file),
-        Order::LowFirst => read_word(file, blob, index, n, word, source, given),
+        Order::LowFirst => read_word(rt, file, blob, index, n, word, source, given),
     }
 }
 
 // The table is checked before anything is read by it.
 fn read_checked(
+    rt: &HostRuntime,
     file: &[u8],
     blob: &[u8],
     index: &mut [u32],
@@ -148,12 +158,13 @@ fn read_checked(
 ) -> Status {
     match gate::check(blob, index, work) {
         Checked::Refused(r) => refused(false, file, blob, index, of_report(r)),
-        Checked::Accepted(n) => read_accepted(file, blob, index, n, word, source, given),
+        Checked::Accepted(n) => read_accepted(rt, file, blob, index, n, word, source, given),
     }
 }
 
 // The table in the first bytes of what is lent. A function of its own: an array that was changed is not cut behind a match.
 fn read_first(
+    rt: &HostRuntime,
     file: &[u8],
     blob: &[u8; READ_LIMIT],
     n: usize,
@@ -163,18 +174,36 @@ fn read_first(
     source: Source,
     given: &[u8],
 ) -> Status {
-    read_checked(file, first_of(blob, n), index, work, word, source, given)
+    read_checked(
+        rt,
+        file,
+        first_of(blob, n),
+        index,
+        work,
+        word,
+        source,
+        given,
+    )
 }
 
 // The table in a file, and in its base's where it leans on one; the word that asks for a type of it; and where records come from.
-pub fn read_records(file: &[u8], base: &[u8], word: &[u8], source: Source, given: &[u8]) -> Status {
+pub fn read_records(
+    rt: &HostRuntime,
+    file: &[u8],
+    base: &[u8],
+    word: &[u8],
+    source: Source,
+    given: &[u8],
+) -> Status {
     let mut blob = [0u8; READ_LIMIT];
     let mut index = [0u32; FULL_PLACES];
     let mut work = [0u32; FULL_PLACES];
-    match lay_table(false, file, base, &mut blob, &mut index, &mut work) {
+    match lay_table(rt, false, file, base, &mut blob, &mut index, &mut work) {
         Laid::Ended(status) => status,
         Laid::Table(n, _) => {
-            read_first(file, &blob, n, &mut index, &mut work, word, source, given)
+            read_first(
+                rt, file, &blob, n, &mut index, &mut work, word, source, given,
+            )
         }
     }
 }
