@@ -1,12 +1,12 @@
 // What a cut gives: two files, or that there is no such cut.
 use files::{Modes, Status, end, save_both};
-use libc::STDOUT_FILENO;
-use lines::{ROOM, put, put_file};
+use lines::{ROOM, STDOUT_FILENO, put, put_file};
 use tables::put_made;
 use titles::put_many;
 
 // Both parts are saved, and the answer says how large they are.
 pub(crate) fn saved(
+    rt: &HostRuntime,
     one: &[u8],
     first: &[u8],
     first_n: u32,
@@ -15,7 +15,7 @@ pub(crate) fn saved(
     second_n: u32,
     modes: Modes,
 ) -> Status {
-    if !save_both(one, first, two, second, modes) {
+    if !save_both(rt, one, first, two, second, modes) {
         return Status::Failed;
     }
     let mut buf = [0u8; ROOM];

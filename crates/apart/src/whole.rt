@@ -32,12 +32,13 @@ fn numbers_in(file: &[u8], blob: &[u8], index: &mut [u32], work: &mut [u32]) -> 
 
 // The numbers of the table in a file.
 fn numbers_like(
+    rt: &HostRuntime,
     file: &[u8],
     blob: &mut [u8; READ_LIMIT],
     index: &mut [u32; FULL_PLACES],
     work: &mut [u32; FULL_PLACES],
 ) -> Known {
-    let read = read_file(file, blob);
+    let read = read_file(rt, file, blob);
     if !read.is_read {
         return Known::Ended(Status::Failed);
     }
@@ -45,6 +46,7 @@ fn numbers_like(
 }
 
 fn numbers_of(
+    rt: &HostRuntime,
     cut: Cut,
     like: &[u8],
     blob: &mut [u8; READ_LIMIT],
@@ -53,12 +55,13 @@ fn numbers_of(
 ) -> Known {
     match cut {
         Cut::At(types, strings) => Known::At(types, strings),
-        Cut::Like => numbers_like(like, blob, index, work),
+        Cut::Like => numbers_like(rt, like, blob, index, work),
     }
 }
 
 // The parts are the first bytes of what is lent.
 fn save_parts(
+    rt: &HostRuntime,
     one: &[u8],
     first: &[u8; READ_LIMIT],
     first_len: u32,
@@ -72,11 +75,12 @@ fn save_parts(
     let second = first_of(second, second_len as usize);
     let first_n = count(first, index);
     let second_n = count(second, index);
-    saved(one, first, first_n, two, second, second_n, modes)
+    saved(rt, one, first, first_n, two, second, second_n, modes)
 }
 
 // A table is cut behind so many types and bytes of strings.
 fn cut_table(
+    rt: &HostRuntime,
     file: &[u8],
     blob: &[u8],
     types: u32,
@@ -98,7 +102,7 @@ fn cut_table(
         first,
         &mut second,
     ) {
-        Parted::Apart(n, m) => save_parts(one, first, n, two, &second, m, modes, index),
+        Parted::Apart(n, m) => save_parts(rt, one, first, n, two, &second, m, modes, index),
         Parted::Refused(r) => refused(false, file, blob, index, of_report(r)),
         Parted::NoCut => no_cut(file, types, strings),
         Parted::OutputShort => short(file),
@@ -106,6 +110,7 @@ fn cut_table(
 }
 
 fn cut_at(
+    rt: &HostRuntime,
     file: &[u8],
     types: u32,
     strings: u32,
@@ -117,19 +122,20 @@ fn cut_at(
     work: &mut [u32; FULL_PLACES],
 ) -> Status {
     let mut joined = [0u8; READ_LIMIT];
-    let read = read_file(file, &mut joined);
+    let read = read_file(rt, file, &mut joined);
     if !read.is_read {
         return Status::Failed;
     }
     let blob = first_of(&joined, read.n);
     cut_table(
-        file, blob, types, strings, one, two, modes, first, index, work,
+        rt, file, blob, types, strings, one, two, modes, first, index, work,
     )
 }
 
 // The table in a file is cut in slices of full size, and its parts are saved under two names. The table that it is cut like waits where
 // the first part will stand.
 pub fn cut_files(
+    rt: &HostRuntime,
     file: &[u8],
     cut: Cut,
     like: &[u8],
@@ -140,10 +146,10 @@ pub fn cut_files(
     let mut first = [0u8; READ_LIMIT];
     let mut index = [0u32; FULL_PLACES];
     let mut work = [0u32; FULL_PLACES];
-    match numbers_of(cut, like, &mut first, &mut index, &mut work) {
+    match numbers_of(rt, cut, like, &mut first, &mut index, &mut work) {
         Known::Ended(status) => status,
         Known::At(types, strings) => cut_at(
-            file, types, strings, one, two, modes, &mut first, &mut index, &mut work,
+            rt, file, types, strings, one, two, modes, &mut first, &mut index, &mut work,
         ),
     }
 }
