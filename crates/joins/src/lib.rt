@@ -1,5 +1,7 @@
 // The join as a verb of the tool: files are read and joined from the left, the joined table is saved, and what the tables have in two
 // shapes is told.
+#![tactic(auto)]
+
 mod given; // which arguments name the tables
 mod refusals; // what is told of a join that gives no table
 mod same; // whether two types say the same

@@ -2,8 +2,7 @@
 use crate::given::{Given, put_word, word_of};
 use answers::{Numbers, of_report};
 use files::{Status, end};
-use libc::STDOUT_FILENO;
-use lines::{Out, ROOM, put};
+use lines::{Out, ROOM, STDOUT_FILENO, put};
 use paper::Joined;
 use reports::put_report;
 use texts::line;
@@ -27,6 +26,7 @@ fn put_number(buf: &mut [u8; ROOM], o: Out, k: u32) -> Out {
 
 // "join: refused, report 16: the first table is refused, NAME: report 5: .."
 fn put_inner(
+    rt: &HostRuntime,
     buf: &mut [u8; ROOM],
     o: Out,
     given: Given,
@@ -37,32 +37,32 @@ fn put_inner(
     let o = put_number(buf, o, k);
     let o = put_which(buf, o, k);
     let o = put(buf, o, b" is refused, ");
-    let o = put_word(buf, o, word_of(given, k));
+    let o = put_word(rt, buf, o, word_of(given, k));
     let o = put(buf, o, b": ");
     put_report(buf, o, blob, told)
 }
 
 // A table that is refused by itself is told with its own report.
-fn refused(given: Given, k: u32, blob: &[u8], told: Numbers) -> Status {
+fn refused(rt: &HostRuntime, given: Given, k: u32, blob: &[u8], told: Numbers) -> Status {
     let mut buf = [0u8; ROOM];
-    let o = put_inner(&mut buf, lines::to(STDOUT_FILENO), given, k, blob, told);
+    let o = put_inner(rt, &mut buf, lines::to(STDOUT_FILENO), given, k, blob, told);
     end(&mut buf, o, Status::Refused)
 }
 
 // Of more than two tables, the first that does not go with those before it.
-fn put_stray(buf: &mut [u8; ROOM], o: Out, given: Given, k: u32) -> Out {
+fn put_stray(rt: &HostRuntime, buf: &mut [u8; ROOM], o: Out, given: Given, k: u32) -> Out {
     if given.count <= 2 {
         return o;
     }
     let o = put(buf, o, b"    ");
-    let o = put_word(buf, o, word_of(given, k));
+    let o = put_word(rt, buf, o, word_of(given, k));
     let o = put(buf, o, b", ");
     let o = put_which(buf, o, k);
     put(buf, o, b", cannot be joined to what stands before it\n")
 }
 
 // Tables that do not go together: reports 24, 18, 19 and 20.
-fn apart(given: Given, k: u32, why: u32) -> Status {
+fn apart(rt: &HostRuntime, given: Given, k: u32, why: u32) -> Status {
     let whys =
         b"report 24: the tables have different byte orders: one is little-endian, the other big-endian\n\
         report 18: together there are more than 16384 types\n\
@@ -72,18 +72,25 @@ fn apart(given: Given, k: u32, why: u32) -> Status {
     let o = put(&mut buf, lines::to(STDOUT_FILENO), b"join: refused, ");
     let o = put(&mut buf, o, line(whys, why));
     let o = put(&mut buf, o, b"\n");
-    let o = put_stray(&mut buf, o, given, k);
+    let o = put_stray(rt, &mut buf, o, given, k);
     end(&mut buf, o, Status::Refused)
 }
 
 // A table, counted from 0, that could not be joined to those before it.
-pub(crate) fn unjoined(j: Joined, given: Given, k: u32, before: &[u8], blob: &[u8]) -> Status {
+pub(crate) fn unjoined(
+    rt: &HostRuntime,
+    j: Joined,
+    given: Given,
+    k: u32,
+    before: &[u8],
+    blob: &[u8],
+) -> Status {
     match j {
-        Joined::FirstRefused(r) => refused(given, 0, before, of_report(r)),
-        Joined::SecondRefused(r) => refused(given, k, blob, of_report(r)),
-        Joined::OrdersDiffer => apart(given, k, 0),
-        Joined::TooMany => apart(given, k, 1),
-        Joined::TooLong => apart(given, k, 2),
-        _ => apart(given, k, 3),
+        Joined::FirstRefused(r) => refused(rt, given, 0, before, of_report(r)),
+        Joined::SecondRefused(r) => refused(rt, given, k, blob, of_report(r)),
+        Joined::OrdersDiffer => apart(rt, given, k, 0),
+        Joined::TooMany => apart(rt, given, k, 1),
+        Joined::TooLong => apart(rt, given, k, 2),
+        _ => apart(rt, given, k, 3),
     }
 }

@@ -1,7 +1,7 @@
 // One table after another is read and joined to those before it. How they are grouped makes no difference to a byte (`join-brackets`).
 use crate::given::{Given, TABLES, word_of};
 use crate::refusals::unjoined;
-use files::{READ_LIMIT, Read, Status, append, read_file};
+use files::{READ_LIMIT, Read, Status, append, arg, read_file};
 use paper::{BYTE_LIMIT, FULL_PLACES, Joined};
 use tables::count;
 use texts::first_of;
@@ -17,10 +17,15 @@ pub(crate) enum Step {
 }
 
 // The file of a table, counted from 0.
-pub(crate) fn read_table(given: Given, k: u32, blob: &mut [u8; READ_LIMIT]) -> Read {
+pub(crate) fn read_table(
+    rt: &HostRuntime,
+    given: Given,
+    k: u32,
+    blob: &mut [u8; READ_LIMIT],
+) -> Read {
     let mut s = [0u8; 4096];
-    let n = os::arg(word_of(given, k), &mut s);
-    read_file(first_of(&s, n), blob)
+    let n = arg(rt, word_of(given, k), &mut s);
+    read_file(rt, first_of(&s, n), blob)
 }
 
 // How many types stand before a table is kept.
@@ -33,6 +38,7 @@ fn keep(before: &mut [u32; KEPT], k: u32, n: u32) {
 
 // The next table is joined to the first bytes of `all`, which the joined table then takes the place of.
 fn join_next(
+    rt: &HostRuntime,
     given: Given,
     k: u32,
     all: &mut [u8; READ_LIMIT],
@@ -46,11 +52,12 @@ fn join_next(
     if let Joined::Whole(len) = answer {
         return Step::Whole(append(all, 0, first_of(joined, len as usize)));
     }
-    Step::Ended(unjoined(answer, given, k, first_of(all, n), next))
+    Step::Ended(unjoined(rt, answer, given, k, first_of(all, n), next))
 }
 
 // The next table is read, and how many types stand before it is kept.
 fn read_and_join(
+    rt: &HostRuntime,
     given: Given,
     k: u32,
     all: &mut [u8; READ_LIMIT],
@@ -61,12 +68,13 @@ fn read_and_join(
     work: &mut [u32; FULL_PLACES],
     before: &mut [u32; KEPT],
 ) -> Step {
-    let read = read_table(given, k, next);
+    let read = read_table(rt, given, k, next);
     if !read.is_read {
         return Step::Ended(Status::Failed);
     }
     keep(before, k, count(first_of(all, n), index));
     join_next(
+        rt,
         given,
         k,
         all,
@@ -80,6 +88,7 @@ fn read_and_join(
 
 // All tables behind the first, which has so many bytes.
 pub(crate) fn join_rest(
+    rt: &HostRuntime,
     given: Given,
     all: &mut [u8; READ_LIMIT],
     n: usize,
@@ -93,7 +102,7 @@ pub(crate) fn join_rest(
     let mut n = n;
     let mut k: u32 = 1;
     while k < count {
-        match read_and_join(given, k, all, n, next, joined, index, work, before) {
+        match read_and_join(rt, given, k, all, n, next, joined, index, work, before) {
             Step::Ended(status) => return Step::Ended(status),
             Step::Whole(len) => n = len,
         }

@@ -4,8 +4,7 @@ use crate::given::{Given, out_of, put_word, word_of};
 use crate::same::{record_at, same_name, same_record};
 use crate::steps::KEPT;
 use kindrows::{DATASEC, DECL_TAG, TYPE_TAG};
-use libc::STDERR_FILENO;
-use lines::{Out, ROOM, flush, put, put_with};
+use lines::{Out, ROOM, STDERR_FILENO, flush, put, put_with};
 use paper::Order;
 use rows::{info_of, kind_of, name_of};
 use titles::put_record;
@@ -77,6 +76,7 @@ fn twin_of(blob: &[u8], index: &[u32], n: u32, own: Own, t: u32) -> u32 {
 
 // "scrieve: note: the tables differ in STRUCT blade: type 2 of A, type 3 of B", by the numbers that the two have in their own tables.
 fn put_pair(
+    rt: &HostRuntime,
     buf: &mut [u8; ROOM],
     o: Out,
     given: Given,
@@ -89,15 +89,16 @@ fn put_pair(
     let o = put_record(buf, o, blob, r);
     let o = put_with(buf, o, b": type ", t as u64);
     let o = put(buf, o, b" of ");
-    let o = put_word(buf, o, word_of(given, 0));
+    let o = put_word(rt, buf, o, word_of(given, 0));
     let o = put_with(buf, o, b", type ", u as u64);
     let o = put(buf, o, b" of ");
-    let o = put_word(buf, o, word_of(given, 1));
+    let o = put_word(rt, buf, o, word_of(given, 1));
     put(buf, o, b"\n")
 }
 
 // "scrieve: note: C differs from the tables before it in STRUCT blade: types 2 and 7 of OUT"
 fn put_later(
+    rt: &HostRuntime,
     buf: &mut [u8; ROOM],
     o: Out,
     given: Given,
@@ -108,18 +109,19 @@ fn put_later(
     u: u32,
 ) -> Out {
     let o = put(buf, o, b"scrieve: note: ");
-    let o = put_word(buf, o, word_of(given, k));
+    let o = put_word(rt, buf, o, word_of(given, k));
     let o = put(buf, o, b" differs from the tables before it in ");
     let o = put_record(buf, o, blob, r);
     let o = put_with(buf, o, b": types ", t as u64);
     let o = put_with(buf, o, b" and ", u as u64);
     let o = put(buf, o, b" of ");
-    let o = put_word(buf, o, out_of(given));
+    let o = put_word(rt, buf, o, out_of(given));
     put(buf, o, b"\n")
 }
 
 // A type of the table k and one before it differ: of two tables each has its own number, of more the joined table's.
 fn put_note(
+    rt: &HostRuntime,
     buf: &mut [u8; ROOM],
     o: Out,
     given: Given,
@@ -132,10 +134,10 @@ fn put_note(
 ) -> Out {
     if given.count == 2 {
         if before <= u {
-            return put_pair(buf, o, given, blob, r, t, u - before);
+            return put_pair(rt, buf, o, given, blob, r, t, u - before);
         }
     }
-    put_later(buf, o, given, k, blob, r, t, u)
+    put_later(rt, buf, o, given, k, blob, r, t, u)
 }
 
 fn put_others(buf: &mut [u8; ROOM], o: Out, found: u32) -> Out {
@@ -148,6 +150,7 @@ fn put_others(buf: &mut [u8; ROOM], o: Out, found: u32) -> Out {
 
 // A note for each type before the table k that has such a twin in it, at most so many.
 fn put_twins(
+    rt: &HostRuntime,
     buf: &mut [u8; ROOM],
     o: Out,
     given: Given,
@@ -167,7 +170,7 @@ fn put_twins(
         if u != 0 {
             if found < NOTES {
                 let r = record_at(blob, index, n, t);
-                o = put_note(buf, o, given, k, blob, r, before, t, u);
+                o = put_note(rt, buf, o, given, k, blob, r, before, t, u);
             }
             found += 1;
         }
@@ -187,7 +190,14 @@ fn types_before(before: &[u32; KEPT], given: Given, k: u32, n: u32) -> u32 {
 }
 
 // What the tables have in two shapes is told on standard error; the join is what it is.
-pub(crate) fn note_twins(given: Given, blob: &[u8], index: &[u32], n: u32, before: &[u32; KEPT]) {
+pub(crate) fn note_twins(
+    rt: &HostRuntime,
+    given: Given,
+    blob: &[u8],
+    index: &[u32],
+    n: u32,
+    before: &[u32; KEPT],
+) {
     let mut buf = [0u8; ROOM];
     let mut o = lines::to(STDERR_FILENO);
     let count = given.count;
@@ -197,7 +207,7 @@ pub(crate) fn note_twins(given: Given, blob: &[u8], index: &[u32], n: u32, befor
             before: types_before(before, given, k, n),
             last: types_before(before, given, k + 1, n),
         };
-        o = put_twins(&mut buf, o, given, k, blob, index, n, own);
+        o = put_twins(rt, &mut buf, o, given, k, blob, index, n, own);
         k += 1;
     }
     flush(&mut buf, o);

@@ -2,16 +2,15 @@
 use crate::given::{Given, out_of};
 use crate::steps::{KEPT, Step, join_rest, read_table};
 use crate::twins::note_twins;
-use files::{READ_LIMIT, Status, end, save};
-use libc::STDOUT_FILENO;
-use lines::ROOM;
+use files::{READ_LIMIT, Status, arg, end, save};
+use lines::{ROOM, STDOUT_FILENO};
 use paper::{BYTE_LIMIT, FULL_PLACES};
 use tables::{count, put_made};
 use texts::first_of;
 
 // The joined table is saved under a name, and the answer says how large it is.
-fn saved_as(name: &[u8], joined: &[u8], n: u32) -> Status {
-    if !save(name, joined) {
+fn saved_as(rt: &HostRuntime, name: &[u8], joined: &[u8], n: u32) -> Status {
+    if !save(rt, name, joined) {
         return Status::Failed;
     }
     let mut buf = [0u8; ROOM];
@@ -27,14 +26,15 @@ fn saved_as(name: &[u8], joined: &[u8], n: u32) -> Status {
 }
 
 // The name is the argument behind the tables.
-fn saved(given: Given, joined: &[u8], n: u32) -> Status {
+fn saved(rt: &HostRuntime, given: Given, joined: &[u8], n: u32) -> Status {
     let mut s = [0u8; 4096];
-    let len = os::arg(out_of(given), &mut s);
-    saved_as(first_of(&s, len), joined, n)
+    let len = arg(rt, out_of(given), &mut s);
+    saved_as(rt, first_of(&s, len), joined, n)
 }
 
 // The whole join is saved, and then what the tables have in two shapes is told.
 fn finish(
+    rt: &HostRuntime,
     given: Given,
     all: &[u8; READ_LIMIT],
     len: usize,
@@ -43,21 +43,22 @@ fn finish(
 ) -> Status {
     let joined = first_of(all, len);
     let n = count(joined, index);
-    let status = saved(given, joined, n);
+    let status = saved(rt, given, joined, n);
     if let Status::Done = status {
-        note_twins(given, joined, index, n, before);
+        note_twins(rt, given, joined, index, n, before);
     }
     status
 }
 
 // The tables are joined in slices of full size, which serve for every step.
-fn join_behind(given: Given, all: &mut [u8; READ_LIMIT], n: usize) -> Status {
+fn join_behind(rt: &HostRuntime, given: Given, all: &mut [u8; READ_LIMIT], n: usize) -> Status {
     let mut next = [0u8; READ_LIMIT];
     let mut joined = [0u8; BYTE_LIMIT];
     let mut index = [0u32; FULL_PLACES];
     let mut work = [0u32; FULL_PLACES];
     let mut before = [0u32; KEPT];
     match join_rest(
+        rt,
         given,
         all,
         n,
@@ -68,16 +69,16 @@ fn join_behind(given: Given, all: &mut [u8; READ_LIMIT], n: usize) -> Status {
         &mut before,
     ) {
         Step::Ended(status) => status,
-        Step::Whole(len) => finish(given, all, len, &mut index, &before),
+        Step::Whole(len) => finish(rt, given, all, len, &mut index, &before),
     }
 }
 
 // The files are read, joined from the left and saved as one.
-pub fn join_files(given: Given) -> Status {
+pub fn join_files(rt: &HostRuntime, given: Given) -> Status {
     let mut all = [0u8; READ_LIMIT];
-    let read = read_table(given, 0, &mut all);
+    let read = read_table(rt, given, 0, &mut all);
     if !read.is_read {
         return Status::Failed;
     }
-    join_behind(given, &mut all, read.n)
+    join_behind(rt, given, &mut all, read.n)
 }
