@@ -16,7 +16,7 @@ const NONE: u8 = 16;
 fn digit(c: u8) -> u8 {
     match c {
         b'0'..=b'9' => c - b'0',
-        b'_a'..=b'_f' => c - b'_a' + 10,
+        b'A'..=b'F' => c - b'A' + 10,
         b'a'..=b'f' => c - b'a' + 10,
         _ => NONE,
     }
