@@ -5,8 +5,7 @@ use answers::{Numbers, of_extended, of_report};
 use ext::check_ext;
 use exts::Extended;
 use files::{READ_LIMIT, Status, end, read_file};
-use libc::STDOUT_FILENO;
-use lines::{Out, ROOM, flush, put, put_file, put_with};
+use lines::{Out, ROOM, STDOUT_FILENO, flush, put, put_file, put_with};
 use paper::FULL_PLACES;
 use tables::{count, refused};
 use texts::first_of;
@@ -95,14 +94,14 @@ fn ext_blobs(table: &[u8], blob: &[u8], file: &[u8], s: &[u8], is_shown: bool) -
 }
 
 // The table and the section in two files; every record in words where that is asked for.
-pub fn ext_files(table: &[u8], file: &[u8], is_shown: bool) -> Status {
+pub fn ext_files(rt: &HostRuntime, table: &[u8], file: &[u8], is_shown: bool) -> Status {
     let mut blob = [0u8; READ_LIMIT];
     let mut s = [0u8; READ_LIMIT];
-    let read = read_file(table, &mut blob);
+    let read = read_file(rt, table, &mut blob);
     if !read.is_read {
         return Status::Failed;
     }
-    let section = read_file(file, &mut s);
+    let section = read_file(rt, file, &mut s);
     if !section.is_read {
         return Status::Failed;
     }
