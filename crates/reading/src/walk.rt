@@ -1,6 +1,6 @@
 // The lines of a record: each member, and right below it what it holds, with bits counted from the start of the record that is shown.
+use crate::contents::{Part, count_of, held_by, is_array, next_start, part_of};
 use crate::numbers::put_value;
-use crate::parts::{Part, count_of, held_by, is_array, next_start, part_of};
 use bases::{long_entry, record_of};
 use entries::{
     LEVELS, LINES, Listed, Span, least, less, plus, put_indent, put_more, put_taken, with,
