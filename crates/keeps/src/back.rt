@@ -11,7 +11,7 @@ use texts::first_of;
 const READ: usize = LIST_LIMIT + 1;
 
 // The table of a list in slices of full size.
-fn make_table(file: &[u8], s: &[u8], out: &[u8]) -> Status {
+fn make_table(rt: &HostRuntime, file: &[u8], s: &[u8], out: &[u8]) -> Status {
     let mut index = [0u32; FULL_PLACES];
     let mut work = [0u32; FULL_PLACES];
     let mut bytes = [0u8; BYTE_LIMIT];
@@ -19,7 +19,7 @@ fn make_table(file: &[u8], s: &[u8], out: &[u8]) -> Status {
     match list::read(s, &mut index, &mut work, &mut bytes, &mut table) {
         Made::Whole(n) => {
             let made = first_of(&table, n as usize);
-            saved(out, b": table", made, count(made, &mut index))
+            saved(rt, out, b": table", made, count(made, &mut index))
         }
         Made::Unread(f) => unread(file, f),
         Made::Short => short(file),
@@ -27,14 +27,14 @@ fn make_table(file: &[u8], s: &[u8], out: &[u8]) -> Status {
     }
 }
 
-pub fn make_file(file: &[u8], out: &[u8]) -> Status {
+pub fn make_file(rt: &HostRuntime, file: &[u8], out: &[u8]) -> Status {
     let mut s = [0u8; READ];
-    let read = read_file(file, &mut s);
+    let read = read_file(rt, file, &mut s);
     if !read.is_read {
         return Status::Failed;
     }
     if LIST_LIMIT < read.n {
         return long(file);
     }
-    make_table(file, first_of(&s, read.n), out)
+    make_table(rt, file, first_of(&s, read.n), out)
 }

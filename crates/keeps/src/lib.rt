@@ -1,4 +1,6 @@
 // The list as two verbs of the tool: a table is written out as its list, and a list is read back as its table; each as bytes and as a text.
+#![tactic(auto)]
+
 mod back; // a list is read, and its table saved
 mod out; // a table is read, and its list saved
 mod text_in; // a text is read, and its table saved

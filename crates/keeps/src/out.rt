@@ -8,12 +8,13 @@ use tables::{count, refused};
 use texts::first_of;
 
 // The list of a table in a slice that holds any.
-fn list_table(file: &[u8], blob: &[u8], out: &[u8]) -> Status {
+fn list_table(rt: &HostRuntime, file: &[u8], blob: &[u8], out: &[u8]) -> Status {
     let mut index = [0u32; FULL_PLACES];
     let mut work = [0u32; FULL_PLACES];
     let mut s = [0u8; LIST_LIMIT];
     match list::write(blob, &mut index, &mut work, &mut s) {
         Wrote::Whole(n) => saved(
+            rt,
             out,
             b": list",
             first_of(&s, n as usize),
@@ -24,11 +25,11 @@ fn list_table(file: &[u8], blob: &[u8], out: &[u8]) -> Status {
     }
 }
 
-pub fn list_file(file: &[u8], out: &[u8]) -> Status {
+pub fn list_file(rt: &HostRuntime, file: &[u8], out: &[u8]) -> Status {
     let mut blob = [0u8; READ_LIMIT];
-    let read = read_file(file, &mut blob);
+    let read = read_file(rt, file, &mut blob);
     if !read.is_read {
         return Status::Failed;
     }
-    list_table(file, first_of(&blob, read.n), out)
+    list_table(rt, file, first_of(&blob, read.n), out)
 }

@@ -20,49 +20,56 @@ fn tell_other(file: &[u8], table: &[u8], text: &[u8], at: usize) -> Status {
 }
 
 // An accepted table of n types is saved, if its text is the one that was read.
-fn save_table(file: &[u8], table: &[u8], text: &mut [u8], out: &[u8], n: u32) -> Status {
+fn save_table(
+    rt: &HostRuntime,
+    file: &[u8],
+    table: &[u8],
+    text: &mut [u8],
+    out: &[u8],
+    n: u32,
+) -> Status {
     let held = hold_text(table, text);
     if !held.is_same {
         return tell_other(file, table, text, held.at);
     }
-    saved(out, b": table", table, n)
+    saved(rt, out, b": table", table, n)
 }
 
 // The table of a text is checked.
-fn check_table(file: &[u8], table: &[u8], text: &mut [u8], out: &[u8]) -> Status {
+fn check_table(rt: &HostRuntime, file: &[u8], table: &[u8], text: &mut [u8], out: &[u8]) -> Status {
     let mut index = [0u32; FULL_PLACES];
     let mut work = [0u32; FULL_PLACES];
     match gate::check(table, &mut index, &mut work) {
         Checked::Refused(r) => refused_text(file, table, of_report(r)),
-        Checked::Accepted(n) => save_table(file, table, text, out, n),
+        Checked::Accepted(n) => save_table(rt, file, table, text, out, n),
     }
 }
 
-fn make_of(file: &[u8], text: &mut [u8], out: &[u8]) -> Status {
+fn make_of(rt: &HostRuntime, file: &[u8], text: &mut [u8], out: &[u8]) -> Status {
     let mut strings = [0u8; BYTE_LIMIT];
     let mut table = [0u8; BYTE_LIMIT];
     match take_text(text, &mut strings, &mut table) {
         Taken::Fault(e) => unread_text(file, text, e),
-        Taken::Table(n) => check_table(file, first_of(&table, n), text, out),
+        Taken::Table(n) => check_table(rt, file, first_of(&table, n), text, out),
     }
 }
 
 // The text is in the first bytes of those that were lent for it.
-fn make_first(file: &[u8], text: &mut [u8], n: usize, out: &[u8]) -> Status {
+fn make_first(rt: &HostRuntime, file: &[u8], text: &mut [u8], n: usize, out: &[u8]) -> Status {
     if text.len() < n {
         return Status::Failed;
     }
-    make_of(file, &mut text[..n], out)
+    make_of(rt, file, &mut text[..n], out)
 }
 
-pub fn make_text_file(file: &[u8], out: &[u8]) -> Status {
+pub fn make_text_file(rt: &HostRuntime, file: &[u8], out: &[u8]) -> Status {
     let mut text = [0u8; READ];
-    let read = read_file(file, &mut text);
+    let read = read_file(rt, file, &mut text);
     if !read.is_read {
         return Status::Failed;
     }
     if TEXT_LIMIT < read.n {
         return long_text(file);
     }
-    make_first(file, &mut text, read.n, out)
+    make_first(rt, file, &mut text, read.n, out)
 }

@@ -3,7 +3,7 @@ use crate::text_told::long_text;
 use crate::told::saved;
 use answers::of_report;
 use files::{READ_LIMIT, Status, read_file};
-use libc::STDERR_FILENO;
+use lines::STDERR_FILENO;
 use list_text::{Taken, put_text, take_text};
 use paper::{BYTE_LIMIT, Checked, FULL_PLACES};
 use tables::refused;
@@ -23,7 +23,7 @@ fn says(text: &[u8], blob: &[u8]) -> bool {
 }
 
 // The text of an accepted table of n types.
-fn save_text(file: &[u8], blob: &[u8], out: &[u8], n: u32) -> Status {
+fn save_text(rt: &HostRuntime, file: &[u8], blob: &[u8], out: &[u8], n: u32) -> Status {
     let mut text = [0u8; TEXT_LIMIT];
     let len = put_text(blob, &mut text);
     if len == 0 {
@@ -37,23 +37,23 @@ fn save_text(file: &[u8], blob: &[u8], out: &[u8], n: u32) -> Status {
         );
         return Status::Failed;
     }
-    saved(out, b": text", s, n)
+    saved(rt, out, b": text", s, n)
 }
 
-fn text_table(file: &[u8], blob: &[u8], out: &[u8]) -> Status {
+fn text_table(rt: &HostRuntime, file: &[u8], blob: &[u8], out: &[u8]) -> Status {
     let mut index = [0u32; FULL_PLACES];
     let mut work = [0u32; FULL_PLACES];
     match gate::check(blob, &mut index, &mut work) {
         Checked::Refused(r) => refused(false, file, blob, &mut index, of_report(r)),
-        Checked::Accepted(n) => save_text(file, blob, out, n),
+        Checked::Accepted(n) => save_text(rt, file, blob, out, n),
     }
 }
 
-pub fn list_text_file(file: &[u8], out: &[u8]) -> Status {
+pub fn list_text_file(rt: &HostRuntime, file: &[u8], out: &[u8]) -> Status {
     let mut blob = [0u8; READ_LIMIT];
-    let read = read_file(file, &mut blob);
+    let read = read_file(rt, file, &mut blob);
     if !read.is_read {
         return Status::Failed;
     }
-    text_table(file, first_of(&blob, read.n), out)
+    text_table(rt, file, first_of(&blob, read.n), out)
 }

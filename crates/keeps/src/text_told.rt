@@ -1,8 +1,7 @@
 // What is said of a text that cannot be read, or is not written as the tool writes it.
 use answers::Numbers;
 use files::{Status, end};
-use libc::STDOUT_FILENO;
-use lines::{Out, ROOM, put, put_file, put_number, put_with};
+use lines::{Out, ROOM, STDOUT_FILENO, put, put_file, put_number, put_with};
 use list_text::{Eye, LABEL, LABELS, Spot, TYPE, spot_of};
 use reports::put_report;
 use texts::{first_of, line};

@@ -1,8 +1,7 @@
 // What is said of a list or a table that was saved, and of one that was not.
 use answers::Numbers;
 use files::{Status, end, save};
-use libc::STDOUT_FILENO;
-use lines::{Out, ROOM, put, put_file, put_with};
+use lines::{Out, ROOM, STDOUT_FILENO, put, put_file, put_with};
 use lists::Fault;
 use tables::put_made;
 use texts::line;
@@ -12,8 +11,8 @@ use texts::line;
 pub(crate) const LIST_LIMIT: usize = 311284;
 
 // It is saved under a name, and the answer says how large it is.
-pub(crate) fn saved(name: &[u8], what: &[u8], s: &[u8], n: u32) -> Status {
-    if !save(name, s) {
+pub(crate) fn saved(rt: &HostRuntime, name: &[u8], what: &[u8], s: &[u8], n: u32) -> Status {
+    if !save(rt, name, s) {
         return Status::Failed;
     }
     let mut buf = [0u8; ROOM];
