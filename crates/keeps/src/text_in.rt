@@ -1,5 +1,5 @@
 // A text is read, and its table is saved.
-use crate::text_out::TEXT_LIMIT;
+use crate::text_out::{HALF, TEXT_LIMIT};
 use crate::text_told::{long_text, other_text, refused_text, unread_text};
 use crate::told::saved;
 use answers::of_report;
@@ -8,15 +8,21 @@ use list_text::{Taken, hold_text, put_text, spot_of, take_text};
 use paper::{BYTE_LIMIT, Checked, FULL_PLACES};
 use texts::first_of;
 
-// One byte more than a text can have, so that a longer one is seen.
+// One byte more than a text can have, so that a longer one is seen, in three parts that are as long as each other.
 const READ: usize = TEXT_LIMIT + 1;
 
-// The line of the table's text in which the one that was read differs from it.
-fn tell_other(file: &[u8], table: &[u8], text: &[u8], at: usize) -> Status {
+const THIRD: usize = READ / 3;
+
+// The line of the table's text, which is put into the lent bytes, in which the one that was read differs from it.
+fn tell_in(file: &[u8], table: &[u8], text: &[u8], at: usize, wanted: &mut [u8]) -> Status {
     let spot = spot_of(text, at);
-    let mut wanted = [0u8; TEXT_LIMIT];
-    let n = put_text(table, &mut wanted);
-    other_text(file, spot, first_of(&wanted, n))
+    let n = put_text(table, wanted);
+    other_text(file, spot, first_of(wanted, n))
+}
+
+fn tell_other(file: &[u8], table: &[u8], text: &[u8], at: usize) -> Status {
+    let mut wanted = [[0u8; HALF]; 2];
+    tell_in(file, table, text, at, wanted.as_flattened_mut())
 }
 
 // An accepted table of n types is saved, if its text is the one that was read.
@@ -62,14 +68,19 @@ fn make_first(rt: &HostRuntime, file: &[u8], text: &mut [u8], n: usize, out: &[u
     make_of(rt, file, &mut text[..n], out)
 }
 
-pub fn make_text_file(rt: &HostRuntime, file: &[u8], out: &[u8]) -> Status {
-    let mut text = [0u8; READ];
-    let read = read_file(rt, file, &mut text);
+// The text is read into the lent bytes.
+fn make_in(rt: &HostRuntime, file: &[u8], text: &mut [u8], out: &[u8]) -> Status {
+    let read = read_file(rt, file, text);
     if !read.is_read {
         return Status::Failed;
     }
     if TEXT_LIMIT < read.n {
         return long_text(file);
     }
-    make_first(rt, file, &mut text, read.n, out)
+    make_first(rt, file, text, read.n, out)
+}
+
+pub fn make_text_file(rt: &HostRuntime, file: &[u8], out: &[u8]) -> Status {
+    let mut text = [[0u8; THIRD]; 3];
+    make_in(rt, file, text.as_flattened_mut(), out)
 }

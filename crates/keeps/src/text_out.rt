@@ -9,8 +9,10 @@ use paper::{BYTE_LIMIT, Checked, FULL_PLACES};
 use tables::refused;
 use texts::first_of;
 
-// As many bytes as a text may have. It is for people, and a longer array is more than the prover takes (docs/DECISIONS.md).
+// As many bytes as a text may have. It is for people. The prover takes no array that is as long: it is lent in two halves, and is one slice.
 pub(crate) const TEXT_LIMIT: usize = 524288;
+
+pub(crate) const HALF: usize = TEXT_LIMIT / 2;
 
 // A text is read as this very table. It is asked of every text before it is saved.
 fn says(text: &[u8], blob: &[u8]) -> bool {
@@ -22,14 +24,20 @@ fn says(text: &[u8], blob: &[u8]) -> bool {
     }
 }
 
-// The text of an accepted table of n types.
-fn save_text(rt: &HostRuntime, file: &[u8], blob: &[u8], out: &[u8], n: u32) -> Status {
-    let mut text = [0u8; TEXT_LIMIT];
-    let len = put_text(blob, &mut text);
+// The text of an accepted table of n types, in the lent bytes.
+fn save_in(
+    rt: &HostRuntime,
+    file: &[u8],
+    blob: &[u8],
+    out: &[u8],
+    n: u32,
+    text: &mut [u8],
+) -> Status {
+    let len = put_text(blob, text);
     if len == 0 {
         return long_text(file);
     }
-    let s = first_of(&text, len);
+    let s = first_of(text, len);
     if !says(s, blob) {
         io::write_all(
             STDERR_FILENO,
@@ -38,6 +46,11 @@ fn save_text(rt: &HostRuntime, file: &[u8], blob: &[u8], out: &[u8], n: u32) -> 
         return Status::Failed;
     }
     saved(rt, out, b": text", s, n)
+}
+
+fn save_text(rt: &HostRuntime, file: &[u8], blob: &[u8], out: &[u8], n: u32) -> Status {
+    let mut text = [[0u8; HALF]; 2];
+    save_in(rt, file, blob, out, n, text.as_flattened_mut())
 }
 
 fn text_table(rt: &HostRuntime, file: &[u8], blob: &[u8], out: &[u8]) -> Status {
