@@ -2,40 +2,40 @@
 use crate::arguments::{Arg, argument, is_word, last, word_from};
 
 // The first argument from a place on that is `--base`; the count of all where none is.
-pub(crate) fn flag_from(from: usize, count: usize) -> usize {
-    word_from(b"--base", from, count)
+pub(crate) fn flag_from(rt: &HostRuntime, from: usize, count: usize) -> usize {
+    word_from(rt, b"--base", from, count)
 }
 
 // An argument that no file can have as its name, or that is `--base` once more.
-fn is_no_name(i: usize) -> bool {
-    is_word(i, b"") || is_word(i, b"--base")
+fn is_no_name(rt: &HostRuntime, i: usize) -> bool {
+    is_word(rt, i, b"") || is_word(rt, i, b"--base")
 }
 
 // Behind `--base` at a place stands one word, which can name a file.
-pub(crate) fn is_last(flag: usize, count: usize) -> bool {
+pub(crate) fn is_last(rt: &HostRuntime, flag: usize, count: usize) -> bool {
     if count <= flag {
         return false;
     }
     if count - flag != 2 {
         return false;
     }
-    !is_no_name(last())
+    !is_no_name(rt, last(rt))
 }
 
 // The name of the base's file; no bytes where there is no base.
-pub(crate) fn base_word(s: &mut [u8]) -> Arg {
-    let i = last();
+pub(crate) fn base_word(rt: &HostRuntime, s: &mut [u8]) -> Arg {
+    let i = last(rt);
     if i == 0 {
         return Arg {
             n: 0,
             is_whole: true,
         };
     }
-    if !is_word(i - 1, b"--base") {
+    if !is_word(rt, i - 1, b"--base") {
         return Arg {
             n: 0,
             is_whole: true,
         };
     }
-    argument(i, s)
+    argument(rt, i, s)
 }

@@ -8,7 +8,7 @@ use crate::keeping::keep_call;
 use crate::records::read_call;
 use crate::verbs::{Verb, is_of_one, least, most, too_few, too_many, verb_at};
 use asks::{Ask, ask_file};
-use files::Status;
+use files::{Status, arg_count};
 use texts::{Number, first_of};
 use wrongs::{
     NO_BASE, NO_OFFSET, NO_TYPE, NO_TYPE_NAME, NOT_BASED, TWO_BASES, UNKNOWN, help, no_words,
@@ -27,46 +27,52 @@ fn words_from(first: u32, count: usize) -> usize {
 }
 
 // A question about the table in a file, and in its base's where it has one. Standard input can be read once.
-fn ask_of_files(ask: Ask, file: &[u8], base: &[u8], name: &[u8]) -> Status {
+fn ask_of_files(rt: &HostRuntime, ask: Ask, file: &[u8], base: &[u8], name: &[u8]) -> Status {
     if check::same(file, b"-") {
         if check::same(base, b"-") {
-            return wrong_at(last(), TWO_BASES);
+            return wrong_at(rt, last(rt), TWO_BASES);
         }
     }
-    ask_file(ask, file, base, name)
+    ask_file(rt, ask, file, base, name)
 }
 
 // A question about the table in the file that an argument names, by a name where it has one.
-fn ask_by(ask: Ask, i: usize, name: &[u8]) -> Status {
+fn ask_by(rt: &HostRuntime, ask: Ask, i: usize, name: &[u8]) -> Status {
     let mut s = [0u8; 4096];
     let mut base = [0u8; 4096];
-    let arg = argument(i, &mut s);
-    let base_arg = base_word(&mut base);
+    let arg = argument(rt, i, &mut s);
+    let base_arg = base_word(rt, &mut base);
     if !arg.is_whole {
         return Status::Failed;
     }
     if !base_arg.is_whole {
         return Status::Failed;
     }
-    ask_of_files(ask, first_of(&s, arg.n), first_of(&base, base_arg.n), name)
+    ask_of_files(
+        rt,
+        ask,
+        first_of(&s, arg.n),
+        first_of(&base, base_arg.n),
+        name,
+    )
 }
 
-fn ask_at(ask: Ask, i: usize) -> Status {
-    ask_by(ask, i, b"")
+fn ask_at(rt: &HostRuntime, ask: Ask, i: usize) -> Status {
+    ask_by(rt, ask, i, b"")
 }
 
 // The types that have the name that an argument is; no type is asked for by no name.
-fn ask_named(first: u32) -> Status {
+fn ask_named(rt: &HostRuntime, first: u32) -> Status {
     let mut s = [0u8; 4096];
     let i = place(first, 2);
-    let arg = argument(i, &mut s);
+    let arg = argument(rt, i, &mut s);
     if !arg.is_whole {
         return Status::Failed;
     }
     if arg.n == 0 {
-        return wrong_at(i, NO_TYPE_NAME);
+        return wrong_at(rt, i, NO_TYPE_NAME);
     }
-    ask_by(Ask::Named, place(first, 1), first_of(&s, arg.n))
+    ask_by(rt, Ask::Named, place(first, 1), first_of(&s, arg.n))
 }
 
 // What a verb asks of a table, with a number.
@@ -79,89 +85,96 @@ fn ask_of(verb: Verb, n: u32) -> Ask {
 }
 
 // A word that is no number: `show` takes it for a name.
-fn no_number(verb: Verb, first: u32) -> Status {
+fn no_number(rt: &HostRuntime, verb: Verb, first: u32) -> Status {
     match verb {
-        Verb::Show => ask_named(first),
-        Verb::Name => wrong_at(place(first, 2), NO_OFFSET),
-        _ => wrong_at(place(first, 2), NO_TYPE),
+        Verb::Show => ask_named(rt, first),
+        Verb::Name => wrong_at(rt, place(first, 2), NO_OFFSET),
+        _ => wrong_at(rt, place(first, 2), NO_TYPE),
     }
 }
 
 // A verb with a file and a number behind it.
-fn ask_numbered(verb: Verb, first: u32) -> Status {
-    match number_at(place(first, 2)) {
-        Number::Is(n) => ask_at(ask_of(verb, n), place(first, 1)),
-        Number::Not => no_number(verb, first),
+fn ask_numbered(rt: &HostRuntime, verb: Verb, first: u32) -> Status {
+    match number_at(rt, place(first, 2)) {
+        Number::Is(n) => ask_at(rt, ask_of(verb, n), place(first, 1)),
+        Number::Not => no_number(rt, verb, first),
     }
 }
 
 // A verb with as many words behind it as it may have.
-fn call_by(verb: Verb, first: u32, behind: usize) -> Status {
+fn call_by(rt: &HostRuntime, verb: Verb, first: u32, behind: usize) -> Status {
     match verb {
-        Verb::Check => ask_at(Ask::Check, place(first, 1)),
+        Verb::Check => ask_at(rt, Ask::Check, place(first, 1)),
         Verb::Show => {
             if behind == 1 {
-                return ask_at(Ask::All, place(first, 1));
+                return ask_at(rt, Ask::All, place(first, 1));
             }
-            ask_numbered(verb, first)
+            ask_numbered(rt, verb, first)
         }
-        Verb::Size => ask_numbered(verb, first),
-        Verb::Name => ask_numbered(verb, first),
-        Verb::Join => join_call(first, behind),
-        Verb::Cut => cut_call(first),
-        Verb::List => keep_call(first, behind, false),
-        Verb::Make => keep_call(first, behind, true),
-        Verb::Ext => ext_call(first, behind),
-        Verb::Read => read_call(first, behind),
+        Verb::Size => ask_numbered(rt, verb, first),
+        Verb::Name => ask_numbered(rt, verb, first),
+        Verb::Join => join_call(rt, first, behind),
+        Verb::Cut => cut_call(rt, first),
+        Verb::List => keep_call(rt, first, behind, false),
+        Verb::Make => keep_call(rt, first, behind, true),
+        Verb::Ext => ext_call(rt, first, behind),
+        Verb::Read => read_call(rt, first, behind),
         Verb::Help => help(),
-        Verb::Unknown => wrong_at(place(first, 0), UNKNOWN),
+        Verb::Unknown => wrong_at(rt, place(first, 0), UNKNOWN),
     }
 }
 
 // A verb with so many words behind it.
-fn call_with(verb: Verb, first: u32, behind: usize) -> Status {
+fn call_with(rt: &HostRuntime, verb: Verb, first: u32, behind: usize) -> Status {
     if let Verb::Unknown = verb {
-        return wrong_at(place(first, 0), UNKNOWN);
+        return wrong_at(rt, place(first, 0), UNKNOWN);
     }
     if behind < least(verb) {
-        return wrong_at(place(first, 0), too_few(verb));
+        return wrong_at(rt, place(first, 0), too_few(verb));
     }
     if most(verb) < behind {
-        return wrong_at(place(first, 0), too_many(verb));
+        return wrong_at(rt, place(first, 0), too_many(verb));
     }
-    call_by(verb, first, behind)
+    call_by(rt, verb, first, behind)
 }
 
 // A verb with so many words behind it, of which the argument `flag` is the first `--base`.
-fn call_based(verb: Verb, first: u32, behind: usize, flag: usize, count: usize) -> Status {
+fn call_based(
+    rt: &HostRuntime,
+    verb: Verb,
+    first: u32,
+    behind: usize,
+    flag: usize,
+    count: usize,
+) -> Status {
     if let Verb::Unknown = verb {
-        return wrong_at(place(first, 0), UNKNOWN);
+        return wrong_at(rt, place(first, 0), UNKNOWN);
     }
     if !is_of_one(verb) {
-        return wrong_at(flag, NOT_BASED);
+        return wrong_at(rt, flag, NOT_BASED);
     }
     if behind < 2 {
-        return wrong_at(flag, NO_BASE);
+        return wrong_at(rt, flag, NO_BASE);
     }
-    if !is_last(flag, count) {
-        return wrong_at(flag, NO_BASE);
+    if !is_last(rt, flag, count) {
+        return wrong_at(rt, flag, NO_BASE);
     }
-    call_with(verb, first, behind - 2)
+    call_with(rt, verb, first, behind - 2)
 }
 
 // The call that stands from the argument `first` on.
-fn call(first: u32) -> Status {
-    let count = os::arg_count();
+fn call(rt: &HostRuntime, first: u32) -> Status {
+    let count = arg_count(rt);
     let given = words_from(first, count);
     if given == 0 {
         return no_words();
     }
-    let verb = verb_at(place(first, 0));
-    let flag = flag_from(place(first, 1), count);
+    let verb = verb_at(rt, place(first, 0));
+    let flag = flag_from(rt, place(first, 1), count);
     if flag < count {
-        return call_based(verb, first, given - 1, flag, count);
+        return call_based(rt, verb, first, given - 1, flag, count);
     }
-    call_with(verb, first, given - 1)
+    call_with(rt, verb, first, given - 1)
 }
 
 // A program of this language has no exit status: one digit on a descriptor of the launcher's stands for it.
@@ -174,14 +187,14 @@ fn tell(s: Status) -> bool {
 }
 
 // The whole tool. The status is told where the first argument asks for it; behind it the modes of two new files can stand.
-pub fn run() {
-    if is_word(1, b"--status") {
-        tell(call(2));
+pub fn run(rt: &HostRuntime) {
+    if is_word(rt, 1, b"--status") {
+        tell(call(rt, 2));
         return;
     }
-    if is_word(1, b"--status-modes") {
-        tell(call(4));
+    if is_word(rt, 1, b"--status-modes") {
+        tell(call(rt, 4));
         return;
     }
-    call(1);
+    call(rt, 1);
 }

@@ -1,40 +1,41 @@
 // The words behind `cut`: a joined table, where it is cut, and two outputs.
 use crate::arguments::{are_whole, is_word, number_at, place};
 use apart::{Cut, cut_files};
-use files::{Modes, Status};
+use files::{Modes, Status, arg, arg_count};
 use texts::{Number, first_of};
 use wrongs::{NO_COUNT, NO_LENGTH, NO_OUTS, ONE_OUT, TWO_TABLES, wrong_at};
 
 // Two arguments are one word.
-fn are_same(i: usize, j: usize) -> bool {
+fn are_same(rt: &HostRuntime, i: usize, j: usize) -> bool {
     let mut s = [0u8; 4096];
-    let n = os::arg(i, &mut s);
-    is_word(j, first_of(&s, n))
+    let n = arg(rt, i, &mut s);
+    is_word(rt, j, first_of(&s, n))
 }
 
 // A mode that the launcher asks for in front of the verb.
-fn mode_at(i: usize) -> Number {
-    if is_word(1, b"--status-modes") {
-        return number_at(i);
+fn mode_at(rt: &HostRuntime, i: usize) -> Number {
+    if is_word(rt, 1, b"--status-modes") {
+        return number_at(rt, i);
     }
     Number::Not
 }
 
 // All words are right: JOINED, FIRST where it is cut like that, OUT1 and OUT2.
-fn cut_named(verb: u32, cut: Cut) -> Status {
+fn cut_named(rt: &HostRuntime, verb: u32, cut: Cut) -> Status {
     let mut joined = [0u8; 4096];
     let mut like = [0u8; 4096];
     let mut one = [0u8; 4096];
     let mut two = [0u8; 4096];
-    let joined_n = os::arg(place(verb, 1), &mut joined);
-    let like_n = os::arg(place(verb, 3), &mut like);
-    let one_n = os::arg(place(verb, 4), &mut one);
-    let two_n = os::arg(place(verb, 5), &mut two);
+    let joined_n = arg(rt, place(verb, 1), &mut joined);
+    let like_n = arg(rt, place(verb, 3), &mut like);
+    let one_n = arg(rt, place(verb, 4), &mut one);
+    let two_n = arg(rt, place(verb, 5), &mut two);
     let modes = Modes {
-        one: mode_at(2),
-        two: mode_at(3),
+        one: mode_at(rt, 2),
+        two: mode_at(rt, 3),
     };
     cut_files(
+        rt,
         first_of(&joined, joined_n),
         cut,
         first_of(&like, like_n),
@@ -45,46 +46,46 @@ fn cut_named(verb: u32, cut: Cut) -> Status {
 }
 
 // As the table in a file was. Standard input can be read once.
-fn cut_like(verb: u32) -> Status {
-    if is_word(place(verb, 1), b"-") {
-        if is_word(place(verb, 3), b"-") {
-            return wrong_at(place(verb, 3), TWO_TABLES);
+fn cut_like(rt: &HostRuntime, verb: u32) -> Status {
+    if is_word(rt, place(verb, 1), b"-") {
+        if is_word(rt, place(verb, 3), b"-") {
+            return wrong_at(rt, place(verb, 3), TWO_TABLES);
         }
     }
-    cut_named(verb, Cut::Like)
+    cut_named(rt, verb, Cut::Like)
 }
 
 // Behind so many types.
-fn cut_behind(verb: u32, types: u32) -> Status {
-    match number_at(place(verb, 3)) {
-        Number::Is(strings) => cut_named(verb, Cut::At(types, strings)),
-        Number::Not => wrong_at(place(verb, 3), NO_LENGTH),
+fn cut_behind(rt: &HostRuntime, verb: u32, types: u32) -> Status {
+    match number_at(rt, place(verb, 3)) {
+        Number::Is(strings) => cut_named(rt, verb, Cut::At(types, strings)),
+        Number::Not => wrong_at(rt, place(verb, 3), NO_LENGTH),
     }
 }
 
-fn cut_by(verb: u32) -> Status {
-    if is_word(place(verb, 2), b"--like") {
-        return cut_like(verb);
+fn cut_by(rt: &HostRuntime, verb: u32) -> Status {
+    if is_word(rt, place(verb, 2), b"--like") {
+        return cut_like(rt, verb);
     }
-    match number_at(place(verb, 2)) {
-        Number::Is(types) => cut_behind(verb, types),
-        Number::Not => wrong_at(place(verb, 2), NO_COUNT),
+    match number_at(rt, place(verb, 2)) {
+        Number::Is(types) => cut_behind(rt, verb, types),
+        Number::Not => wrong_at(rt, place(verb, 2), NO_COUNT),
     }
 }
 
 // OUT1 and OUT2 are files that are renamed, and one would take the place of the other.
-pub(crate) fn cut_call(verb: u32) -> Status {
-    if !are_whole(place(verb, 1), os::arg_count()) {
+pub(crate) fn cut_call(rt: &HostRuntime, verb: u32) -> Status {
+    if !are_whole(rt, place(verb, 1), arg_count(rt)) {
         return Status::Failed;
     }
-    if is_word(place(verb, 4), b"-") {
-        return wrong_at(place(verb, 4), NO_OUTS);
+    if is_word(rt, place(verb, 4), b"-") {
+        return wrong_at(rt, place(verb, 4), NO_OUTS);
     }
-    if is_word(place(verb, 5), b"-") {
-        return wrong_at(place(verb, 5), NO_OUTS);
+    if is_word(rt, place(verb, 5), b"-") {
+        return wrong_at(rt, place(verb, 5), NO_OUTS);
     }
-    if are_same(place(verb, 4), place(verb, 5)) {
-        return wrong_at(place(verb, 5), ONE_OUT);
+    if are_same(rt, place(verb, 4), place(verb, 5)) {
+        return wrong_at(rt, place(verb, 5), ONE_OUT);
     }
-    cut_by(verb)
+    cut_by(rt, verb)
 }

@@ -1,6 +1,6 @@
 // The words behind `join`: a list of tables, and OUT.
 use crate::arguments::{are_whole, is_word, word_from};
-use files::Status;
+use files::{Status, arg_count};
 use joins::{Given, TABLES, join_files, out_of, word_of};
 use wrongs::{NO_OUT, ONE_INPUT, TWO_DASHES, wrong_at};
 
@@ -19,42 +19,45 @@ fn tables_in(behind: usize) -> u32 {
 }
 
 // The second table that is standard input, which can be read once; the end where there is none.
-fn second_input(from: usize, end: usize) -> usize {
-    let one = word_from(b"-", from, end);
+fn second_input(rt: &HostRuntime, from: usize, end: usize) -> usize {
+    let one = word_from(rt, b"-", from, end);
     if one < end {
-        return word_from(b"-", one + 1, end);
+        return word_from(rt, b"-", one + 1, end);
     }
     end
 }
 
-fn two_inputs(i: usize, count: u32) -> Status {
+fn two_inputs(rt: &HostRuntime, i: usize, count: u32) -> Status {
     if count == 2 {
-        return wrong_at(i, TWO_DASHES);
+        return wrong_at(rt, i, TWO_DASHES);
     }
-    wrong_at(i, ONE_INPUT)
+    wrong_at(rt, i, ONE_INPUT)
 }
 
 // Standard input can be read once, and OUT is a file that is renamed.
-fn join_given(given: Given) -> Status {
+fn join_given(rt: &HostRuntime, given: Given) -> Status {
     let from = word_of(given, 0);
     let out = out_of(given);
-    if !are_whole(from, os::arg_count()) {
+    if !are_whole(rt, from, arg_count(rt)) {
         return Status::Failed;
     }
-    if is_word(out, b"-") {
-        return wrong_at(out, NO_OUT);
+    if is_word(rt, out, b"-") {
+        return wrong_at(rt, out, NO_OUT);
     }
-    let dash = second_input(from, out);
+    let dash = second_input(rt, from, out);
     if dash < out {
-        return two_inputs(dash, given.count);
+        return two_inputs(rt, dash, given.count);
     }
-    join_files(given)
+    join_files(rt, given)
 }
 
 // The tables behind the verb, which has so many words behind it.
-pub(crate) fn join_call(verb: u32, behind: usize) -> Status {
-    join_given(Given {
-        verb,
-        count: tables_in(behind),
-    })
+pub(crate) fn join_call(rt: &HostRuntime, verb: u32, behind: usize) -> Status {
+    join_given(
+        rt,
+        Given {
+            verb,
+            count: tables_in(behind),
+        },
+    )
 }

@@ -1,4 +1,6 @@
 // The tool: what each call of it asks, and the status that is told.
+#![tactic(auto)]
+
 mod arguments; // the arguments by their numbers
 mod based; // the base behind a call
 mod beside; // the words behind `ext`

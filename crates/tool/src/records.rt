@@ -1,7 +1,7 @@
 // The words behind `read`: a table, a type, and where its records come from.
 use crate::arguments::{argument, last, place};
 use crate::based::base_word;
-use files::Status;
+use files::{Status, arg};
 use logs::RECORD_LIMIT;
 use reads::{Decoded, Source, decode, read_records};
 use texts::first_of;
@@ -24,84 +24,110 @@ fn is_input_taken(table: &[u8], source: Source, given: &[u8]) -> bool {
 }
 
 // Records by a table, which leans on a base where one is named.
-fn read_by_base(table: &[u8], word: &[u8], source: Source, given: &[u8]) -> Status {
+fn read_by_base(
+    rt: &HostRuntime,
+    table: &[u8],
+    word: &[u8],
+    source: Source,
+    given: &[u8],
+) -> Status {
     let mut base = [0u8; 4096];
-    let arg = base_word(&mut base);
+    let arg = base_word(rt, &mut base);
     if !arg.is_whole {
         return Status::Failed;
     }
     let base = first_of(&base, arg.n);
     if check::same(base, b"-") {
         if is_input_taken(table, source, given) {
-            return wrong_at(last(), TWO_BASES);
+            return wrong_at(rt, last(rt), TWO_BASES);
         }
     }
-    read_records(table, base, word, source, given)
+    read_records(rt, table, base, word, source, given)
 }
 
 // A record of so many bytes.
-fn read_bytes(table: &[u8], word: &[u8], s: &[u8; RECORD_LIMIT], n: usize) -> Status {
-    read_by_base(table, word, Source::Bytes, first_of(s, n))
+fn read_bytes(
+    rt: &HostRuntime,
+    table: &[u8],
+    word: &[u8],
+    s: &[u8; RECORD_LIMIT],
+    n: usize,
+) -> Status {
+    read_by_base(rt, table, word, Source::Bytes, first_of(s, n))
 }
 
 // A record's bytes as digits, which are the argument of this number.
-fn read_digits(table: &[u8], word: &[u8], digits: &[u8], i: usize) -> Status {
+fn read_digits(rt: &HostRuntime, table: &[u8], word: &[u8], digits: &[u8], i: usize) -> Status {
     let mut s = [0u8; RECORD_LIMIT];
     match decode(digits, &mut s) {
-        Decoded::Bytes(n) => read_bytes(table, word, &s, n),
-        Decoded::Odd => wrong_at(i, ODD_DIGITS),
-        Decoded::Stray => wrong_at(i, NO_DIGITS),
+        Decoded::Bytes(n) => read_bytes(rt, table, word, &s, n),
+        Decoded::Odd => wrong_at(rt, i, ODD_DIGITS),
+        Decoded::Stray => wrong_at(rt, i, NO_DIGITS),
     }
 }
 
-fn read_digits_at(table: &[u8], word: &[u8], i: usize) -> Status {
+fn read_digits_at(rt: &HostRuntime, table: &[u8], word: &[u8], i: usize) -> Status {
     let mut digits = [0u8; LONGEST];
-    let arg = argument(i, &mut digits);
+    let arg = argument(rt, i, &mut digits);
     if !arg.is_whole {
         return Status::Failed;
     }
-    read_digits(table, word, first_of(&digits, arg.n), i)
+    read_digits(rt, table, word, first_of(&digits, arg.n), i)
 }
 
 // Behind the name of a file stands nothing, or that it has one record behind another.
-fn read_named(table: &[u8], word: &[u8], file: &[u8], first: u32, behind: usize) -> Status {
+fn read_named(
+    rt: &HostRuntime,
+    table: &[u8],
+    word: &[u8],
+    file: &[u8],
+    first: u32,
+    behind: usize,
+) -> Status {
     if check::same(table, b"-") {
         if check::same(file, b"-") {
-            return wrong_at(place(first, 3), TWO_INPUTS);
+            return wrong_at(rt, place(first, 3), TWO_INPUTS);
         }
     }
     if behind < 4 {
-        return read_by_base(table, word, Source::One, file);
+        return read_by_base(rt, table, word, Source::One, file);
     }
     let mut s = [0u8; 4096];
     let i = place(first, 4);
-    let n = os::arg(i, &mut s);
+    let n = arg(rt, i, &mut s);
     if !check::same(&s[..n], b"--each") {
-        return wrong_at(i, NO_EACH);
+        return wrong_at(rt, i, NO_EACH);
     }
-    read_by_base(table, word, Source::Each, file)
+    read_by_base(rt, table, word, Source::Each, file)
 }
 
-fn read_by(table: &[u8], word: &[u8], given: &[u8], first: u32, behind: usize) -> Status {
+fn read_by(
+    rt: &HostRuntime,
+    table: &[u8],
+    word: &[u8],
+    given: &[u8],
+    first: u32,
+    behind: usize,
+) -> Status {
     if word.len() == 0 {
-        return wrong_at(place(first, 2), NO_TYPE_NAME);
+        return wrong_at(rt, place(first, 2), NO_TYPE_NAME);
     }
     if !check::same(given, b"--hex") {
-        return read_named(table, word, given, first, behind);
+        return read_named(rt, table, word, given, first, behind);
     }
     if behind < 4 {
-        return wrong_at(place(first, 3), TOO_FEW);
+        return wrong_at(rt, place(first, 3), TOO_FEW);
     }
-    read_digits_at(table, word, place(first, 4))
+    read_digits_at(rt, table, word, place(first, 4))
 }
 
-pub(crate) fn read_call(first: u32, behind: usize) -> Status {
+pub(crate) fn read_call(rt: &HostRuntime, first: u32, behind: usize) -> Status {
     let mut table = [0u8; 4096];
     let mut word = [0u8; 4096];
     let mut given = [0u8; 4096];
-    let table_arg = argument(place(first, 1), &mut table);
-    let word_arg = argument(place(first, 2), &mut word);
-    let given_arg = argument(place(first, 3), &mut given);
+    let table_arg = argument(rt, place(first, 1), &mut table);
+    let word_arg = argument(rt, place(first, 2), &mut word);
+    let given_arg = argument(rt, place(first, 3), &mut given);
     if !table_arg.is_whole {
         return Status::Failed;
     }
@@ -112,6 +138,7 @@ pub(crate) fn read_call(first: u32, behind: usize) -> Status {
         return Status::Failed;
     }
     read_by(
+        rt,
         first_of(&table, table_arg.n),
         first_of(&word, word_arg.n),
         first_of(&given, given_arg.n),

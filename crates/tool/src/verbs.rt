@@ -1,5 +1,6 @@
 // The verbs, and how many words stand behind each.
 use crate::joining::MOST;
+use files::arg;
 use wrongs::{FEW_TABLES, MANY_TABLES, TOO_FEW, TOO_MANY};
 
 #[derive(Clone, Copy)]
@@ -55,9 +56,9 @@ fn verb_of(s: &[u8]) -> Verb {
     Verb::Unknown
 }
 
-pub(crate) fn verb_at(i: usize) -> Verb {
+pub(crate) fn verb_at(rt: &HostRuntime, i: usize) -> Verb {
     let mut s = [0u8; 4096];
-    let n = os::arg(i, &mut s);
+    let n = arg(rt, i, &mut s);
     verb_of(&s[..n])
 }
 
