@@ -1,4 +1,4 @@
--- The three sorts of record of a.BTF.ext section: "function records (instruction offset, type), line records (instruction offset, file, line
+-- The three sorts of record of a .BTF.ext section: "function records (instruction offset, type), line records (instruction offset, file, line
 -- text, line and column), and the optional relocation records (instruction offset, type, access name, kind)". A row for each.
 use Rattle.std.specs.Prelude.{ℕ, ◌*◌, ◌%◌, Bool, ◌&&◌, List, [], ◌∷◌, eqb, leb, length}
 use Rattle.exts.specs.declared.Role.{Role}

@@ -1,5 +1,5 @@
 -- How bytes that others chose are shown: printable ASCII (32 to 126) as it is, a quote and a backslash behind a backslash, every
--- other byte as \x_nn.
+-- other byte as \xNN.
 use Rattle.std.specs.Prelude.{ℕ, ◌+◌, ◌/◌, ◌%◌, ◌≤◌, Bool, cond, ◌&&◌, ◌||◌, List, [], ◌∷◌, ◌++◌, ◌≡◌, eqb, leb, ltb, length}
 use Rattle.paper.specs.terms.Put.{put}
 

@@ -1,5 +1,5 @@
 // Bytes that others chose, so that neither a terminal nor a reader is misled by them: printable ASCII as it is, a quote and a
-// backslash behind a backslash, every other byte as \x_nn, and all of it between quotes.
+// backslash behind a backslash, every other byte as \xNN, and all of it between quotes.
 ghost use Rattle.std.specs.Prelude.{◌≡◌, ◌+◌, ◌*◌, ◌≤◌, ◌<◌, length};
 ghost use Rattle.quotes.specs.Escape.{Appended, escaped_byte, hex_digit, is_printable, is_special};
 ghost use Rattle.quotes.specs.Quote.{Quoted};
