@@ -52,8 +52,3 @@ pub fn fail(name: &[u8], why: Error) {
     let n = file_text(name, &mut space);
     fail_text(&space[..n], why);
 }
-
-// The same of standard output, where the system's last call was the write that failed.
-pub fn fail_output() {
-    fail_text(b"standard output", std_io::io::last_error());
-}

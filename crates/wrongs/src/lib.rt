@@ -93,8 +93,7 @@ pub fn help() -> Status {
     if usage(STDOUT_FILENO) {
         return Status::Done;
     }
-    fail_output();
-    Status::Failed
+    fail_output()
 }
 
 // "scrieve: WORD: why", and the usage.
