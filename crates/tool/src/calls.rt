@@ -9,6 +9,7 @@ use crate::records::read_call;
 use crate::verbs::{Verb, is_of_one, least, most, too_few, too_many, verb_at};
 use asks::{Ask, ask_file};
 use files::{Status, arg_count};
+use std::process::ExitCode;
 use texts::{Number, first_of};
 use wrongs::{
     NO_BASE, NO_OFFSET, NO_TYPE, NO_TYPE_NAME, NOT_BASED, TWO_BASES, UNKNOWN, help, no_words,
@@ -17,6 +18,9 @@ use wrongs::{
 
 // The descriptor on which the launcher waits for the status.
 const STATUS: i32 = 3;
+
+// What a shell calls the end by SIGPIPE, which is ignored here: 128 and the signal's number.
+const GONE: u8 = 141;
 
 // How many words there are from the verb on.
 fn words_from(first: u32, count: usize) -> usize {
@@ -177,24 +181,35 @@ fn call(rt: &HostRuntime, first: u32) -> Status {
     call_with(rt, verb, first, given - 1)
 }
 
-// A program of this language has no exit status: one digit on a descriptor of the launcher's stands for it.
+// One digit on a descriptor of the launcher's stands for the status. None does where nobody reads the output any more.
 fn tell(s: Status) -> bool {
     match s {
         Status::Done => io::write_all(STATUS, b"0"),
         Status::Refused => io::write_all(STATUS, b"1"),
         Status::Failed => io::write_all(STATUS, b"2"),
+        Status::Gone => true,
+    }
+}
+
+// The process ends as one that the signal for such an output has ended; else well, since the digit says the rest.
+fn code_of(s: Status) -> ExitCode {
+    match s {
+        Status::Gone => ExitCode::from(GONE),
+        _ => ExitCode::SUCCESS,
     }
 }
 
 // The whole tool. The status is told where the first argument asks for it; behind it the modes of two new files can stand.
-pub fn run(rt: &HostRuntime) {
+pub fn run(rt: &HostRuntime) -> ExitCode {
     if is_word(rt, 1, b"--status") {
-        tell(call(rt, 2));
-        return;
+        let status = call(rt, 2);
+        tell(status);
+        return code_of(status);
     }
     if is_word(rt, 1, b"--status-modes") {
-        tell(call(rt, 4));
-        return;
+        let status = call(rt, 4);
+        tell(status);
+        return code_of(status);
     }
-    call(rt, 1);
+    code_of(call(rt, 1))
 }
