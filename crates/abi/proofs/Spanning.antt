@@ -1,5 +1,6 @@
 -- Laws of a span in five places: they hold it again, so that check, span and value together are the member.
 -- Assumes nothing.
+use Rattle.std.specs.Prelude.{Err, Ok, Result, ℕ}
 use Prim.Native.Nat.{ℕ, ◌+◌, ◌*◌, ◌/◌, ◌%◌, ◌≤◌}
 use mathlib.Core.Path.{◌≡◌, refl, sym, ap, ◌∙◌, subst}
 use mathlib.Core.List.{List, [], ◌∷◌}
@@ -12,8 +13,6 @@ use Rattle.record.proofs.Giving.{gives-34, gives_found}
 use Rattle.abi.specs.Told.{told_wide, span_in, given_in, ValueTold, MemberTold}
 use Rattle.handed.specs.Places.{known_number, found_in}
 use Rattle.paper.specs.rules.Answer.{inside, report_as_paper, checked_as_paper}
-use Rattle.paper.specs.declared.Checked.{Checked}
-use Rattle.paper.specs.declared.Checked.TheVariants.{Accepted, Refused}
 use Rattle.paper.specs.declared.Report.{Report}
 use Rattle.paper.specs.terms.Fit.{Bytes}
 use Rattle.values.specs.Given.{Finding, Given, sort_number, found_as_paper, read_found, refused_as, given}
@@ -50,9 +49,9 @@ told_same {told = told} {room = room} {answer = answer} {value = value} e h = su
 
 -- ── a member by its parts ──
 
-module _ {c : Checked} {b : List ℕ} {places work : ℕ} {index left : List ℕ} (h : CheckOf c b places work index left) (t m : ℕ) (s : List ℕ)
+module _ {c : Result ℕ Report} {b : List ℕ} {places work : ℕ} {index left : List ℕ} (h : CheckOf c b places work index left) (t m : ℕ) (s : List ℕ)
     {told room answer value : List ℕ} where
-  pub member-34 : (r : Report) → c ≡ Refused r → ValueTold (refused_as (inside 34 (report_as_paper r))) told room answer value
+  pub member-34 : (r : Report) → c ≡ Err r → ValueTold (refused_as (inside 34 (report_as_paper r))) told room answer value
       → MemberTold b places work t m s told room index left answer value
   member-34 r p gives =
       record {
@@ -62,7 +61,7 @@ module _ {c : Checked} {b : List ℕ} {places work : ℕ} {index left : List ℕ
       }
 
   -- the check, the span in five places, the value of what they hold
-  pub member-parts : Bytes b → (n : ℕ) → c ≡ Accepted n → (f : MemberSpan) → found_as_paper f ≡ sought_at b index t m
+  pub member-parts : Bytes b → (n : ℕ) → c ≡ Ok n → (f : MemberSpan) → found_as_paper f ≡ sought_at b index t m
       → {span : List ℕ} → span ≡ span_in (found_as_paper f) (replicate 5 0) → ValueTold (given_in span s) told room answer value
       → MemberTold b places work t m s told room index left answer value
   member-parts bytes n p f found at gives =

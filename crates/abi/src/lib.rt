@@ -16,7 +16,7 @@ use answers::{
 };
 use handed::{high_of, numbers_of, sixteen_of, span_in, span_numbers, within_34};
 use lean::Lying;
-use paper::{Checked, NameOff, Report, TypeNo};
+use paper::{NameOff, Report, TypeNo};
 use values::{MemberSpan, MemberValue};
 
 // The four numbers, in the first places of a lent slice.
@@ -102,19 +102,19 @@ fn named_leaning(base: &[u8], own: &[u8], at: NameOff) -> Numbers
     ensures { as_paper result ≡ part_over base.now own.now at.0 }
 {
     match lean::part_leaning(base, own, at) {
-        Lying::InBase(part) => Numbers {
+        Some(Lying::InBase(part)) => Numbers {
             number: 0,
             inner: 0,
             t: part.start.0,
             p: part.length,
         },
-        Lying::InOwn(part) => Numbers {
+        Some(Lying::InOwn(part)) => Numbers {
             number: 0,
             inner: 1,
             t: part.start.0,
             p: part.length,
         },
-        Lying::Nowhere => Numbers {
+        None => Numbers {
             number: 1,
             inner: 0,
             t: 0,
@@ -274,8 +274,8 @@ pub extern "C" fn scrieve_member(
     ensures { MemberTold blob.now (length index.old) (length work.old) t m bytes.now answer.old value.old index.new work.new answer.new value.new }
 {
     match gate::check(blob, index, work) {
-        Checked::Refused(r) => refuse(r, answer, value),
-        Checked::Accepted(_) => {
+        Err(r) => refuse(r, answer, value),
+        Ok(_) => {
             let mut span = [0u32; 5];
             put_span(members::span_of(blob, index, TypeNo(t), m), &mut span);
             scrieve_value(&span, bytes, answer, value);

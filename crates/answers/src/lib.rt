@@ -9,9 +9,9 @@ ghost use Rattle.paper.specs.rules.Answer.{checked_as_paper, inside, joined_as_p
 ghost use Rattle.parts.specs.Cut.{parted_as_paper};
 ghost use Rattle.answers.specs.Numbers.{as_paper};
 
-use lists::{Fault, Made, Wrote};
-use paper::{Checked, Joined, Leaned, Place, Report, Sized, TYPE_LIMIT, TypeNo};
-use parts::Parted;
+use lists::{Fault, MakeError, WriteError};
+use paper::{JoinError, LeanError, Place, Report, Sized, TYPE_LIMIT, TypeNo};
+use parts::SplitError;
 pub use sections::{of_extended, of_found};
 
 // The number, the number of the report inside a join's refusal, the type or the count, the size, the length or the place.
@@ -98,12 +98,12 @@ pub fn of_report(r: Report) -> Numbers
 }
 
 // What a check answers.
-pub fn of_checked(c: Checked) -> Numbers
+pub fn of_checked(c: Result<u32, Report>) -> Numbers
     ensures { as_paper result ≡ checked_as_paper c }
 {
     match c {
-        Checked::Accepted(n) => told(0, n),
-        Checked::Refused(r) => of_report(r),
+        Ok(count) => told(0, count),
+        Err(r) => of_report(r),
     }
 }
 
@@ -121,57 +121,57 @@ pub fn of_sized(s: Sized) -> Numbers
 }
 
 // What a join answers.
-pub fn of_joined(j: Joined) -> Numbers
+pub fn of_joined(j: Result<u32, JoinError>) -> Numbers
     ensures { as_paper result ≡ joined_as_paper j }
 {
     match j {
-        Joined::Whole(n) => valued(n),
-        Joined::FirstRefused(r) => within(16, of_report(r)),
-        Joined::SecondRefused(r) => within(17, of_report(r)),
-        Joined::OrdersDiffer => told(24, 0),
-        Joined::TooMany => told(18, 0),
-        Joined::TooLong => told(19, 0),
-        Joined::OutputShort => told(20, 0),
+        Ok(n) => valued(n),
+        Err(JoinError::FirstRefused(r)) => within(16, of_report(r)),
+        Err(JoinError::SecondRefused(r)) => within(17, of_report(r)),
+        Err(JoinError::OrdersDiffer) => told(24, 0),
+        Err(JoinError::TooMany) => told(18, 0),
+        Err(JoinError::TooLong) => told(19, 0),
+        Err(JoinError::OutputShort) => told(20, 0),
     }
 }
 
 // What the check of a table that leans on a base answers.
-pub fn of_leaned(l: Leaned) -> Numbers
+pub fn of_leaned(l: Result<u32, LeanError>) -> Numbers
     ensures { as_paper result ≡ leaned_as_paper l }
 {
     match l {
-        Leaned::Accepted(n) => told(0, n),
-        Leaned::BaseRefused(r) => within(25, of_report(r)),
-        Leaned::OrdersDiffer => told(26, 0),
-        Leaned::Refused(r) => of_report(r),
+        Ok(n) => told(0, n),
+        Err(LeanError::BaseRefused(r)) => within(25, of_report(r)),
+        Err(LeanError::OrdersDiffer) => told(26, 0),
+        Err(LeanError::Refused(r)) => of_report(r),
     }
 }
 
 // What taking a table apart answers.
-pub fn of_parted(p: Parted) -> Numbers
+pub fn of_parted(p: Result<(u32, u32), SplitError>) -> Numbers
     ensures { as_paper result ≡ parted_as_paper p }
 {
     match p {
-        Parted::Apart(first, second) => Numbers {
+        Ok((first, second)) => Numbers {
             number: 0,
             inner: 0,
             t: first,
             p: second,
         },
-        Parted::Refused(r) => of_report(r),
-        Parted::NoCut => told(60, 0),
-        Parted::OutputShort => told(61, 0),
+        Err(SplitError::Refused(r)) => of_report(r),
+        Err(SplitError::NoCut) => told(60, 0),
+        Err(SplitError::OutputShort) => told(61, 0),
     }
 }
 
 // What writing a list answers.
-pub fn of_wrote(w: Wrote) -> Numbers
+pub fn of_wrote(w: Result<u32, WriteError>) -> Numbers
     ensures { as_paper result ≡ wrote_as_paper w }
 {
     match w {
-        Wrote::Whole(n) => valued(n),
-        Wrote::OutputShort => told(53, 0),
-        Wrote::Refused(r) => within(54, of_report(r)),
+        Ok(n) => valued(n),
+        Err(WriteError::OutputShort) => told(53, 0),
+        Err(WriteError::Refused(r)) => within(54, of_report(r)),
     }
 }
 
@@ -187,13 +187,13 @@ fn number_of(f: Fault) -> u32
 }
 
 // What reading a list answers.
-pub fn of_made(m: Made) -> Numbers
+pub fn of_made(m: Result<u32, MakeError>) -> Numbers
     ensures { as_paper result ≡ made_as_paper m }
 {
     match m {
-        Made::Whole(n) => valued(n),
-        Made::Unread(f) => told(number_of(f), 0),
-        Made::Short => told(53, 0),
-        Made::Refused(r) => within(54, of_report(r)),
+        Ok(n) => valued(n),
+        Err(MakeError::Unread(f)) => told(number_of(f), 0),
+        Err(MakeError::Short) => told(53, 0),
+        Err(MakeError::Refused(r)) => within(54, of_report(r)),
     }
 }

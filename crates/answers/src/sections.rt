@@ -5,7 +5,8 @@ ghost use Rattle.exts.specs.Entries.{found_as_paper};
 ghost use Rattle.exts.specs.Ext.{extended_as_paper, fault_number};
 
 use crate::{Numbers, of_report, told, valued, within};
-use exts::{Extended, Fault, Found};
+use exts::{ExtError, Fault};
+use paper::{NameOff, Place};
 
 // What is wrong with a section.
 fn number_of(f: Fault) -> u32
@@ -24,27 +25,27 @@ fn number_of(f: Fault) -> u32
 }
 
 // What the check of a section beside its table answers.
-pub fn of_extended(e: Extended) -> Numbers
+pub fn of_extended(e: Result<(), ExtError>) -> Numbers
     ensures { as_paper result ≡ extended_as_paper e }
 {
     match e {
-        Extended::Accepted => valued(0),
-        Extended::TableRefused(r) => within(40, of_report(r)),
-        Extended::Refused(f) => told(number_of(f), 0),
+        Ok(()) => valued(0),
+        Err(ExtError::TableRefused(r)) => within(40, of_report(r)),
+        Err(ExtError::Refused(f)) => told(number_of(f), 0),
     }
 }
 
 // What the record question answers: the name offset of the record's group, and where it stands.
-pub fn of_found(f: Found) -> Numbers
+pub fn of_found(f: Option<(NameOff, Place)>) -> Numbers
     ensures { as_paper result ≡ found_as_paper f }
 {
     match f {
-        Found::At(name, at) => Numbers {
+        Some((name, at)) => Numbers {
             number: 0,
             inner: 0,
             t: name.0,
             p: at.0,
         },
-        Found::Nowhere => told(1, 0),
+        None => told(1, 0),
     }
 }

@@ -1,32 +1,33 @@
 // A table is read, and cut behind so many types and so many bytes of strings.
-use crate::halves::{no_cut, saved, short};
+use crate::halves::{Outs, Part, no_cut, saved, short};
 use answers::of_report;
 use files::{Modes, READ_LIMIT, Status, read_file};
-use paper::{BYTE_LIMIT, Checked, FULL_PLACES, NameOff, TypeNo};
-use parts::Parted;
+use paper::{BYTE_LIMIT, FULL_PLACES, NameOff, TypeNo};
+use parts::SplitError;
 use split::split;
 use tables::{count, refused, strings_len};
 use texts::first_of;
 
-// Where a table is cut: behind so many types and bytes of strings, or as the table in a file has them.
+// Where a table is cut: behind so many types and bytes of strings.
 #[derive(Clone, Copy)]
-pub enum Cut {
-    At(u32, u32),
-    Like,
+pub struct Cut {
+    pub types: u32,
+    pub strings: u32,
 }
 
-// The two numbers, or how the call has ended without them.
-#[derive(Clone, Copy)]
-enum Known {
-    At(u32, u32),
-    Ended(Status),
-}
-
-// The numbers of an accepted table.
-fn numbers_in(file: &[u8], blob: &[u8], index: &mut [u32], work: &mut [u32]) -> Known {
+// The numbers of an accepted table; or how the call has ended without them.
+fn numbers_in(
+    file: &[u8],
+    blob: &[u8],
+    index: &mut [u32],
+    work: &mut [u32],
+) -> Result<Cut, Status> {
     match gate::check(blob, index, work) {
-        Checked::Refused(r) => Known::Ended(refused(false, file, blob, index, of_report(r))),
-        Checked::Accepted(n) => Known::At(n, strings_len(blob)),
+        Err(r) => Err(refused(false, file, blob, index, of_report(r))),
+        Ok(types) => Ok(Cut {
+            types,
+            strings: strings_len(blob),
+        }),
     }
 }
 
@@ -37,45 +38,46 @@ fn numbers_like(
     blob: &mut [u8; READ_LIMIT],
     index: &mut [u32; FULL_PLACES],
     work: &mut [u32; FULL_PLACES],
-) -> Known {
-    let read = read_file(rt, file, blob);
-    if !read.is_read {
-        return Known::Ended(Status::Failed);
-    }
-    numbers_in(file, first_of(blob, read.n), index, work)
+) -> Result<Cut, Status> {
+    let n = read_file(rt, file, blob).ok_or(Status::Failed)?;
+    numbers_in(file, first_of(blob, n), index, work)
 }
 
 fn numbers_of(
     rt: &HostRuntime,
-    cut: Cut,
+    cut: Option<Cut>,
     like: &[u8],
     blob: &mut [u8; READ_LIMIT],
     index: &mut [u32; FULL_PLACES],
     work: &mut [u32; FULL_PLACES],
-) -> Known {
+) -> Result<Cut, Status> {
     match cut {
-        Cut::At(types, strings) => Known::At(types, strings),
-        Cut::Like => numbers_like(rt, like, blob, index, work),
+        Some(cut) => Ok(cut),
+        None => numbers_like(rt, like, blob, index, work),
     }
 }
 
 // The parts are the first bytes of what is lent.
 fn save_parts(
     rt: &HostRuntime,
-    one: &[u8],
+    outs: Outs,
     first: &[u8; READ_LIMIT],
     first_len: u32,
-    two: &[u8],
     second: &[u8; BYTE_LIMIT],
     second_len: u32,
-    modes: Modes,
     index: &mut [u32; FULL_PLACES],
 ) -> Status {
     let first = first_of(first, first_len as usize);
     let second = first_of(second, second_len as usize);
-    let first_n = count(first, index);
-    let second_n = count(second, index);
-    saved(rt, one, first, first_n, two, second, second_n, modes)
+    let first = Part {
+        bytes: first,
+        n: count(first, index),
+    };
+    let second = Part {
+        bytes: second,
+        n: count(second, index),
+    };
+    saved(rt, outs, first, second)
 }
 
 // A table is cut behind so many types and bytes of strings.
@@ -83,11 +85,8 @@ fn cut_table(
     rt: &HostRuntime,
     file: &[u8],
     blob: &[u8],
-    types: u32,
-    strings: u32,
-    one: &[u8],
-    two: &[u8],
-    modes: Modes,
+    cut: Cut,
+    outs: Outs,
     first: &mut [u8; READ_LIMIT],
     index: &mut [u32; FULL_PLACES],
     work: &mut [u32; FULL_PLACES],
@@ -95,49 +94,43 @@ fn cut_table(
     let mut second = [0u8; BYTE_LIMIT];
     match split(
         blob,
-        TypeNo(types),
-        NameOff(strings),
+        TypeNo(cut.types),
+        NameOff(cut.strings),
         index,
         work,
         first,
         &mut second,
     ) {
-        Parted::Apart(n, m) => save_parts(rt, one, first, n, two, &second, m, modes, index),
-        Parted::Refused(r) => refused(false, file, blob, index, of_report(r)),
-        Parted::NoCut => no_cut(file, types, strings),
-        Parted::OutputShort => short(file),
+        Ok((n, m)) => save_parts(rt, outs, first, n, &second, m, index),
+        Err(SplitError::Refused(r)) => refused(false, file, blob, index, of_report(r)),
+        Err(SplitError::NoCut) => no_cut(file, cut.types, cut.strings),
+        Err(SplitError::OutputShort) => short(file),
     }
 }
 
 fn cut_at(
     rt: &HostRuntime,
     file: &[u8],
-    types: u32,
-    strings: u32,
-    one: &[u8],
-    two: &[u8],
-    modes: Modes,
+    cut: Cut,
+    outs: Outs,
     first: &mut [u8; READ_LIMIT],
     index: &mut [u32; FULL_PLACES],
     work: &mut [u32; FULL_PLACES],
 ) -> Status {
     let mut joined = [0u8; READ_LIMIT];
-    let read = read_file(rt, file, &mut joined);
-    if !read.is_read {
+    let Some(n) = read_file(rt, file, &mut joined) else {
         return Status::Failed;
-    }
-    let blob = first_of(&joined, read.n);
-    cut_table(
-        rt, file, blob, types, strings, one, two, modes, first, index, work,
-    )
+    };
+    let blob = first_of(&joined, n);
+    cut_table(rt, file, blob, cut, outs, first, index, work)
 }
 
-// The table in a file is cut in slices of full size, and its parts are saved under two names. The table that it is cut like waits where
-// the first part will stand.
+// The table in a file is cut in slices of full size, and its parts are saved under two names: where it is told, else like the table in
+// another file, which waits where the first part will stand.
 pub fn cut_files(
     rt: &HostRuntime,
     file: &[u8],
-    cut: Cut,
+    cut: Option<Cut>,
     like: &[u8],
     one: &[u8],
     two: &[u8],
@@ -147,9 +140,10 @@ pub fn cut_files(
     let mut index = [0u32; FULL_PLACES];
     let mut work = [0u32; FULL_PLACES];
     match numbers_of(rt, cut, like, &mut first, &mut index, &mut work) {
-        Known::Ended(status) => status,
-        Known::At(types, strings) => cut_at(
-            rt, file, types, strings, one, two, modes, &mut first, &mut index, &mut work,
-        ),
+        Err(status) => status,
+        Ok(cut) => {
+            let outs = Outs { one, two, modes };
+            cut_at(rt, file, cut, outs, &mut first, &mut index, &mut work)
+        }
     }
 }

@@ -3,12 +3,10 @@
 
 use answers::of_report;
 use files::{READ_LIMIT, Status, end};
-use lines::{
-    Out, ROOM, STDERR_FILENO, STDOUT_FILENO, flush, put, put_file, put_name, put_whole, put_with,
-};
+use lines::{Out, STDERR_FILENO, STDOUT_FILENO};
 use listing::{show_all, show_named, show_one};
-use paper::{Checked, FULL_PLACES, NameOff, Order, TypeNo};
-use tables::{Laid, Lean, lay_table, refused};
+use paper::{FULL_PLACES, NameOff, Order, TypeNo};
+use tables::{lay_table, refused};
 use texts::first_of;
 use titles::{put_many, put_size, put_type};
 
@@ -24,10 +22,7 @@ pub enum Ask {
 }
 
 fn is_all(ask: Ask) -> bool {
-    match ask {
-        Ask::All => true,
-        _ => false,
-    }
+    matches!(ask, Ask::All)
 }
 
 // The type or the offset that is asked of a table of so many types is there.
@@ -42,161 +37,139 @@ fn is_there(ask: Ask, blob: &[u8], n: u32) -> bool {
     }
 }
 
-fn put_missing(buf: &mut [u8; ROOM], o: Out, ask: Ask, n: u32) -> Out {
+fn put_missing(out: &mut Out, ask: Ask, n: u32) {
     match ask {
         Ask::Name(at) => {
-            let o = put_with(buf, o, b": offset ", at as u64);
-            put(buf, o, b" is past the strings\n")
+            out.put_with(b": offset ", at as u64);
+            out.put(b" is past the strings\n")
         }
         _ => {
-            let o = put_with(buf, o, b": there is no such type, the last is ", n as u64);
-            put(buf, o, b"\n")
+            out.put_with(b": there is no such type, the last is ", n as u64);
+            out.put(b"\n")
         }
     }
 }
 
 // What is asked is not there: a wrong call.
 pub fn missing(file: &[u8], ask: Ask, n: u32) -> Status {
-    let mut buf = [0u8; ROOM];
-    let o = put(&mut buf, lines::to(STDERR_FILENO), b"scrieve: ");
-    let o = put_file(&mut buf, o, file);
-    let o = put_missing(&mut buf, o, ask, n);
-    flush(&mut buf, o);
+    let mut out = Out::to(STDERR_FILENO);
+    out.put(b"scrieve: ");
+    out.put_file(file);
+    put_missing(&mut out, ask, n);
+    out.flush();
     Status::Failed
 }
 
 // No type has the name that is asked for: a wrong call.
 fn unnamed(file: &[u8], name: &[u8]) -> Status {
-    let mut buf = [0u8; ROOM];
-    let o = put(&mut buf, lines::to(STDERR_FILENO), b"scrieve: ");
-    let o = put_file(&mut buf, o, file);
-    let o = put(&mut buf, o, b": no type has the name ");
-    let o = put_name(&mut buf, o, name);
-    let o = put(&mut buf, o, b"\n");
-    flush(&mut buf, o);
+    let mut out = Out::to(STDERR_FILENO);
+    out.put(b"scrieve: ");
+    out.put_file(file);
+    out.put(b": no type has the name ");
+    out.put_name(name);
+    out.put(b"\n");
+    out.flush();
     Status::Failed
 }
 
+// An accepted table: its file, its bytes and the places of its types, how many these are, and how many of them are a base's.
+#[derive(Clone, Copy)]
+struct Table<'a> {
+    file: &'a [u8],
+    blob: &'a [u8],
+    index: &'a [u32],
+    n: u32,
+    base: Option<u32>,
+}
+
 // The types that have a name.
-fn named(file: &[u8], blob: &[u8], index: &[u32], n: u32, name: &[u8]) -> Status {
-    let mut buf = [0u8; ROOM];
-    let shown = show_named(&mut buf, lines::to(STDOUT_FILENO), blob, index, n, name);
-    if !shown.is_found {
-        return unnamed(file, name);
+fn named(t: Table, name: &[u8]) -> Status {
+    let mut out = Out::to(STDOUT_FILENO);
+    if show_named(&mut out, t.blob, t.index, t.n, name) {
+        return end(&mut out, Status::Done);
     }
-    let o = shown.o;
-    end(&mut buf, o, Status::Done)
+    unnamed(t.file, name)
 }
 
 // The byte order of a table's words.
-fn put_order(buf: &mut [u8; ROOM], o: Out, blob: &[u8]) -> Out {
+fn put_order(out: &mut Out, blob: &[u8]) {
     match words::order_of(blob) {
-        Order::LowFirst => put(buf, o, b"little-endian\n"),
-        Order::HighFirst => put(buf, o, b"big-endian\n"),
+        Order::LowFirst => out.put(b"little-endian\n"),
+        Order::HighFirst => out.put(b"big-endian\n"),
     }
 }
 
 // How many of the types are a base's.
-fn put_lean(buf: &mut [u8; ROOM], o: Out, lean: Lean) -> Out {
-    if !lean.is_there {
-        return o;
+fn put_lean(out: &mut Out, base: Option<u32>) {
+    match base {
+        Some(n) => out.put_with(b" with its base's ", n as u64),
+        None => {}
     }
-    put_with(buf, o, b" with its base's ", lean.n as u64)
 }
 
-fn put_accepted(buf: &mut [u8; ROOM], o: Out, file: &[u8], blob: &[u8], n: u32, lean: Lean) -> Out {
-    let o = put_file(buf, o, file);
-    let o = put(buf, o, b": accepted, ");
-    let o = put_many(buf, o, n as u64, b" type", b" types");
-    let o = put_lean(buf, o, lean);
-    let o = put(buf, o, b", ");
-    put_order(buf, o, blob)
+fn put_accepted(out: &mut Out, t: Table) {
+    out.put_file(t.file);
+    out.put(b": accepted, ");
+    put_many(out, t.n as u64, b" type", b" types");
+    put_lean(out, t.base);
+    out.put(b", ");
+    put_order(out, t.blob);
 }
 
 // Which types are a base's, and stand in its own table.
-fn put_base(buf: &mut [u8; ROOM], o: Out, lean: Lean) -> Out {
-    if !lean.is_there {
-        return o;
-    }
-    let n = lean.n;
-    match n {
-        0 => put(buf, o, b"of the base: no types\n"),
-        1 => put(buf, o, b"of the base: type 1\n"),
-        _ => {
-            let o = put_with(buf, o, b"of the base: types 1 to ", n as u64);
-            put(buf, o, b"\n")
+fn put_base(out: &mut Out, base: Option<u32>) {
+    match base {
+        None => {}
+        Some(0) => out.put(b"of the base: no types\n"),
+        Some(1) => out.put(b"of the base: type 1\n"),
+        Some(n) => {
+            out.put_with(b"of the base: types 1 to ", n as u64);
+            out.put(b"\n")
         }
     }
 }
 
 // Every type of the table's own, below a line that tells the byte order.
-fn put_table(buf: &mut [u8; ROOM], o: Out, blob: &[u8], index: &[u32], n: u32, lean: Lean) -> Out {
-    let o = put(buf, o, b"byte order: ");
-    let o = put_order(buf, o, blob);
-    let o = put_base(buf, o, lean);
-    show_all(buf, o, blob, index, lean.n, n)
+fn put_table(out: &mut Out, t: Table) {
+    out.put(b"byte order: ");
+    put_order(out, t.blob);
+    put_base(out, t.base);
+    show_all(out, t.blob, t.index, t.base.unwrap_or(0), t.n);
 }
 
-fn put_sized(buf: &mut [u8; ROOM], o: Out, blob: &[u8], index: &[u32], t: u32) -> Out {
-    let o = put_type(buf, o, blob, index, t);
-    let o = put(buf, o, b": ");
-    let o = put_size(buf, o, sizes::size(blob, index, TypeNo(t)));
-    put(buf, o, b"\n")
+fn put_sized(out: &mut Out, blob: &[u8], index: &[u32], t: u32) {
+    put_type(out, blob, index, t);
+    out.put(b": ");
+    put_size(out, sizes::size(blob, index, TypeNo(t)));
+    out.put(b"\n");
 }
 
-fn put_string(buf: &mut [u8; ROOM], o: Out, blob: &[u8], at: u32) -> Out {
-    let o = put_whole(buf, o, header::name(blob, NameOff(at)));
-    put(buf, o, b"\n")
+fn put_string(out: &mut Out, blob: &[u8], at: u32) {
+    out.put_whole(header::name(blob, NameOff(at)));
+    out.put(b"\n");
 }
 
-fn put_answer(
-    buf: &mut [u8; ROOM],
-    o: Out,
-    ask: Ask,
-    file: &[u8],
-    blob: &[u8],
-    index: &[u32],
-    n: u32,
-    lean: Lean,
-) -> Out {
+fn put_answer(out: &mut Out, ask: Ask, t: Table) {
     match ask {
-        Ask::Check => put_accepted(buf, o, file, blob, n, lean),
-        Ask::All => put_table(buf, o, blob, index, n, lean),
-        Ask::One(t) => show_one(buf, o, blob, index, t),
-        Ask::Named => o,
-        Ask::Size(t) => put_sized(buf, o, blob, index, t),
-        Ask::Name(at) => put_string(buf, o, blob, at),
+        Ask::Check => put_accepted(out, t),
+        Ask::All => put_table(out, t),
+        Ask::One(k) => show_one(out, t.blob, t.index, k),
+        Ask::Named => {}
+        Ask::Size(k) => put_sized(out, t.blob, t.index, k),
+        Ask::Name(at) => put_string(out, t.blob, at),
     }
 }
 
-// A table that is accepted.
-fn answered(
-    ask: Ask,
-    file: &[u8],
-    blob: &[u8],
-    index: &[u32],
-    n: u32,
-    name: &[u8],
-    lean: Lean,
-) -> Status {
+fn answered(ask: Ask, t: Table, name: &[u8]) -> Status {
     if let Ask::Named = ask {
-        return named(file, blob, index, n, name);
+        return named(t, name);
     }
-    if !is_there(ask, blob, n) {
-        return missing(file, ask, n);
+    if !is_there(ask, t.blob, t.n) {
+        return missing(t.file, ask, t.n);
     }
-    let mut buf = [0u8; ROOM];
-    let o = put_answer(
-        &mut buf,
-        lines::to(STDOUT_FILENO),
-        ask,
-        file,
-        blob,
-        index,
-        n,
-        lean,
-    );
-    end(&mut buf, o, Status::Done)
+    let mut out = Out::to(STDOUT_FILENO);
+    put_answer(&mut out, ask, t);
+    end(&mut out, Status::Done)
 }
 
 // A table is checked first, whatever is asked of it.
@@ -207,11 +180,21 @@ fn answer(
     index: &mut [u32],
     work: &mut [u32],
     name: &[u8],
-    lean: Lean,
+    base: Option<u32>,
 ) -> Status {
     match gate::check(blob, index, work) {
-        Checked::Refused(r) => refused(is_all(ask), file, blob, index, of_report(r)),
-        Checked::Accepted(n) => answered(ask, file, blob, index, n, name, lean),
+        Err(r) => refused(is_all(ask), file, blob, index, of_report(r)),
+        Ok(n) => answered(
+            ask,
+            Table {
+                file,
+                blob,
+                index,
+                n,
+                base,
+            },
+            name,
+        ),
     }
 }
 
@@ -224,9 +207,9 @@ fn answer_first(
     index: &mut [u32; FULL_PLACES],
     work: &mut [u32; FULL_PLACES],
     name: &[u8],
-    lean: Lean,
+    base: Option<u32>,
 ) -> Status {
-    answer(ask, file, first_of(blob, n), index, work, name, lean)
+    answer(ask, file, first_of(blob, n), index, work, name, base)
 }
 
 // The file is read, and asked of in slices of full size; where it leans on a base, with that base's file.
@@ -243,9 +226,7 @@ pub fn ask_file(rt: &HostRuntime, ask: Ask, file: &[u8], base: &[u8], name: &[u8
         &mut index,
         &mut work,
     ) {
-        Laid::Ended(status) => status,
-        Laid::Table(n, lean) => {
-            answer_first(ask, file, &blob, n, &mut index, &mut work, name, lean)
-        }
+        Err(status) => status,
+        Ok(t) => answer_first(ask, file, &blob, t.len, &mut index, &mut work, name, t.base),
     }
 }

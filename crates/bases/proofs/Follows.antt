@@ -59,11 +59,12 @@ module _ {blob index : List ℕ} {t at left : ℕ} (g : Following blob index t a
     pub following-base : not a ≡ true → at ≡ base_in blob index (length index) t
     following-base e = sym (step ∙ ap (λ (x : Bool). cond x (base_in blob index (left - 1) (word_in blob index at 8)) at) (not-true a e)) ∙ g.base
 
-    pub following-next : not a ≡ false → {next : ℕ} → next ≡ word_at o r 8 → Following blob index t next (left - 1)
+    pub following-next : not a ≡ false → {next rest : ℕ} → next ≡ word_at o r 8 → rest ≡ left - 1 → Following blob index t next rest
     unfolding word_in
-    following-next e {next} third =
+    following-next e {next} third fewer =
         record {
           base =
+              ap (λ (steps : ℕ). base_in blob index steps next) fewer ∙
               ap (base_in blob index (left - 1)) (third ∙ ap₂ (λ (q : Order) (s : List ℕ). word_at q s 8) order bytes)
               ∙ sym (step ∙ ap (λ (x : Bool). cond x (base_in blob index (left - 1) (word_in blob index at 8)) at) (not-false a e))
               ∙ g.base;

@@ -52,15 +52,13 @@ pub fn base_of(blob: &[u8], index: &[u32], t: u32) -> u32
     ensures { result ≡ base_in blob.now index.now (length index.now) t }
 {
     let mut at = t;
-    let mut left = index.len();
-    while 0 < left {
+    for _ in 0..index.len() {
         let order = words::order_of(blob);
         let r = record_of(blob, index, at);
         if !is_alias(kind_of(info_of(order, r))) {
             return at;
         }
         at = third_of(order, r);
-        left -= 1;
     }
     at
 }

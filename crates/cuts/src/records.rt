@@ -72,14 +72,11 @@ fn entries_keep(order: Order, bytes: &[u8], cut: Cut, at: Place, kind: u32, n: u
     let r0 = entry_role(kind, 0);
     let r1 = entry_role(kind, 1);
     let r2 = entry_role(kind, 2);
-    let mut p = at.0;
-    let mut left = n;
-    while 0 < left {
+    for i in 0..n {
+        let p = at.0 + step * i;
         if !three_keep(order, bytes, cut, Place(p), r0, r1, r2) {
             return false;
         }
-        p += step;
-        left -= 1;
     }
     true
 }

@@ -17,10 +17,9 @@ fn run_keeps(b: &[u8], index: &[u32], view: View, cut: Cut, from: u32, to: u32) 
 {
     let order = view.order;
     let none = &b[..0];
-    let mut t = from;
-    while t < to {
-        t += 1;
-        if !keeps(order, record_of(none, b, index, view, TypeNo(t)), cut) {
+    for k in from..to {
+        let t = TypeNo(k + 1);
+        if !keeps(order, record_of(none, b, index, view, t), cut) {
             return false;
         }
     }

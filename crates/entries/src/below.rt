@@ -2,17 +2,16 @@
 // as the outer one's: their bits count from the start of the record that is shown.
 use bases::{base_of, fourth_of, long_entry, record_of};
 use kindrows::{INT, STRUCT, UNION};
-use lines::{Out, ROOM, put, put_start, put_with};
+use lines::Out;
 use paper::{Place, Sized, TypeNo};
 use rows::{flag_of, info_of, kind_of, name_of, vlen_of};
 use titles::{put_based, put_entry_name, put_many};
 
-// What is written so far, how many lines members without a name may still get in this call, and whether some were left out.
+// How many lines members without a name may still get in this call, and whether some were left out.
 #[derive(Clone, Copy)]
 pub struct Listed {
-    pub o: Out,
     pub left: u32,
-    pub is_cut: bool,
+    pub is_cut: bool, // a flag: what is left out ends nothing, and lines go on behind it
 }
 
 // How deep members without a name are followed, and how many lines one gets below it: a small table can nest without measure.
@@ -77,10 +76,7 @@ fn span_of(blob: &[u8], index: &[u32], flag: u32, t: u32, word: u32) -> Span {
 
 // A sum that stops at the largest number; the bits of an accepted table stay far below it.
 pub fn plus(a: u64, b: u64) -> u64 {
-    if 18446744073709551615 - a < b {
-        return 18446744073709551615;
-    }
-    a + b
+    a.saturating_add(b)
 }
 
 // The bits of a member of a record that begins at a bit of the record that is shown.
@@ -101,105 +97,66 @@ fn bits_of(blob: &[u8], index: &[u32], r: &[u8], i: u32, start: u64) -> Span {
     }
 }
 
-// The struct or union that a member without a name holds; 0 where there is none.
-fn held_by(blob: &[u8], index: &[u32], e: &[u8]) -> u32 {
+// The struct or union that a member without a name holds, where there is one.
+fn held_by(blob: &[u8], index: &[u32], e: &[u8]) -> Option<u32> {
     let order = words::order_of(blob);
     let name = name_of(order, e);
     if name.0 != 0 {
-        return 0;
+        return None;
     }
     let t = base_of(blob, index, words::read(order, e, Place(4)));
-    let kind = kind_of(info_of(order, record_of(blob, index, t)));
-    match kind {
-        STRUCT | UNION => t,
-        _ => 0,
+    if t == 0 {
+        return None;
+    }
+    match kind_of(info_of(order, record_of(blob, index, t))) {
+        STRUCT | UNION => Some(t),
+        _ => None,
     }
 }
 
-pub fn put_indent(buf: &mut [u8; ROOM], o: Out, depth: usize) -> Out {
-    let mut o = o;
-    let mut left = depth;
-    while 0 < left {
-        o = put(buf, o, b"    ");
-        left -= 1;
+pub fn put_indent(out: &mut Out, depth: usize) {
+    for _ in 0..depth {
+        out.put(b"    ");
     }
-    o
 }
 
 // What stands behind a member's name: its type and its bits.
-pub fn put_taken(
-    buf: &mut [u8; ROOM],
-    o: Out,
-    blob: &[u8],
-    index: &[u32],
-    t: u32,
-    bits: Span,
-) -> Out {
-    let o = put(buf, o, b": ");
-    let o = put_based(buf, o, blob, index, t);
-    let o = put(buf, o, b", ");
-    let o = put_many(buf, o, bits.width, b" bit", b" bits");
-    put_with(buf, o, b" from bit ", bits.from)
+pub fn put_taken(out: &mut Out, blob: &[u8], index: &[u32], t: u32, bits: Span) {
+    out.put(b": ");
+    put_based(out, blob, index, t);
+    out.put(b", ");
+    put_many(out, bits.width, b" bit", b" bits");
+    out.put_with(b" from bit ", bits.from);
 }
 
 // A member's line: name, type and bits, so many levels below the record that is shown.
-fn put_line(
-    buf: &mut [u8; ROOM],
-    o: Out,
-    blob: &[u8],
-    index: &[u32],
-    e: &[u8],
-    bits: Span,
-    depth: usize,
-) -> Out {
-    let o = put_start(buf, o);
-    let o = put_indent(buf, o, depth);
-    let o = put_entry_name(buf, o, blob, e);
+fn put_line(out: &mut Out, blob: &[u8], index: &[u32], e: &[u8], bits: Span, depth: usize) {
+    out.put_start();
+    put_indent(out, depth);
+    put_entry_name(out, blob, e);
     let t = words::read(words::order_of(blob), e, Place(4));
-    let o = put_taken(buf, o, blob, index, t, bits);
-    put(buf, o, b"\n")
+    put_taken(out, blob, index, t, bits);
+    out.put(b"\n");
 }
 
 // Where lines are left out.
-pub fn put_more(buf: &mut [u8; ROOM], o: Out, depth: usize) -> Out {
-    let o = put_start(buf, o);
-    let o = put_indent(buf, o, depth);
-    put(buf, o, b"    ...\n")
-}
-
-pub fn least(a: u32, b: u32) -> u32 {
-    if a < b {
-        return a;
-    }
-    b
-}
-
-// A difference that stops at 0.
-pub fn less(a: u32, b: u32) -> u32 {
-    if a < b {
-        return 0;
-    }
-    a - b
+pub fn put_more(out: &mut Out, depth: usize) {
+    out.put_start();
+    put_indent(out, depth);
+    out.put(b"    ...\n");
 }
 
 // The members of a struct or union that begins at a bit of the record that is shown, and of those that members without a name
 // hold, each right below its member. For each that is open: its number, its next member and where it begins.
-fn put_below(
-    buf: &mut [u8; ROOM],
-    l: Listed,
-    blob: &[u8],
-    index: &[u32],
-    t: u32,
-    start: u64,
-) -> Listed {
+fn put_below(out: &mut Out, l: Listed, blob: &[u8], index: &[u32], t: u32, start: u64) -> Listed {
     let mut types = [t; LEVELS];
     let mut nexts = [0u32; LEVELS];
     let mut starts = [start; LEVELS];
     let mut depth: usize = 1;
-    let most = least(LINES, l.left);
+    let most = LINES.min(l.left);
     let mut left = most;
     let mut is_cut = l.is_cut;
-    let mut o = l.o;
+    // A while: what is open grows and shrinks as it is shown, so there is no count to go over.
     while 0 < depth {
         let d = depth - 1;
         let r = record_of(blob, index, types[d]);
@@ -207,7 +164,7 @@ fn put_below(
         if vlen_of(info_of(words::order_of(blob), r)) <= i {
             depth = d;
         } else if left == 0 {
-            o = put_more(buf, o, depth);
+            put_more(out, depth);
             is_cut = true;
             depth = 0;
         } else {
@@ -216,40 +173,29 @@ fn put_below(
             let e = long_entry(r, i);
             let bits = bits_of(blob, index, r, i, starts[d]);
             let from = bits.from;
-            o = put_line(buf, o, blob, index, e, bits, depth);
-            let held = held_by(blob, index, e);
-            if held != 0 {
+            put_line(out, blob, index, e, bits, depth);
+            if let Some(held) = held_by(blob, index, e) {
                 if depth < LEVELS {
                     types[depth] = held;
                     nexts[depth] = 0;
                     starts[depth] = from;
                     depth += 1;
                 } else {
-                    o = put_more(buf, o, LEVELS + 1);
+                    put_more(out, LEVELS + 1);
                     is_cut = true;
                 }
             }
         }
     }
     Listed {
-        o,
-        left: less(l.left, less(most, left)),
+        left: l.left.saturating_sub(most.saturating_sub(left)),
         is_cut,
-    }
-}
-
-// The same, with other text written.
-pub fn with(l: Listed, o: Out) -> Listed {
-    Listed {
-        o,
-        left: l.left,
-        is_cut: l.is_cut,
     }
 }
 
 // A member of the record that is shown, and what stands below it where it has no name.
 pub(crate) fn put_member(
-    buf: &mut [u8; ROOM],
+    out: &mut Out,
     l: Listed,
     blob: &[u8],
     index: &[u32],
@@ -259,11 +205,9 @@ pub(crate) fn put_member(
     let e = long_entry(r, i);
     let bits = bits_of(blob, index, r, i, 0);
     let from = bits.from;
-    let o = l.o;
-    let o = put_line(buf, o, blob, index, e, bits, 0);
-    let held = held_by(blob, index, e);
-    if held == 0 {
-        return with(l, o);
+    put_line(out, blob, index, e, bits, 0);
+    match held_by(blob, index, e) {
+        Some(held) => put_below(out, l, blob, index, held, from),
+        None => l,
     }
-    put_below(buf, with(l, o), blob, index, held, from)
 }

@@ -4,8 +4,5 @@
 mod below; // the lines of members
 mod kinds; // an entry by the kind of its record
 
-pub use below::{
-    LEVELS, LINES, Listed, Span, least, less, plus, put_indent, put_more, put_taken, whole_bits,
-    with,
-};
+pub use below::{LEVELS, LINES, Listed, Span, plus, put_indent, put_more, put_taken, whole_bits};
 pub use kinds::{put_entry, put_signed, value_entry, value_number};

@@ -1,5 +1,11 @@
 -- Two answers with the same numbers are one; and which numbers there are.
 -- Assumes nothing.
+use Rattle.paper.specs.declared.NameOff.{NameOff}
+use Rattle.paper.specs.declared.Place.{Place}
+use Rattle.std.specs.Prelude.{Err, Ok, Result, None, Option as RustOption, Some}
+use Rattle.exts.specs.declared.ExtError.TheVariants.{Refused, TableRefused}
+use Rattle.paper.specs.declared.JoinError.TheVariants.{FirstRefused}
+use Rattle.exts.specs.declared.ExtError.{ExtError}
 use Prim.Native.Nat.{ℕ, ◌-◌, ◌≤◌}
 use mathlib.Core.Path.{◌≡◌, refl, sym, ap, ap₂, ◌∙◌}
 use mathlib.Core.List.{[], ◌∷◌}
@@ -7,14 +13,10 @@ use native.Mathlib.Omega.{arith}
 use lib.ListN.{get_or}
 use Rattle.exts.specs.Entries.{found_as_paper}
 use Rattle.exts.specs.Ext.{fault_number, extended_as_paper}
-use Rattle.exts.specs.declared.Extended.{Extended}
-use Rattle.exts.specs.declared.Extended.TheVariants.{Accepted, TableRefused, Refused}
+use Rattle.paper.specs.declared.Report.{Report}
 use Rattle.exts.specs.declared.Fault.{Fault}
 use Rattle.exts.specs.declared.Fault.TheVariants.{Length, Opening, HeaderLength, Parts, RecordSize, Group, Named, Typed}
-use Rattle.exts.specs.declared.Found.{Found}
-use Rattle.exts.specs.declared.Found.TheVariants.{At, Nowhere}
 use Rattle.paper.proofs.basics.Answers.{joined-one}
-use Rattle.paper.specs.declared.Joined.TheVariants.{FirstRefused}
 use Rattle.paper.specs.rules.Answer.{Answer, joined_as_paper}
 
 -- ── 41 to 48 ──
@@ -49,31 +51,31 @@ fault-range Typed = (omega arith, omega arith)
 
 -- ── the check's answer ──
 
-pub extended-one : (a b : Extended) → extended_as_paper a ≡ extended_as_paper b → a ≡ b
+pub extended-one : (a b : Result (Unit {0}) ExtError) → extended_as_paper a ≡ extended_as_paper b → a ≡ b
 unfolding extended_as_paper joined_as_paper
-extended-one Accepted Accepted e = refl
-extended-one Accepted (TableRefused r) e = absurd (let z : ◌≡◌ {A = ℕ} 0 40 = ap (λ (a : Answer). a.number) e in omega arith)
-extended-one Accepted (Refused f) e = absurd (let z : 0 ≡ fault_number f = ap (λ (a : Answer). a.number) e in omega (arith, (fault-range f).0))
-extended-one (TableRefused r) Accepted e = absurd (let z : ◌≡◌ {A = ℕ} 40 0 = ap (λ (a : Answer). a.number) e in omega arith)
+extended-one (Ok _) (Ok _) e = refl
+extended-one (Ok _) (Err (TableRefused r)) e = absurd (let z : ◌≡◌ {A = ℕ} 0 40 = ap (λ (a : Answer). a.number) e in omega arith)
+extended-one (Ok _) (Err (Refused f)) e = absurd (let z : 0 ≡ fault_number f = ap (λ (a : Answer). a.number) e in omega (arith, (fault-range f).0))
+extended-one (Err (TableRefused r)) (Ok _) e = absurd (let z : ◌≡◌ {A = ℕ} 40 0 = ap (λ (a : Answer). a.number) e in omega arith)
 -- the report inside is told as that of a join's first table is
-extended-one (TableRefused r) (TableRefused q) e =
-    let same : FirstRefused r ≡ FirstRefused q =
-    joined-one (FirstRefused r) (FirstRefused q) (ap (λ (a : Answer). record { number = 16; inner = a.inner; t = a.t; p = a.p }) e) in
+extended-one (Err (TableRefused r)) (Err (TableRefused q)) e =
+    let same : (Err (FirstRefused r)) ≡ (Err (FirstRefused q)) =
+    joined-one (Err (FirstRefused r)) (Err (FirstRefused q)) (ap (λ (a : Answer). record { number = 16; inner = a.inner; t = a.t; p = a.p }) e) in
     let x : r ≡ q = cc in
-    ap TableRefused x
-extended-one (TableRefused r) (Refused f) e = absurd (let z : 40 ≡ fault_number f = ap (λ (a : Answer). a.number) e in omega (arith, (fault-range f).0))
-extended-one (Refused f) Accepted e = absurd (let z : fault_number f ≡ 0 = ap (λ (a : Answer). a.number) e in omega (arith, (fault-range f).0))
-extended-one (Refused f) (TableRefused r) e = absurd (let z : fault_number f ≡ 40 = ap (λ (a : Answer). a.number) e in omega (arith, (fault-range f).0))
-extended-one (Refused f) (Refused g) e = ap Refused (fault-one f g (ap (λ (a : Answer). a.number) e))
+    ap (λ (y : Report). Err (TableRefused y)) x
+extended-one (Err (TableRefused r)) (Err (Refused f)) e = absurd (let z : 40 ≡ fault_number f = ap (λ (a : Answer). a.number) e in omega (arith, (fault-range f).0))
+extended-one (Err (Refused f)) (Ok _) e = absurd (let z : fault_number f ≡ 0 = ap (λ (a : Answer). a.number) e in omega (arith, (fault-range f).0))
+extended-one (Err (Refused f)) (Err (TableRefused r)) e = absurd (let z : fault_number f ≡ 40 = ap (λ (a : Answer). a.number) e in omega (arith, (fault-range f).0))
+extended-one (Err (Refused f)) (Err (Refused g)) e = ap (λ (y : Fault). Err (Refused y)) (fault-one f g (ap (λ (a : Answer). a.number) e))
 
 -- ── the record question's ──
 
-pub found-one : (a b : Found) → found_as_paper a ≡ found_as_paper b → a ≡ b
+pub found-one : (a b : RustOption (NameOff × Place)) → found_as_paper a ≡ found_as_paper b → a ≡ b
 unfolding found_as_paper
-found-one (At n p) (At m q) e =
+found-one (Some (n, p)) (Some (m, q)) e =
     let x : n.0 ≡ m.0 = ap (λ (a : Answer). a.t) e in
     let y : p.0 ≡ q.0 = ap (λ (a : Answer). a.p) e in
-    ap₂ (λ (i j : ℕ). At (record { 0 = i }) (record { 0 = j })) x y
-found-one (At n p) Nowhere e = absurd (let z : ◌≡◌ {A = ℕ} 0 1 = ap (λ (a : Answer). a.number) e in omega arith)
-found-one Nowhere (At m q) e = absurd (let z : ◌≡◌ {A = ℕ} 1 0 = ap (λ (a : Answer). a.number) e in omega arith)
-found-one Nowhere Nowhere e = refl
+    ap₂ (λ (i j : ℕ). Some (record { 0 = i }, record { 0 = j })) x y
+found-one (Some (n, p)) None e = absurd (let z : ◌≡◌ {A = ℕ} 0 1 = ap (λ (a : Answer). a.number) e in omega arith)
+found-one None (Some (m, q)) e = absurd (let z : ◌≡◌ {A = ℕ} 1 0 = ap (λ (a : Answer). a.number) e in omega arith)
+found-one None None e = refl

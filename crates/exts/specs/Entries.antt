@@ -1,11 +1,11 @@
 -- The record question, of a section alone: record y of part x, "its group's name offset, its place, its own bytes".
-use Rattle.std.specs.Prelude.{ℕ, zero, suc, Bool, true, false, not, cond, List, [], ◌∷◌, take, drop}
+use Rattle.paper.specs.declared.NameOff.{NameOff}
+use Rattle.paper.specs.declared.Place.{Place}
+use Rattle.std.specs.Prelude.{ℕ, zero, suc, Bool, true, false, not, cond, List, [], ◌∷◌, take, drop, None, Option as RustOption, Some}
 use Rattle.std.proofs.Math.Option.{Option, none, some}
 use Rattle.exts.specs.Ext.{head_length_bad, parts_bad}
 use Rattle.exts.specs.Items.{Entry, Item, broken, group, entry, Part, part_items, parts, items}
 use Rattle.exts.specs.Sorts.{least_size}
-use Rattle.exts.specs.declared.Found.{Found}
-use Rattle.exts.specs.declared.Found.TheVariants.{At, Nowhere}
 use Rattle.paper.specs.rules.Answer.{Answer, report, report_at}
 use Rattle.paper.specs.rules.Choice.{every}
 use Rattle.paper.specs.rules.Header.{length_bad, opening_bad}
@@ -70,9 +70,9 @@ entry_start none = 0
 entry_start (some e) = e.place
 
 -- the answer by its numbers: 0 with a group's name offset and a record's place, or 1 if there is none
-unfoldable pub found_as_paper : Found → Answer
-found_as_paper (At name place) = report_at 0 name.0 place.0
-found_as_paper Nowhere = report 1 0
+unfoldable pub found_as_paper : RustOption (NameOff × Place) → Answer
+found_as_paper (Some (name, place)) = report_at 0 name.0 place.0
+found_as_paper None = report 1 0
 
 abbrev pub entry_as_paper : Option Entry → Answer
 entry_as_paper none = report 1 0

@@ -1,14 +1,12 @@
 -- Order 8: what a section is refused for beside a table, the answer and both lent slices, of any bytes.
-use Rattle.std.specs.Prelude.{ℕ, ◌+◌, Bool, true, not, ◌&&◌, ◌||◌, List, [], ◌∷◌, eqb, leb, ltb, length, take}
+use Rattle.exts.specs.declared.ExtError.TheVariants.{Refused, TableRefused}
+use Rattle.exts.specs.declared.ExtError.{ExtError}
+use Rattle.std.specs.Prelude.{ℕ, ◌+◌, Bool, true, not, ◌&&◌, ◌||◌, List, [], ◌∷◌, eqb, leb, ltb, length, take, Err, Ok, Result}
 use Rattle.std.proofs.Math.Option.{Option, none, some}
 use Rattle.exts.specs.Items.{Entry, Item, broken, group, entry, head_length, describes, part_offset, part_length, items}
 use Rattle.exts.specs.Sorts.{in_fours, roles_of, sorts}
-use Rattle.exts.specs.declared.Extended.{Extended}
-use Rattle.exts.specs.declared.Extended.TheVariants.{Accepted, TableRefused, Refused}
 use Rattle.exts.specs.declared.Fault.{Fault}
 use Rattle.exts.specs.declared.Fault.TheVariants.{Length, Opening, HeaderLength, Parts, RecordSize, Group, Named, Typed}
-use Rattle.exts.specs.declared.Judged.{Judged}
-use Rattle.exts.specs.declared.Judged.TheVariants.{Sound, Faulty}
 use Rattle.exts.specs.declared.Role.{Role}
 use Rattle.exts.specs.declared.Role.TheVariants.{Plain, Name, FuncType, AnyType}
 use Rattle.exts.specs.declared.Sort.{Sort}
@@ -125,11 +123,11 @@ fault_number Group = 46
 fault_number Named = 47
 fault_number Typed = 48
 
-unfoldable pub judged_number : Judged → Option ℕ
-judged_number Sound = none
-judged_number (Faulty f) = some (fault_number f)
+unfoldable pub judged_number : Result (Unit {0}) Fault → Option ℕ
+judged_number (Ok _) = none
+judged_number (Err f) = some (fault_number f)
 
-unfoldable pub extended_as_paper : Extended → Answer
-extended_as_paper Accepted = value 0
-extended_as_paper (TableRefused r) = inside 40 (report_as_paper r)
-extended_as_paper (Refused f) = report (fault_number f) 0
+unfoldable pub extended_as_paper : Result (Unit {0}) ExtError → Answer
+extended_as_paper (Ok _) = value 0
+extended_as_paper (Err (TableRefused r)) = inside 40 (report_as_paper r)
+extended_as_paper (Err (Refused f)) = report (fault_number f) 0

@@ -1,5 +1,5 @@
 // The .BTF.ext section beside a table (order 8): definitions (specs/) and their laws (proofs/). There is no code here but the sorts and the answers' cases.
-use paper::{NameOff, Place, Report};
+use paper::Report;
 
 // The sorts of record, in the order of their parts.
 #[derive(Clone, Copy)]
@@ -31,24 +31,9 @@ pub enum Fault {
     Typed,
 }
 
-// What is found wrong with a section, if anything is.
+// Why a section is refused: 40 with the table's report, or 41 to 48.
 #[derive(Clone, Copy)]
-pub enum Judged {
-    Sound,
-    Faulty(Fault),
-}
-
-// What the check of a section answers: nothing is refused, 40 with the table's report, or 41 to 48.
-#[derive(Clone, Copy)]
-pub enum Extended {
-    Accepted,
+pub enum ExtError {
     TableRefused(Report),
     Refused(Fault),
-}
-
-// Where a record of a section stands, and the name offset of its group; or that there is none.
-#[derive(Clone, Copy)]
-pub enum Found {
-    At(NameOff, Place),
-    Nowhere,
 }

@@ -1,7 +1,8 @@
 // Each record of a section in a line, by its part.
-use crate::walks::{FUNCTIONS, LINES, Met, next_of, start, word_behind};
+use crate::walks::{Met, next_of, start, word_behind};
+use exts::Sort;
 use header::name;
-use lines::{Out, ROOM, put, put_name, put_number, put_with};
+use lines::Out;
 use paper::NameOff;
 use std::num::wrapping_add_u32;
 use texts::line;
@@ -15,29 +16,29 @@ pub(crate) struct Counts {
     pub(crate) relocations: u32,
 }
 
-fn put_string(buf: &mut [u8; ROOM], o: Out, blob: &[u8], off: u32) -> Out {
-    put_name(buf, o, name(blob, NameOff(off)))
+fn put_string(out: &mut Out, blob: &[u8], off: u32) {
+    out.put_name(name(blob, NameOff(off)));
 }
 
 // "probe/hot 8: ", the section of the program and the place of the instruction in it.
-fn put_where(buf: &mut [u8; ROOM], o: Out, blob: &[u8], group: u32, offset: u32) -> Out {
-    let o = put_string(buf, o, blob, group);
-    let o = put_with(buf, o, b" ", offset as u64);
-    put(buf, o, b": ")
+fn put_where(out: &mut Out, blob: &[u8], group: u32, offset: u32) {
+    put_string(out, blob, group);
+    out.put_with(b" ", offset as u64);
+    out.put(b": ");
 }
 
 // A line and a column are one word: ten bits are the column's.
-fn put_line_record(buf: &mut [u8; ROOM], o: Out, blob: &[u8], s: &[u8], at: u32) -> Out {
-    let o = put_string(buf, o, blob, word_behind(s, at, 4));
+fn put_line_record(out: &mut Out, blob: &[u8], s: &[u8], at: u32) {
+    put_string(out, blob, word_behind(s, at, 4));
     let w = word_behind(s, at, 12);
-    let o = put_with(buf, o, b" line ", (w / 1024) as u64);
-    let o = put_with(buf, o, b" column ", (w % 1024) as u64);
-    let o = put(buf, o, b": ");
-    put_string(buf, o, blob, word_behind(s, at, 8))
+    out.put_with(b" line ", (w / 1024) as u64);
+    out.put_with(b" column ", (w % 1024) as u64);
+    out.put(b": ");
+    put_string(out, blob, word_behind(s, at, 8));
 }
 
 // What is fitted, by the kernel's numbers; one that it does not name stands as its number.
-fn put_relocation_kind(buf: &mut [u8; ROOM], o: Out, kind: u32) -> Out {
+fn put_relocation_kind(out: &mut Out, kind: u32) {
     let kinds = b"byte offset of a field\n\
         byte size of a field\n\
         whether a field is there\n\
@@ -51,79 +52,60 @@ fn put_relocation_kind(buf: &mut [u8; ROOM], o: Out, kind: u32) -> Out {
         whether an enum value is there\n\
         number of an enum value\n\
         whether a type is the same\n";
-    let o = put_with(buf, o, b", kind ", kind as u64);
+    out.put_with(b", kind ", kind as u64);
     let said = line(kinds, kind);
     if said.len() == 0 {
-        return o;
+        return;
     }
-    let o = put(buf, o, b" (");
-    let o = put(buf, o, said);
-    put(buf, o, b")")
+    out.put(b" (");
+    out.put(said);
+    out.put(b")");
 }
 
-fn put_relocation(
-    buf: &mut [u8; ROOM],
-    o: Out,
-    blob: &[u8],
-    index: &[u32],
-    s: &[u8],
-    at: u32,
-) -> Out {
-    let o = put_type(buf, o, blob, index, word_behind(s, at, 4));
-    let o = put(buf, o, b", access ");
-    let o = put_string(buf, o, blob, word_behind(s, at, 8));
-    put_relocation_kind(buf, o, word_behind(s, at, 12))
+fn put_relocation(out: &mut Out, blob: &[u8], index: &[u32], s: &[u8], at: u32) {
+    put_type(out, blob, index, word_behind(s, at, 4));
+    out.put(b", access ");
+    put_string(out, blob, word_behind(s, at, 8));
+    put_relocation_kind(out, word_behind(s, at, 12));
 }
 
-fn put_words(
-    buf: &mut [u8; ROOM],
-    o: Out,
-    blob: &[u8],
-    index: &[u32],
-    s: &[u8],
-    part: u32,
-    at: u32,
-) -> Out {
+fn put_words(out: &mut Out, blob: &[u8], index: &[u32], s: &[u8], part: Sort, at: u32) {
     match part {
-        FUNCTIONS => put_type(buf, o, blob, index, word_behind(s, at, 4)),
-        LINES => put_line_record(buf, o, blob, s, at),
-        _ => put_relocation(buf, o, blob, index, s, at),
+        Sort::Function => put_type(out, blob, index, word_behind(s, at, 4)),
+        Sort::Line => put_line_record(out, blob, s, at),
+        Sort::Relocation => put_relocation(out, blob, index, s, at),
     }
 }
 
 // One record in a line.
 fn put_record(
-    buf: &mut [u8; ROOM],
-    o: Out,
+    out: &mut Out,
     blob: &[u8],
     index: &[u32],
     s: &[u8],
-    part: u32,
+    part: Sort,
     group: u32,
     at: u32,
-) -> Out {
-    let o = put(buf, o, line(b"\nfunction \nline \nrelocation \n", part));
-    let o = put_where(buf, o, blob, group, word_behind(s, at, 0));
-    let o = put_words(buf, o, blob, index, s, part, at);
-    put(buf, o, b"\n")
+) {
+    out.put(line(b"function \nline \nrelocation \n", part as u32));
+    put_where(out, blob, group, word_behind(s, at, 0));
+    put_words(out, blob, index, s, part, at);
+    out.put(b"\n");
 }
 
-fn counted(c: Counts, part: u32) -> Counts {
+fn counted(c: Counts, part: Sort) -> Counts {
     match part {
-        FUNCTIONS => Counts {
+        Sort::Function => Counts {
             functions: wrapping_add_u32(c.functions, 1),
-            lines: c.lines,
-            relocations: c.relocations,
+            ..c
         },
-        LINES => Counts {
-            functions: c.functions,
+        Sort::Line => Counts {
             lines: wrapping_add_u32(c.lines, 1),
-            relocations: c.relocations,
+            ..c
         },
-        _ => Counts {
-            functions: c.functions,
-            lines: c.lines,
+        Sort::Relocation => Counts {
             relocations: wrapping_add_u32(c.relocations, 1),
+            ..c
         },
     }
 }
@@ -136,44 +118,28 @@ pub(crate) fn count_records(s: &[u8]) -> Counts {
         relocations: 0,
     };
     let mut w = start(s);
-    let mut turns = 0;
-    while turns < s.len() {
+    for _ in 0..s.len() {
         let next = next_of(s, w);
-        let met = next.met;
         w = next.walk;
-        if let Met::End = met {
-            return c;
+        match next.met {
+            Met::End => return c,
+            Met::Record(part) => c = counted(c, part),
+            _ => {}
         }
-        if let Met::Record = met {
-            c = counted(c, w.part);
-        }
-        turns += 1;
     }
     c
 }
 
-// Every record of an accepted section.
-pub(crate) fn put_records(
-    buf: &mut [u8; ROOM],
-    o: Out,
-    blob: &[u8],
-    index: &[u32],
-    s: &[u8],
-) -> Out {
-    let mut o = o;
+// Every record of an accepted section, which has fewer things in it than bytes, and three parts.
+pub(crate) fn put_records(out: &mut Out, blob: &[u8], index: &[u32], s: &[u8]) {
     let mut w = start(s);
-    let mut turns = 0;
-    while turns < s.len() {
+    for _ in 0..s.len() {
         let next = next_of(s, w);
-        let met = next.met;
         w = next.walk;
-        if let Met::End = met {
-            return o;
+        match next.met {
+            Met::End => return,
+            Met::Record(part) => put_record(out, blob, index, s, part, w.name, next.place),
+            _ => {}
         }
-        if let Met::Record = met {
-            o = put_record(buf, o, blob, index, s, w.part, w.name, next.place);
-        }
-        turns += 1;
     }
-    o
 }

@@ -1,11 +1,12 @@
 // What a section holds, one thing after another, as far as it can be read. What it is refused for is not asked here: the check has said it.
+use exts::Sort;
 use paper::{BYTE_LIMIT, Place};
 use std::num::wrapping_add_u32;
 
-// Where a walk stands: in which part, up to where that goes, how long its records are, and of the group at hand how many are left and its name.
+// Where a walk stands: in which part, if it is in one yet, up to where that goes, how long its records are, and of the group at hand how many are left and its name.
 #[derive(Clone, Copy)]
 pub(crate) struct Walk {
-    pub(crate) part: u32,
+    pub(crate) part: Option<Sort>,
     pub(crate) at: u32,
     pub(crate) end: u32,
     pub(crate) size: u32,
@@ -13,12 +14,13 @@ pub(crate) struct Walk {
     pub(crate) name: u32,
 }
 
-// What it meets next: a part, a group, a record; a record size or a group that cannot be; the end.
+// What it meets next: a part, a group, a record; a record size or a group that cannot be; the end. An enum of its own: what cannot be is met like
+// any other, and who asks tells what it means.
 #[derive(Clone, Copy)]
 pub(crate) enum Met {
     Part,
     Group,
-    Record,
+    Record(Sort),
     WrongSize,
     WrongGroup,
     End,
@@ -31,13 +33,6 @@ pub(crate) struct Step {
     pub(crate) place: u32,
     pub(crate) walk: Walk,
 }
-
-// The parts, by their numbers.
-pub(crate) const FUNCTIONS: u32 = 1;
-
-pub(crate) const LINES: u32 = 2;
-
-pub(crate) const RELOCATIONS: u32 = 3;
 
 // The word at a place of a section, in its own order; 0 where it is not there.
 pub(crate) fn word(s: &[u8], at: u32) -> u32 {
@@ -58,11 +53,11 @@ fn length_of(s: &[u8]) -> u32 {
 }
 
 // How many bytes a part has by the header; one of 24 bytes has no words for relocations.
-fn part_length(s: &[u8], part: u32) -> u32 {
+fn part_length(s: &[u8], part: Sort) -> u32 {
     match part {
-        FUNCTIONS => word(s, 12),
-        LINES => word(s, 20),
-        _ => {
+        Sort::Function => word(s, 12),
+        Sort::Line => word(s, 20),
+        Sort::Relocation => {
             if word(s, 4) < 32 {
                 return 0;
             }
@@ -72,7 +67,7 @@ fn part_length(s: &[u8], part: u32) -> u32 {
 }
 
 // The end of a part, which is inside the section.
-fn part_end(s: &[u8], part: u32, from: u32) -> u32 {
+fn part_end(s: &[u8], part: Sort, from: u32) -> u32 {
     let end = length_of(s);
     if end < from {
         return from;
@@ -85,24 +80,21 @@ fn part_end(s: &[u8], part: u32, from: u32) -> u32 {
 }
 
 // How many bytes a record has at least.
-fn least(part: u32) -> u32 {
-    if part == FUNCTIONS {
-        return 8;
+fn least(part: Sort) -> u32 {
+    match part {
+        Sort::Function => 8,
+        Sort::Line | Sort::Relocation => 16,
     }
-    16
 }
 
-fn size_ok(part: u32, size: u32) -> bool {
-    if size < least(part) {
-        return false;
-    }
-    size % 4 == 0
+fn size_ok(part: Sort, size: u32) -> bool {
+    least(part) <= size && size % 4 == 0
 }
 
 pub(crate) fn start(s: &[u8]) -> Walk {
     let at = word(s, 4);
     Walk {
-        part: 0,
+        part: None,
         at,
         end: at,
         size: 0,
@@ -112,25 +104,18 @@ pub(crate) fn start(s: &[u8]) -> Walk {
 }
 
 // A part that begins at a place: its groups stand behind its record size.
-fn open_part(s: &[u8], part: u32, from: u32) -> Step {
+fn open_part(s: &[u8], part: Sort, from: u32) -> Step {
     let end = part_end(s, part, from);
     let size = word(s, from);
     let walk = Walk {
-        part,
+        part: Some(part),
         at: wrapping_add_u32(from, 4),
         end,
         size,
         left: 0,
         name: 0,
     };
-    if end <= from {
-        return Step {
-            met: Met::Part,
-            place: from,
-            walk,
-        };
-    }
-    if size_ok(part, size) {
+    if end <= from || size_ok(part, size) {
         return Step {
             met: Met::Part,
             place: from,
@@ -174,12 +159,10 @@ fn open_group(s: &[u8], w: Walk) -> Step {
         };
     }
     let walk = Walk {
-        part: w.part,
         at: wrapping_add_u32(at, 8),
-        end: w.end,
-        size: w.size,
         left: count,
         name: word(s, at),
+        ..w
     };
     Step {
         met: Met::Group,
@@ -189,17 +172,14 @@ fn open_group(s: &[u8], w: Walk) -> Step {
 }
 
 // A record at the walk's place, of which so many are left.
-fn next_record(w: Walk, left: u32) -> Step {
+fn next_record(w: Walk, part: Sort, left: u32) -> Step {
     let walk = Walk {
-        part: w.part,
         at: wrapping_add_u32(w.at, w.size),
-        end: w.end,
-        size: w.size,
         left,
-        name: w.name,
+        ..w
     };
     Step {
-        met: Met::Record,
+        met: Met::Record(part),
         place: w.at,
         walk,
     }
@@ -207,19 +187,20 @@ fn next_record(w: Walk, left: u32) -> Step {
 
 // The next thing.
 pub(crate) fn next_of(s: &[u8], w: Walk) -> Step {
+    let Some(part) = w.part else {
+        return open_part(s, Sort::Function, w.end);
+    };
     let left = w.left;
     if 0 < left {
-        return next_record(w, left - 1);
+        return next_record(w, part, left - 1);
     }
     if w.at < w.end {
         return open_group(s, w);
     }
-    let part = w.part;
     match part {
-        0 => open_part(s, FUNCTIONS, w.end),
-        1 => open_part(s, LINES, w.end),
-        2 => open_part(s, RELOCATIONS, w.end),
-        _ => Step {
+        Sort::Function => open_part(s, Sort::Line, w.end),
+        Sort::Line => open_part(s, Sort::Relocation, w.end),
+        Sort::Relocation => Step {
             met: Met::End,
             place: w.end,
             walk: w,

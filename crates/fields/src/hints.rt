@@ -1,5 +1,5 @@
 // What bytes that are no table are instead, as far as their first words tell: a line behind the report.
-use lines::{Out, ROOM, put, put_with};
+use lines::Out;
 use paper::{BYTE_LIMIT, Order, Place};
 use texts::line;
 use titles::put_many;
@@ -30,66 +30,65 @@ fn is_behind(blob: &[u8]) -> bool {
     s.len() == 0 || s[s.len() - 1] == 0
 }
 
-// Which line of the hints; 0 for none.
-fn hint_of(blob: &[u8], number: u32) -> u32 {
+// Which line of the hints, if any.
+fn hint_of(blob: &[u8], number: u32) -> Option<u32> {
     let w = words::read(Order::LowFirst, blob, Place(0));
     if number <= 2 && w == 1179403647 {
-        return 1; // 7F 45 4C 46
+        return Some(0); // 7F 45 4C 46
     }
     if 3 <= number && is_extension(blob) {
-        return 2;
+        return Some(1);
     }
     if number == 5 && is_behind(blob) {
-        return 3;
+        return Some(2);
     }
-    0
+    None
 }
 
 // The bytes that the header asks for, where there are others.
-fn put_sum(buf: &mut [u8; ROOM], o: Out, blob: &[u8]) -> Out {
+fn put_sum(out: &mut Out, blob: &[u8]) {
     let types = words::blob_word(blob, Place(12)) as u64;
     let strings = words::blob_word(blob, Place(20)) as u64;
     let asked = 24 + types + strings;
     let there = blob.len() as u64;
     if asked == there {
-        return o;
+        return;
     }
-    let o = put_with(buf, o, b"    24 bytes of header, ", types);
-    let o = put_with(buf, o, b" of types and ", strings);
-    let o = put_with(buf, o, b" of strings are ", asked);
-    let o = put(buf, o, b": ");
+    out.put_with(b"    24 bytes of header, ", types);
+    out.put_with(b" of types and ", strings);
+    out.put_with(b" of strings are ", asked);
+    out.put(b": ");
     if there < asked {
-        return put_many(
-            buf,
-            o,
+        put_many(
+            out,
             asked - there,
             b" byte is missing\n",
             b" bytes are missing\n",
         );
+        return;
     }
     put_many(
-        buf,
-        o,
+        out,
         there - asked,
         b" byte too many\n",
         b" bytes too many\n",
-    )
+    );
 }
 
 // The hint behind a report from 1 to 5, where there is one.
-pub fn put_hint(buf: &mut [u8; ROOM], o: Out, blob: &[u8], number: u32) -> Out {
-    let hints = b"\n\
+pub fn put_hint(out: &mut Out, blob: &[u8], number: u32) {
+    let hints = b"\
         this is an ELF file: objcopy --dump-section .BTF=TABLE FILE takes its table out (llvm-objcopy for a BPF object)\n\
         this is a .BTF.ext section, and no table of types: that is the section .BTF\n\
         a table that leans on a base may have such strings: check, show, size, name and read take it with --base BASE behind them\n";
-    let k = hint_of(blob, number);
-    if k != 0 {
-        let o = put(buf, o, b"    ");
-        let o = put(buf, o, line(hints, k));
-        return put(buf, o, b"\n");
+    if let Some(k) = hint_of(blob, number) {
+        out.put(b"    ");
+        out.put(line(hints, k));
+        out.put(b"\n");
+        return;
     }
     if number == 4 {
-        return put_sum(buf, o, blob);
+        put_sum(out, blob);
+        return;
     }
-    o
 }

@@ -1,25 +1,25 @@
 // Two tables are written, and neither takes its name before both are on the disk.
 use crate::saves::{OTHER, set_aside, sync_directory, take_name};
 use crate::system::unlink;
-use lines::{ROOM, STDERR_FILENO, flush, put, put_file};
-use texts::{Number, first_of};
+use lines::{Out, STDERR_FILENO};
+use texts::first_of;
 
 // The modes that the two new files have, where they are asked for: the umask gives one mode alone.
 #[derive(Clone, Copy)]
 pub struct Modes {
-    pub one: Number,
-    pub two: Number,
+    pub one: Option<u32>,
+    pub two: Option<u32>,
 }
 
 // One file is new, and the other could not take its name.
 fn tell_half(one: &[u8], two: &[u8]) {
-    let mut buf = [0u8; ROOM];
-    let o = put(&mut buf, lines::to(STDERR_FILENO), b"scrieve: ");
-    let o = put_file(&mut buf, o, one);
-    let o = put(&mut buf, o, b" is new, ");
-    let o = put_file(&mut buf, o, two);
-    let o = put(&mut buf, o, b" is as it was\n");
-    flush(&mut buf, o);
+    let mut out = Out::to(STDERR_FILENO);
+    out.put(b"scrieve: ");
+    out.put_file(one);
+    out.put(b" is new, ");
+    out.put_file(two);
+    out.put(b" is as it was\n");
+    out.flush();
 }
 
 // The second step: both take their names, and the directories are on the disk too.
@@ -56,15 +56,13 @@ pub fn save_both(
     let mut two_other = [0u8; OTHER];
     let one_mode = modes.one;
     let two_mode = modes.two;
-    let n = set_aside(rt, one, first, one_mode, &mut one_other);
-    if n == 0 {
+    let Some(n) = set_aside(rt, one, first, one_mode, &mut one_other) else {
         return false;
-    }
-    let m = set_aside(rt, two, second, two_mode, &mut two_other);
-    if m == 0 {
+    };
+    let Some(m) = set_aside(rt, two, second, two_mode, &mut two_other) else {
         unlink(rt, first_of(&one_other, n));
         return false;
-    }
+    };
     take_names(
         rt,
         first_of(&one_other, n),

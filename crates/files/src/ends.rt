@@ -1,6 +1,6 @@
 // How a call ends, which the launcher's status tells.
 use crate::failures::fail_text;
-use lines::{Out, ROOM, flush};
+use lines::Out;
 use std::io::ErrorKind;
 
 // How a call ends: as asked, with a refusal, as a call that is wrong or whose files cannot be read or written, or as one whose output
@@ -24,9 +24,9 @@ pub fn fail_output() -> Status {
 }
 
 // What waits is written. Standard error says so where that cannot be done.
-pub fn end(buf: &mut [u8; ROOM], o: Out, s: Status) -> Status {
-    let o = flush(buf, o);
-    if o.is_whole {
+pub fn end(out: &mut Out, s: Status) -> Status {
+    out.flush();
+    if out.is_whole {
         return s;
     }
     fail_output()

@@ -13,5 +13,5 @@ pub use arguments::{arg, arg_count, whole_arg};
 pub use both::{Modes, save_both};
 pub use ends::{Status, end, fail_output};
 pub use failures::{fail, fail_text};
-pub use reads::{Opened, READ_LIMIT, Read, close_input, open_input, read_file, read_input};
+pub use reads::{Opened, READ_LIMIT, close_input, open_input, read_file, read_input};
 pub use saves::{append, save};

@@ -17,13 +17,6 @@ pub enum Opened {
     Named(File),
 }
 
-// What a whole file gives.
-#[derive(Clone, Copy)]
-pub struct Read {
-    pub n: usize,
-    pub is_read: bool,
-}
-
 // The next bytes, 0 at the end.
 fn read_some(from: &mut Opened, s: &mut [u8]) -> Result<usize>
     ensures { IfOk result (λ n. n ≤ length s.old) }
@@ -39,6 +32,7 @@ fn read_from(from: &mut Opened, s: &mut [u8]) -> Result<usize>
     ensures { IfOk result (λ n. n ≤ length s.old) }
 {
     let mut done = 0;
+    // A while: each read says how far it has come, so there is no count to go over.
     while done < s.len() {
         let n = read_some(from, &mut s[done..])?;
         if n == 0 {
@@ -73,27 +67,20 @@ fn fail_input(name: &[u8], why: Error) {
     fail(name, why);
 }
 
-// The next bytes of what is open under a name, as many as the slice holds. Where they cannot be read, standard error says why.
-pub fn read_input(name: &[u8], from: &mut Opened, s: &mut [u8]) -> Read {
+// The next bytes of what is open under a name, as many as the slice holds. How many there are is answered; nothing where they
+// cannot be read, and standard error says why.
+pub fn read_input(name: &[u8], from: &mut Opened, s: &mut [u8]) -> Option<usize> {
     match read_from(from, s) {
-        Ok(n) => Read { n, is_read: true },
+        Ok(n) => Some(n),
         Err(why) => {
             fail_input(name, why);
-            Read {
-                n: 0,
-                is_read: false,
-            }
+            None
         }
     }
 }
 
-// The bytes of the file, as many as the slice holds. Where it cannot be read, standard error says why.
-pub fn read_file(rt: &HostRuntime, name: &[u8], s: &mut [u8]) -> Read {
-    match open_input(rt, name) {
-        Some(mut from) => read_input(name, &mut from, s),
-        None => Read {
-            n: 0,
-            is_read: false,
-        },
-    }
+// The bytes of the file, as many as the slice holds. Nothing where it cannot be read, and standard error says why.
+pub fn read_file(rt: &HostRuntime, name: &[u8], s: &mut [u8]) -> Option<usize> {
+    let mut from = open_input(rt, name)?;
+    read_input(name, &mut from, s)
 }

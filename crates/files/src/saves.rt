@@ -7,7 +7,7 @@ use std::fs::{File, Permissions};
 use std::io::{ErrorKind, Result, Write};
 use std::os::unix::fs::PermissionsExt;
 use std::random::RandomSource;
-use texts::{Number, first_of};
+use texts::first_of;
 use words::lay;
 
 // Room for the other name: the longest argument, and what stands behind it.
@@ -43,22 +43,22 @@ fn other_name(rt: &HostRuntime, name: &[u8], other: &mut [u8]) -> usize {
 }
 
 // A new file has the mode that is asked for, else the one that the umask has given it.
-fn set_mode(file: &File, mode: Number) -> Result<()> {
+fn set_mode(file: &File, mode: Option<u32>) -> Result<()> {
     match mode {
-        Number::Is(bits) => file.set_permissions(Permissions::from_mode(bits)),
-        Number::Not => Ok(()),
+        Some(bits) => file.set_permissions(Permissions::from_mode(bits)),
+        None => Ok(()),
     }
 }
 
 // All bytes are written, and on the disk.
-fn fill(file: &mut File, s: &[u8], mode: Number) -> Result<()> {
+fn fill(file: &mut File, s: &[u8], mode: Option<u32>) -> Result<()> {
     set_mode(file, mode)?;
     file.write_all(s)?;
     file.sync_all()
 }
 
 // The file of the other name is written and closed.
-fn write_other(mut file: File, s: &[u8], mode: Number, name: &[u8]) -> bool {
+fn write_other(mut file: File, s: &[u8], mode: Option<u32>, name: &[u8]) -> bool {
     match fill(&mut file, s, mode) {
         Ok(()) => true,
         Err(why) => {
@@ -69,7 +69,7 @@ fn write_other(mut file: File, s: &[u8], mode: Number, name: &[u8]) -> bool {
 }
 
 // The file of the other name is there and whole. Where anything fails it is removed.
-fn make_other(rt: &HostRuntime, other: &[u8], name: &[u8], s: &[u8], mode: Number) -> bool {
+fn make_other(rt: &HostRuntime, other: &[u8], name: &[u8], s: &[u8], mode: Option<u32>) -> bool {
     match create(rt, other) {
         Ok(file) => {
             if write_other(file, s, mode, name) {
@@ -97,18 +97,6 @@ pub(crate) fn take_name(rt: &HostRuntime, other: &[u8], name: &[u8]) -> bool {
     }
 }
 
-// How many bytes of a name are its directory's, with the slash.
-fn directory_length(name: &[u8]) -> usize {
-    let mut n = name.len();
-    while 0 < n {
-        if name[n - 1] == b'/' {
-            return n;
-        }
-        n -= 1;
-    }
-    0
-}
-
 // What was written to a file is on the disk; else standard error says why not.
 fn is_synced(file: &File, name: &[u8]) -> bool {
     match file.sync_all() {
@@ -129,11 +117,10 @@ fn sync(rt: &HostRuntime, directory: &[u8]) -> bool {
 }
 
 pub(crate) fn sync_directory(rt: &HostRuntime, name: &[u8]) -> bool {
-    let n = directory_length(name);
-    if n == 0 {
-        return sync(rt, b".");
+    match name.iter().rposition(|b| *b == b'/') {
+        Some(slash) => sync(rt, &name[..=slash]),
+        None => sync(rt, b"."),
     }
-    sync(rt, first_of(name, n))
 }
 
 // A folder, a device or a pipe is no file that another can take the place of; nothing of the latter two can be brought to a disk.
@@ -150,34 +137,30 @@ fn is_file(rt: &HostRuntime, name: &[u8]) -> bool {
     }
 }
 
-// The first step: the bytes stand on the disk under another name, which is put into the lent bytes. Its length is answered, or 0 where
-// standard error says why not.
+// The first step: the bytes stand on the disk under another name, which is put into the lent bytes. Its length is answered; where there
+// is none, standard error says why not.
 pub(crate) fn set_aside(
     rt: &HostRuntime,
     name: &[u8],
     s: &[u8],
-    mode: Number,
+    mode: Option<u32>,
     other: &mut [u8],
-) -> usize {
+) -> Option<usize> {
     if !is_file(rt, name) {
-        return 0;
+        return None;
     }
     let n = other_name(rt, name, other);
     if !make_other(rt, first_of(other, n), name, s, mode) {
-        return 0;
+        return None;
     }
-    n
+    Some(n)
 }
 
 // The bytes stand under the name, and on the disk; else standard error says why not.
 pub fn save(rt: &HostRuntime, name: &[u8], s: &[u8]) -> bool {
     let mut other = [0u8; OTHER];
-    let n = set_aside(rt, name, s, Number::Not, &mut other);
-    if n == 0 {
+    let Some(n) = set_aside(rt, name, s, None, &mut other) else {
         return false;
-    }
-    if !take_name(rt, first_of(&other, n), name) {
-        return false;
-    }
-    sync_directory(rt, name)
+    };
+    take_name(rt, first_of(&other, n), name) && sync_directory(rt, name)
 }

@@ -1,5 +1,6 @@
 -- Laws of the check: `scan`, and then what is judged of the table that its index shows, are the gate's answer and slices.
 -- Assumes nothing.
+use Rattle.std.specs.Prelude.{Err, Ok, Result, ℕ}
 use Prim.Native.Nat.{ℕ, suc, ◌<◌}
 use mathlib.Core.Path.{◌≡◌, refl, sym, ap, ◌∙◌, subst}
 use mathlib.Core.List.{List, []}
@@ -14,8 +15,6 @@ use Rattle.gate.specs.Standing.{Standing}
 use Rattle.onepass.specs.Pass.{GoodOf, SureOf}
 use Rattle.onepass.specs.declared.whole.Sure.{Sure}
 use Rattle.onepass.specs.declared.whole.Sure.TheVariants.{Good}
-use Rattle.phases.specs.declared.types.Said.{Said}
-use Rattle.phases.specs.declared.types.Said.TheVariants.{Nothing, Says}
 use Rattle.paper.proofs.gates.Acceptance.{meets-accepted}
 use Rattle.paper.proofs.Outcomes.{gate-refused, gate-accepted, length-index_of, get_d-index_of}
 use Rattle.paper.specs.rules.Answer.{Answer, report, checked_as_paper}
@@ -26,13 +25,9 @@ use Rattle.paper.specs.rules.Gate.{table_report, refusal, zeros, index_of, Outco
 use Rattle.paper.specs.rules.Header.{order_of}
 use Rattle.paper.specs.rules.Table.{count}
 use Rattle.paper.specs.rules.Walk.{table_of}
-use Rattle.paper.specs.declared.Checked.{Checked}
-use Rattle.paper.specs.declared.Checked.TheVariants.{Accepted, Refused}
 use Rattle.paper.specs.declared.Report.{Report}
 use Rattle.scan.proofs.Founds.{count-readable}
 use Rattle.scan.specs.Scan.{scan_report, CountOf, FoundOf, index_after, ScanOf}
-use Rattle.scan.specs.declared.found.Scanned.{Scanned}
-use Rattle.scan.specs.declared.found.Scanned.TheVariants.{Counted, Refused}
 
 -- ── with phases 1 and 2 before them ──
 
@@ -47,23 +42,23 @@ module _ (b : List ℕ) (places work : ℕ) where
       go none (some y) z = refl
       go (some x) y z = refl
 
-  pub scan-refused : {index : List ℕ} (s : Scanned) {r : Report} → ScanOf s b places work index → s ≡ Refused r → AnswerOf (Refused r) b places work index
+  pub scan-refused : {index : List ℕ} (s : Result ℕ Report) {r : Report} → ScanOf s b places work index → s ≡ Err r → AnswerOf (Err r) b places work index
   unfolding checked_as_paper
   scan-refused s {r} found p =
-      let is = subst (λ (x : Scanned). FoundOf x b places work) p found.found in
+      let is = subst (λ (x : Result ℕ Report). FoundOf x b places work) p found.found in
       let e = scan-first ∙ ap (λ (o : Option Answer). or_else o (table_report (table_of b))) is in
       let g = gate-refused b places work e in
       record {
         answers = sym (ap (λ (o : Outcome). o.answer) g);
-        indexes = found.left ∙ ap (λ (x : Scanned). index_after x b places) p ∙ sym (ap (λ (o : Outcome). o.index) g);
+        indexes = found.left ∙ ap (λ (x : Result ℕ Report). index_after x b places) p ∙ sym (ap (λ (o : Outcome). o.index) g);
       }
 
-  module _ {n : ℕ} {index : List ℕ} (s : Scanned) (found : ScanOf s b places work index) (p : s ≡ Counted n) where
+  module _ {n : ℕ} {index : List ℕ} (s : Result ℕ Report) (found : ScanOf s b places work index) (p : s ≡ Ok n) where
     counted : CountOf n b places work
-    counted = subst (λ (x : Scanned). FoundOf x b places work) p found.found
+    counted = subst (λ (x : Result ℕ Report). FoundOf x b places work) p found.found
 
     placed : index ≡ index_of (table_of b) places
-    placed = found.left ∙ ap (λ (x : Scanned). index_after x b places) p
+    placed = found.left ∙ ap (λ (x : Result ℕ Report). index_after x b places) p
 
     after-scan : refusal b places work ≡ table_report (table_of b)
     after-scan = scan-first ∙ ap (λ (o : Option Answer). or_else o (table_report (table_of b))) counted.silent
@@ -90,11 +85,11 @@ module _ (b : List ℕ) (places work : ℕ) where
     scan-room = omega (arith, (count-readable b places work counted).enough_work, counted.counts)
 
     -- what is judged is what the table's own phases say
-    pub scan-table : Bytes b → (v : View) → v.n ≡ n → v.order ≡ order_of b → v.before ≡ 0 → (j : Said) → said_as_paper j ≡ judged [] b index v work
+    pub scan-table : Bytes b → (v : View) → v.n ≡ n → v.order ≡ order_of b → v.before ≡ 0 → (j : Result (Unit {0}) Report) → said_as_paper j ≡ judged [] b index v work
         → said_as_paper j ≡ table_report (table_of b)
     scan-table bytes v many order alone j e = e ∙ stands-judged (scan-standing bytes) v many order alone scan-room
 
-    pub scan-accepted : (j : Said) → said_as_paper j ≡ table_report (table_of b) → j ≡ Nothing → AnswerOf (Accepted n) b places work index
+    pub scan-accepted : (j : Result (Unit {0}) Report) → said_as_paper j ≡ table_report (table_of b) → j ≡ (Ok (record {})) → AnswerOf (Ok n) b places work index
     unfolding checked_as_paper
     scan-accepted j e q =
         let g = gate-accepted b places work (after-scan ∙ sym e ∙ ap said_as_paper q) in
@@ -103,8 +98,8 @@ module _ (b : List ℕ) (places work : ℕ) where
           indexes = placed ∙ sym (ap (λ (o : Outcome). o.index) g);
         }
 
-    pub scan-judged : (j : Said) {r : Report} → said_as_paper j ≡ table_report (table_of b) → j ≡ Says r → {cleared : List ℕ} → cleared ≡ zeros places
-        → AnswerOf (Refused r) b places work cleared
+    pub scan-judged : (j : Result (Unit {0}) Report) {r : Report} → said_as_paper j ≡ table_report (table_of b) → j ≡ Err r → {cleared : List ℕ} → cleared ≡ zeros places
+        → AnswerOf (Err r) b places work cleared
     unfolding checked_as_paper
     scan-judged j e q c =
         let g = gate-refused b places work (after-scan ∙ sym e ∙ ap said_as_paper q) in
@@ -112,7 +107,7 @@ module _ (b : List ℕ) (places work : ℕ) where
 
   -- ── in one pass ──
 
-  pub sure-told : (index : List ℕ) {s : Sure} → SureOf s b places work index → {n : ℕ} → s ≡ Good n → AnswerOf (Accepted n) b places work index
+  pub sure-told : (index : List ℕ) {s : Sure} → SureOf s b places work index → {n : ℕ} → s ≡ Good n → AnswerOf (Ok n) b places work index
   unfolding checked_as_paper
   sure-told index told {n} p =
       let good : GoodOf n b places work index = subst (λ (x : Sure). SureOf x b places work index) p told in
@@ -132,7 +127,7 @@ module _ (b : List ℕ) (places work : ℕ) where
       go (some a) = refl
 
 -- slices have the lengths that they had
-pub answer-lengths : {c : Checked} {b : List ℕ} {places work places' work' : ℕ} {index : List ℕ} → AnswerOf c b places work index
+pub answer-lengths : {c : Result ℕ Report} {b : List ℕ} {places work places' work' : ℕ} {index : List ℕ} → AnswerOf c b places work index
     → places ≡ places' → work ≡ work' → AnswerOf c b places' work' index
 answer-lengths {c} {b} {places} {work} {places'} {work'} {index} h e d =
     subst (λ (p : ℕ). AnswerOf c b p work' index) e (subst (λ (q : ℕ). AnswerOf c b places q index) d h)

@@ -1,5 +1,6 @@
 -- Demands 1 and 2 of the code: what it means that `check` has answered, in the person's words. Each from its contract alone.
 -- Assumes nothing.
+use Rattle.std.specs.Prelude.{Err, Ok, Result, ℕ}
 use Prim.Native.Nat.{ℕ, ◌*◌, ◌%◌, ◌≤◌, ◌<◌}
 use mathlib.Core.Path.{◌≡◌, sym, ap, ◌∙◌}
 use mathlib.Core.List.{List}
@@ -30,12 +31,10 @@ use Rattle.paper.specs.rules.Table.{count, record_at, words_of}
 use Rattle.paper.specs.rules.Walk.{table_of}
 use Rattle.paper.specs.terms.Where.{StandsAt}
 use Rattle.paper.specs.rules.Word.{bytes_of_words}
-use Rattle.paper.specs.declared.Checked.{Checked}
-use Rattle.paper.specs.declared.Checked.TheVariants.{Accepted, Refused}
 use Rattle.paper.specs.declared.Report.{Report}
 use Rattle.paper.specs.declared.Sized.{Sized}
 
-module _ {c : Checked} {b : List ℕ} {places work : ℕ} {index left : List ℕ} (h : CheckOf c b places work index left) where
+module _ {c : Result ℕ Report} {b : List ℕ} {places work : ℕ} {index left : List ℕ} (h : CheckOf c b places work index left) where
   answers : checked_as_paper c ≡ (gate b places work).answer
   answers = h.told.answers
 
@@ -45,7 +44,7 @@ module _ {c : Checked} {b : List ℕ} {places work : ℕ} {index left : List ℕ
 
   -- ── a refused table ──
 
-  module _ (r : Report) (p : c ≡ Refused r) where
+  module _ (r : Report) (p : c ≡ Err r) where
     -- it gets its number, type and place
     pub refused-report : refusal b places work ≡ some (report_as_paper r)
     refused-report = checked_refused b places work r (ap checked_as_paper (sym p) ∙ answers)
@@ -81,7 +80,7 @@ module _ {c : Checked} {b : List ℕ} {places work : ℕ} {index left : List ℕ
 
   -- ── an accepted one ──
 
-  module _ (n : ℕ) (p : c ≡ Accepted n) where
+  module _ (n : ℕ) (p : c ≡ Ok n) where
     told : (refusal b places work ≡ none) × (n ≡ count (table_of b))
     told = checked-accepted b places work (ap checked_as_paper (sym p) ∙ answers)
 
@@ -111,14 +110,14 @@ module _ {c : Checked} {b : List ℕ} {places work : ℕ} {index left : List ℕ
   -- ── exactly ──
 
   -- a table that meets the paper is accepted, with its count
-  pub paper-accepted : Meets b places work → c ≡ Accepted (count (table_of b))
+  pub paper-accepted : Meets b places work → c ≡ Ok (count (table_of b))
   unfolding checked_as_paper
   paper-accepted m =
-      checked-one c (Accepted (count (table_of b)))
+      checked-one c (Ok (count (table_of b)))
       (answers ∙ ap (λ (o : Outcome). o.answer) (gate-accepted b places work (meets-accepted b places work m)))
 
 -- any two results that the contract allows are the same, slice by slice
-pub check-one : {c c' : Checked} {b : List ℕ} {places work : ℕ} {index index' left left' : List ℕ} → CheckOf c b places work index left
+pub check-one : {c c' : Result ℕ Report} {b : List ℕ} {places work : ℕ} {index index' left left' : List ℕ} → CheckOf c b places work index left
     → CheckOf c' b places work index' left'
     → (c ≡ c') × (index ≡ index') × (left ≡ left')
 check-one {c} {c'} h k =

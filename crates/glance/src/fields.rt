@@ -63,10 +63,10 @@ fn fields_fit(order: Order, bytes: &[u8], work: &[u32]) -> bool
     let info = words::read(order, bytes, Place(4));
     let size = words::read(order, bytes, Place(8));
     let kind = kind_of(info);
-    let mut p: u32 = 12;
-    let mut left = tail_words(info);
+    let n = tail_words(info) / 3;
     let mut before: u32 = 0;
-    while 3 <= left {
+    for i in 0..n {
+        let p = 12 + 12 * i;
         let third = p + 8;
         let word = words::read(order, bytes, Place(third));
         let second = p + 4;
@@ -79,8 +79,6 @@ fn fields_fit(order: Order, bytes: &[u8], work: &[u32]) -> bool
             return false;
         }
         before = from;
-        p += 12;
-        left -= 3;
     }
     true
 }

@@ -16,15 +16,12 @@ use rows::tail_words;
 fn parameters_seen(order: Order, bytes: &[u8], work: &[u32]) -> bool
     ensures { result ≡ true → every (parameter_seen work.now) (parameters_of (record_in order bytes.now)) ≡ true }
 {
-    let mut p: u32 = 12;
-    let mut left = tail_words(words::read(order, bytes, Place(4)));
-    while 2 <= left {
-        let second = p + 4;
+    let n = tail_words(words::read(order, bytes, Place(4))) / 2;
+    for i in 0..n {
+        let second = 12 + 8 * i + 4;
         if behind_of(work, words::read(order, bytes, Place(second))) == 0 {
             return false;
         }
-        p += 8;
-        left -= 2;
     }
     true
 }

@@ -39,10 +39,10 @@ fn entries_fit(order: Order, bytes: &[u8], work: &[u32]) -> bool
     ensures { result ≡ true → section_fits work.now (record_in order bytes.now) ≡ true }
 {
     let end = words::read(order, bytes, Place(8));
-    let mut p: u32 = 12;
-    let mut left = tail_words(words::read(order, bytes, Place(4)));
+    let n = tail_words(words::read(order, bytes, Place(4))) / 3;
     let mut free: u64 = 0;
-    while 3 <= left {
+    for i in 0..n {
+        let p = 12 + 12 * i;
         let third = p + 8;
         let size = words::read(order, bytes, Place(third));
         let second = p + 4;
@@ -55,8 +55,6 @@ fn entries_fit(order: Order, bytes: &[u8], work: &[u32]) -> bool
             return false;
         }
         free = (from as u64) + (size as u64);
-        p += 12;
-        left -= 3;
     }
     true
 }

@@ -64,11 +64,9 @@ fn sweep<'a>(
     ensures { Glancing (table_by base.now b.now index.now view) view.n work.new × (result ≡ 2 → All view.n work.new) }
 {
     let n = view.n;
-    let mut k: u32 = 0;
     let mut all: u32 = 2;
-    while k < n {
+    for k in 0..n {
         let t = type_behind(back, n, k);
-        k += 1;
         let went = settle(base, b, index, view, TypeNo(t), work);
         if went == 0 {
             return 0;

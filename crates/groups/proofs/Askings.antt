@@ -1,5 +1,6 @@
 -- Laws of a section alone: the groups without a fault, the groups up to a record, and the part that a record is asked of.
 -- Assumes nothing.
+use Rattle.std.specs.Prelude.{None, Some}
 use Prim.Native.Nat.{ℕ, ◌+◌, ◌-◌, ◌*◌, ◌≤◌, ◌<◌}
 use mathlib.Core.Path.{◌≡◌, sym, ap, ap₂, ◌∙◌}
 use mathlib.Core.Bool.{Bool, true, false, ◌&&◌}
@@ -13,10 +14,8 @@ use Rattle.exts.proofs.Records.{nth-front, nth-behind, length-entries_from, nth-
 use Rattle.exts.proofs.Remains.{Left, left-done, left-turn, left-next}
 use Rattle.exts.specs.Entries.{nth, entries_in, unbroken, found_as_paper, entry_as_paper}
 use Rattle.exts.specs.Items.{Entry, Item, entry_at, entries_from, group_name, group_count, group_end, group_ok, group_then, groups_from}
-use Rattle.exts.specs.declared.Found.TheVariants.{At, Nowhere}
 use Rattle.exts.specs.declared.Sort.{Sort}
 use Rattle.groups.specs.Walking.{GroupIn}
-use Rattle.groups.specs.declared.asked.Picked.TheVariants as picked
 use Rattle.paper.specs.rules.Choice.{every}
 
 -- ── groups without a fault ──
@@ -45,12 +44,12 @@ abbrev pub after : ℕ → List Item → Option Entry
 after k is = nth (entries_in is) k
 
 module _ {s : List ℕ} {sort : Sort} {size end p left : ℕ} {whole : Option Entry} (i : Left s sort size end p whole (after left)) where
-  pub found-done : end ≤ p → found_as_paper Nowhere ≡ entry_as_paper whole
+  pub found-done : end ≤ p → found_as_paper None ≡ entry_as_paper whole
   unfolding found_as_paper
   found-done h = sym (ap entry_as_paper (left-done i h))
 
   module _ (more : p < end) where
-    pub found-broken : group_ok s size p end ≡ false → found_as_paper Nowhere ≡ entry_as_paper whole
+    pub found-broken : group_ok s size p end ≡ false → found_as_paper None ≡ entry_as_paper whole
     unfolding found_as_paper
     found-broken e =
         sym (ap entry_as_paper
@@ -72,7 +71,7 @@ module _ {s : List ℕ} {sort : Sort} {size end p left : ℕ} {whole : Option En
           (entries_in-append (entries_from s sort size (group_name s p) (group_count s p) (p + 8)) (rest (group_end s size p)))
           ∙ (λ j. nth (entries_in (entries_from s sort size (sym g.named j) (sym g.counted j) (p + 8)) ++ entries_in (rest (sym g.ends j))) left)
 
-      pub found_here : left < count → found_as_paper (At (record { 0 = name }) (record { 0 = p + 8 + left * size })) ≡ entry_as_paper whole
+      pub found_here : left < count → found_as_paper (Some ((record { 0 = name }), (record { 0 = p + 8 + left * size }))) ≡ entry_as_paper whole
       unfolding found_as_paper records entry_at
       found_here h =
           sym (ap entry_as_paper

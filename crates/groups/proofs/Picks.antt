@@ -1,5 +1,6 @@
 -- Laws of the part that a record is asked of: which one it is, whether the section is whole, and the record's bytes.
 -- Assumes nothing.
+use Rattle.std.specs.Prelude.{None, Option as RustOption, Some}
 use Prim.Native.Nat.{ℕ, zero, suc, ◌+◌, ◌-◌, ◌≤◌, ◌<◌}
 use mathlib.Core.Path.{◌≡◌, refl, sym, ap, ap₂, ◌∙◌}
 use mathlib.Core.Bool.{Bool, true, false, not, cond, ◌&&◌}
@@ -17,14 +18,11 @@ use Rattle.exts.specs.Entries.{nth, part_at, entries_in, unbroken, is_whole, ent
 use Rattle.exts.specs.Ext.{head_length_bad, parts_bad}
 use Rattle.exts.specs.Items.{Entry, Item, Part, part_items, parts, items_of, items}
 use Rattle.exts.specs.Sorts.{least_size, size_ok}
-use Rattle.exts.specs.declared.Found.{Found}
-use Rattle.exts.specs.declared.Found.TheVariants.{At, Nowhere}
 use Rattle.exts.specs.declared.Sort.{Sort}
 use Rattle.exts.specs.declared.Sort.TheVariants.{Function, Line, Relocation}
 use Rattle.groups.specs.Asking.{GroupsWhole, GroupsFound, part_whole, part_record, parts_whole, picked_part, picked_end, PickedOf}
 use Rattle.groups.specs.Fronts.{FrontIn, three_parts}
 use Rattle.groups.specs.declared.asked.Picked.{Picked}
-use Rattle.groups.specs.declared.asked.Picked.TheVariants as picked
 use Rattle.paper.proofs.basics.Choices.{and-nothing, false-or, or_left, or_right}
 use Rattle.paper.specs.declared.NameOff.{NameOff}
 use Rattle.paper.specs.declared.Place.{Place}
@@ -40,7 +38,7 @@ module _ (s : List ℕ) (sort : Sort) (from end : ℕ) where
   pub whole-empty : end ≤ from → true ≡ part_whole s sort from end
   whole-empty h = sym (ap (every unbroken) (part_items-empty s sort h))
 
-  pub none-empty : end ≤ from → (y : ℕ) → found_as_paper Nowhere ≡ entry_as_paper (part_record s sort from end y)
+  pub none-empty : end ≤ from → (y : ℕ) → found_as_paper None ≡ entry_as_paper (part_record s sort from end y)
   unfolding found_as_paper
   none-empty h y = sym (ap (λ (is : List Item). entry_as_paper (nth (entries_in is) y)) (part_items-empty s sort h))
 
@@ -51,11 +49,11 @@ module _ (s : List ℕ) (sort : Sort) (from end : ℕ) where
     pub whole-groups : not ok ≡ false → {r : Bool} → GroupsWhole r s size (from + 4) end → r ≡ part_whole s sort from end
     whole-groups n g = g.is sort ∙ sym (ap (every unbroken) (part_items-groups s sort filled sized asked n))
 
-    pub none-size : not ok ≡ true → (y : ℕ) → found_as_paper Nowhere ≡ entry_as_paper (part_record s sort from end y)
+    pub none-size : not ok ≡ true → (y : ℕ) → found_as_paper None ≡ entry_as_paper (part_record s sort from end y)
     unfolding found_as_paper
     none-size n y = sym (ap (λ (is : List Item). entry_as_paper (nth (entries_in is) y)) (part_items-size s sort filled sized asked n))
 
-    pub found-groups : not ok ≡ false → (y : ℕ) {r : Found} → GroupsFound r s size (from + 4) end y → found_as_paper r ≡ entry_as_paper (part_record s sort from end y)
+    pub found-groups : not ok ≡ false → (y : ℕ) {r : RustOption (NameOff × Place)} → GroupsFound r s size (from + 4) end y → found_as_paper r ≡ entry_as_paper (part_record s sort from end y)
     found-groups n y g = g.is sort ∙ sym (ap (λ (is : List Item). entry_as_paper (nth (entries_in is) y)) (part_items-groups s sort filled sized asked n))
 
 -- ── three parts ──
@@ -96,9 +94,9 @@ abbrev end_of : Option Part → ℕ
 end_of none = 0
 end_of (some x) = x.end
 
-end_of-picked : (r : Picked) → picked_end r ≡ end_of (picked_part r)
-end_of-picked picked.Nothing = refl
-end_of-picked (picked.Part sort from end) = refl
+end_of-picked : (r : RustOption Picked) → picked_end r ≡ end_of (picked_part r)
+end_of-picked None = refl
+end_of-picked (Some p) = refl
 
 end_of-three : (from first second end most x : ℕ) → first ≤ most → second ≤ most → end ≤ most → end_of (part_at (three_parts from first second end) x) ≤ most
 end_of-three from first second end most zero f g h = omega arith
@@ -115,15 +113,15 @@ module _ (s : List ℕ) (x : ℕ) where
   unfolding is_whole
   by_tests p q r t u = λ i. not (p i) && (not (q i) && (not (r i) && (not (t i) && (u i && true))))
 
-  unpicked : is_whole s ≡ false → PickedOf picked.Nothing s x
+  unpicked : is_whole s ≡ false → PickedOf None s x
   unfolding record_asked
   unpicked e = record { is = λ y. ap (λ (z : Bool). cond z (nth (part_entries s x) y) none) e; small = omega arith; inside = omega arith }
 
-  pub pick_under : length s < 24 → PickedOf picked.Nothing s x
+  pub pick_under : length s < 24 → PickedOf None s x
   unfolding length_bad
   pick_under h = unpicked (by_tests (or_left (ltb byte_limit (length s)) (lt-ltb (length s) 24 h)) refl refl refl refl)
 
-  pub pick-over : byte_limit < length s → PickedOf picked.Nothing s x
+  pub pick-over : byte_limit < length s → PickedOf None s x
   unfolding length_bad
   pick-over h = unpicked (by_tests (or_right (ltb (length s) 24) (lt-ltb byte_limit (length s) h)) refl refl refl refl)
 
@@ -139,14 +137,14 @@ module _ (s : List ℕ) (x : ℕ) where
         back true = refl
         back false = refl
 
-    pub pick-opening : not z ≡ true → PickedOf picked.Nothing s x
+    pub pick-opening : not z ≡ true → PickedOf None s x
     pick-opening n = unpicked (by_tests fits (opened n) refl refl refl)
 
     module _ (opens : not z ≡ false) where
-      pub pick-front : {n : ℕ} → first_due (43 when head_length_bad s ∷ 44 when parts_bad s ∷ []) ≡ some n → PickedOf picked.Nothing s x
+      pub pick-front : {n : ℕ} → first_due (43 when head_length_bad s ∷ 44 when parts_bad s ∷ []) ≡ some n → PickedOf None s x
       pick-front {n} e = go (head_length_bad s) (parts_bad s) refl refl e
         where
-          go : (c d : Bool) → head_length_bad s ≡ c → parts_bad s ≡ d → first_due (43 when c ∷ 44 when d ∷ []) ≡ some n → PickedOf picked.Nothing s x
+          go : (c d : Bool) → head_length_bad s ≡ c → parts_bad s ≡ d → first_due (43 when c ∷ 44 when d ∷ []) ≡ some n → PickedOf None s x
           go true d p q e = unpicked (by_tests fits (opened opens) p refl refl)
           go false true p q e = unpicked (by_tests fits (opened opens) p q refl)
           go false false p q e = absurd (let z : ◌≡◌ {A = ℕ} 0 1 = cc in omega arith)
@@ -159,10 +157,10 @@ module _ (s : List ℕ) (x : ℕ) where
         tested : {e : Bool} → w ≡ e → is_whole s ≡ e && true
         tested e = by_tests fits (opened opens) g.header g.follow (all-items e)
 
-        pub pick-broken : not w ≡ true → PickedOf picked.Nothing s x
+        pub pick-broken : not w ≡ true → PickedOf None s x
         pick-broken n = unpicked (tested (not-true w n))
 
-        pub pick-part : not w ≡ false → {r : Picked} → picked_part r ≡ part_at (three_parts from first second end) x → PickedOf r s x
+        pub pick-part : not w ≡ false → {r : RustOption Picked} → picked_part r ≡ part_at (three_parts from first second end) x → PickedOf r s x
         unfolding record_asked part_entries
         pick-part n {r} e =
             let most : end_of (part_at (three_parts from first second end) x) ≤ length s =
@@ -179,7 +177,7 @@ module _ (s : List ℕ) (x : ℕ) where
 -- ── the record's bytes ──
 
 -- what an answer says of the record
-pub found_none : (o : Option Entry) {r : Found} → found_as_paper r ≡ entry_as_paper o → r ≡ Nowhere → o ≡ none
+pub found_none : (o : Option Entry) {r : RustOption (NameOff × Place)} → found_as_paper r ≡ entry_as_paper o → r ≡ None → o ≡ none
 unfolding found_as_paper
 found_none none e is = refl
 found_none (some x) {r} e is =
@@ -191,7 +189,7 @@ pub record FoundAs (o : Option Entry) (p : ℕ) : Type 0 where
   pub is : o ≡ some it
   pub there : it.place ≡ p
 
-pub found_some : (o : Option Entry) {r : Found} → found_as_paper r ≡ entry_as_paper o → (name : NameOff) (place : Place) → r ≡ At name place → FoundAs o place.0
+pub found_some : (o : Option Entry) {r : RustOption (NameOff × Place)} → found_as_paper r ≡ entry_as_paper o → (name : NameOff) (place : Place) → r ≡ Some (name, place) → FoundAs o place.0
 unfolding found_as_paper
 found_some none {r} e name place is =
     absurd (let p : report_at 0 name.0 place.0 ≡ report 1 0 = sym (ap found_as_paper is) ∙ e in let z : ◌≡◌ {A = ℕ} 0 1 = ap (λ (a : Answer). a.number) p in omega arith)

@@ -1,5 +1,6 @@
 -- Laws of one record by the row of its sort: its words behind the instruction offset, 47 and 48.
 -- Assumes nothing.
+use Rattle.std.specs.Prelude.{Err, Ok}
 use Prim.Native.Nat.{ℕ, ◌+◌, ◌%◌, ◌<◌, ◌≤◌}
 use mathlib.Core.Path.{◌≡◌, refl, sym, ap, ap₂, ◌∙◌}
 use mathlib.Core.Bool.{Bool, true, false, not, cond, ◌&&◌}
@@ -13,7 +14,6 @@ use Rattle.exts.specs.Ext.{each_word, name_word_ok, type_word_ok, entry_rules, f
 use Rattle.exts.specs.Items.{entry_at}
 use Rattle.exts.specs.Sorts.{roles_of, least_size, size_ok}
 use Rattle.exts.specs.declared.Fault.TheVariants.{Named, Typed}
-use Rattle.exts.specs.declared.Judged.TheVariants.{Sound, Faulty}
 use Rattle.exts.specs.declared.Role.{Role}
 use Rattle.exts.specs.declared.Role.TheVariants.{Plain, Name, FuncType, AnyType}
 use Rattle.exts.specs.declared.Sort.{Sort}
@@ -93,18 +93,18 @@ module _ (T : Table) (long : ℕ) (s : List ℕ) (sort : Sort) (at : ℕ) {row :
       (by_row (type_word_ok T) (λ (k : ℕ). refl) ∙ g)
 
   module _ {x : Bool} (names : x ≡ each_word (name_word_ok long) (roles_in row) (u ∷ v ∷ w ∷ [])) where
-    pub entry_named : not x ≡ true → judged_number (Faulty Named) ≡ entry_fault T long s sort at
+    pub entry_named : not x ≡ true → judged_number (Err Named) ≡ entry_fault T long s sort at
     unfolding judged_number fault_number
     entry_named n =
         sym (by-rules names refl
         ∙ ap (λ (z : Bool). cond z (some 47) (cond (not (each_word (type_word_ok T) (roles_in row) (u ∷ v ∷ w ∷ []))) (some 48) none)) n)
 
     module _ (named : not x ≡ false) {y : Bool} (types : y ≡ each_word (type_word_ok T) (roles_in row) (u ∷ v ∷ w ∷ [])) where
-      pub entry-typed : not y ≡ true → judged_number (Faulty Typed) ≡ entry_fault T long s sort at
+      pub entry-typed : not y ≡ true → judged_number (Err Typed) ≡ entry_fault T long s sort at
       unfolding judged_number fault_number
       entry-typed n = sym (by-rules names (sym types) ∙ ap₂ (λ (a b : Bool). cond a (some 47) (cond b (some 48) none)) named n)
 
-      pub entry-sound : not y ≡ false → judged_number Sound ≡ entry_fault T long s sort at
+      pub entry-sound : not y ≡ false → judged_number (Ok (record {})) ≡ entry_fault T long s sort at
       unfolding judged_number
       entry-sound n = sym (by-rules names (sym types) ∙ ap₂ (λ (a b : Bool). cond a (some 47) (cond b (some 48) none)) named n)
 

@@ -1,5 +1,6 @@
 -- Laws of the walk of a part: records, groups, and the part itself, each step by what is left of the work.
 -- Assumes nothing.
+use Rattle.std.specs.Prelude.{Err, Ok, Result}
 use Prim.Native.Nat.{ℕ, suc, ◌+◌, ◌-◌, ◌*◌, ◌≤◌, ◌<◌}
 use mathlib.Core.Path.{◌≡◌, refl, sym, ap, ◌∙◌}
 use mathlib.Core.Bool.{Bool, true, false, not, cond, ◌&&◌}
@@ -15,8 +16,6 @@ use Rattle.exts.specs.Items.{Item, entries_from, group_name, group_count, group_
 use Rattle.exts.specs.Sorts.{size_ok}
 use Rattle.exts.specs.declared.Fault.{Fault}
 use Rattle.exts.specs.declared.Fault.TheVariants.{RecordSize, Group, Named}
-use Rattle.exts.specs.declared.Judged.{Judged}
-use Rattle.exts.specs.declared.Judged.TheVariants.{Sound, Faulty}
 use Rattle.exts.specs.declared.Sort.{Sort}
 use Rattle.exts.proofs.Remains.{Left, left-done, left-turn, left-next, part_items-empty, part_items-size, part_items-groups}
 use Rattle.groups.specs.Walking.{entry_fault, entries_fault, GroupIn, group_fault, TurnBad, TurnNext, groups_fault, part_fault}
@@ -26,11 +25,11 @@ use Rattle.paper.specs.rules.Table.{Table}
 use Rattle.paper.specs.rules.Word.{word_at}
 
 -- a fault that is found is the number that is said
-pub fault-said : {r : Judged} {o : Option ℕ} → judged_number r ≡ o → (f : Fault) → r ≡ Faulty f → o ≡ some (fault_number f)
+pub fault-said : {r : Result (Unit {0}) Fault} {o : Option ℕ} → judged_number r ≡ o → (f : Fault) → r ≡ Err f → o ≡ some (fault_number f)
 unfolding judged_number
 fault-said e f is = sym e ∙ ap judged_number is
 
-pub sound-said : {r : Judged} {o : Option ℕ} → judged_number r ≡ o → r ≡ Sound → o ≡ none
+pub sound-said : {r : Result (Unit {0}) Fault} {o : Option ℕ} → judged_number r ≡ o → r ≡ (Ok (record {})) → o ≡ none
 unfolding judged_number
 sound-said e is = sym e ∙ ap judged_number is
 
@@ -45,7 +44,7 @@ pub one_less : (left size : ℕ) → 0 < left → left * size ≡ (left - 1) * s
 one_less left size h = let e : left ≡ suc (left - 1) = omega arith in ap (λ (n : ℕ). n * size) e ∙ suc-mul (left - 1) size
 
 module _ {T : Table} {long : ℕ} {s : List ℕ} {sort : Sort} {size count at p left : ℕ} (i : Entering T long s sort size count at p left) where
-  pub entering-done : left ≤ 0 → judged_number Sound ≡ entries_fault T long s sort size count at
+  pub entering-done : left ≤ 0 → judged_number (Ok (record {})) ≡ entries_fault T long s sort size count at
   unfolding judged_number
   entering-done h = let z : left ≡ 0 = omega arith in sym (i.rest ∙ ap (λ (n : ℕ). entries_fault T long s sort size n p) z)
 
@@ -56,13 +55,13 @@ module _ {T : Table} {long : ℕ} {s : List ℕ} {sort : Sort} {size count at p 
     pub entering-room : p + size + (left - 1) * size ≤ 1000000
     entering-room = omega (arith, one_less left size more, i.near)
 
-    module _ {r : Judged} (told : judged_number r ≡ entry_fault T long s sort p) where
-      pub entering-bad : (f : Fault) → r ≡ Faulty f → judged_number (Faulty f) ≡ entries_fault T long s sort size count at
+    module _ {r : Result (Unit {0}) Fault} (told : judged_number r ≡ entry_fault T long s sort p) where
+      pub entering-bad : (f : Fault) → r ≡ Err f → judged_number (Err f) ≡ entries_fault T long s sort size count at
       unfolding judged_number
       entering-bad f is =
           sym (step ∙ ap (λ (o : Option ℕ). or_else o (entries_fault T long s sort size (left - 1) (p + size))) (fault-said told f is))
 
-      pub entering-next : r ≡ Sound → Entering T long s sort size count at (p + size) (left - 1)
+      pub entering-next : r ≡ (Ok (record {})) → Entering T long s sort size count at (p + size) (left - 1)
       entering-next is =
           record {
             rest = step ∙ ap (λ (o : Option ℕ). or_else o (entries_fault T long s sort size (left - 1) (p + size))) (sound-said told is);
@@ -147,11 +146,11 @@ module _ (T : Table) (long : ℕ) (s : List ℕ) (sort : Sort) (size at end : �
           ∙ ap (λ (z : Bool). or_else (cond (not z) (some 47) none) (or_else (entries_fault T long s sort size count (at + 8)) (first_fault long T (rest next))))
           (lt-ltb name long below)
 
-      module _ {r : Judged} (told : judged_number r ≡ entries_fault T long s sort size count (at + 8)) where
-        pub turn-bad : (f : Fault) → r ≡ Faulty f → TurnBad T long s sort size at end f
+      module _ {r : Result (Unit {0}) Fault} (told : judged_number r ≡ entries_fault T long s sort size count (at + 8)) where
+        pub turn-bad : (f : Fault) → r ≡ Err f → TurnBad T long s sort size at end f
         turn-bad f is = record { is = λ rest. behind-name rest ∙ ap (λ (o : Option ℕ). or_else o (first_fault long T (rest next))) (fault-said told f is) }
 
-        pub turn-next : r ≡ Sound → TurnNext T long s sort size at end next
+        pub turn-next : r ≡ (Ok (record {})) → TurnNext T long s sort size at end next
         turn-next is =
             record {
               is = λ rest. behind-name rest ∙ ap (λ (o : Option ℕ). or_else o (first_fault long T (rest next))) (sound-said told is);
@@ -162,13 +161,13 @@ module _ (T : Table) (long : ℕ) (s : List ℕ) (sort : Sort) (size at end : �
 -- ── the groups of a part ──
 
 pub groups-done : {s : List ℕ} {sort : Sort} {size end p : ℕ} {whole : Option ℕ} {f : List Item → Option ℕ} → Left s sort size end p whole f → f [] ≡ none
-    → end ≤ p → judged_number Sound ≡ whole
+    → end ≤ p → judged_number (Ok (record {})) ≡ whole
 unfolding judged_number
 groups-done i e h = sym (left-done i h ∙ e)
 
 module _ {T : Table} {long : ℕ} {s : List ℕ} {sort : Sort} {size end p : ℕ} {whole : Option ℕ} (i : Left s sort size end p whole (first_fault long T))
     (more : p < end) where
-  pub groups-bad : {f : Fault} → TurnBad T long s sort size p end f → judged_number (Faulty f) ≡ whole
+  pub groups-bad : {f : Fault} → TurnBad T long s sort size p end f → judged_number (Err f) ≡ whole
   unfolding judged_number
   groups-bad t = sym (left-turn i more ∙ t.is (λ (next : ℕ). groups_from s (i.fuel - 1) sort size next end))
 
@@ -178,12 +177,12 @@ module _ {T : Table} {long : ℕ} {s : List ℕ} {sort : Sort} {size end p : ℕ
 -- ── a part ──
 
 module _ (T : Table) (long : ℕ) (s : List ℕ) (sort : Sort) (from end : ℕ) where
-  pub part-empty : end ≤ from → judged_number Sound ≡ part_fault T long s sort from end
+  pub part-empty : end ≤ from → judged_number (Ok (record {})) ≡ part_fault T long s sort from end
   unfolding judged_number
   part-empty h = sym (ap (first_fault long T) (part_items-empty s sort h))
 
   module _ (filled : from < end) {size : ℕ} (sized : size ≡ word_at (order_of s) s from) {ok : Bool} (asked : ok ≡ size_ok sort size) where
-    pub part-size : not ok ≡ true → judged_number (Faulty RecordSize) ≡ part_fault T long s sort from end
+    pub part-size : not ok ≡ true → judged_number (Err RecordSize) ≡ part_fault T long s sort from end
     unfolding judged_number fault_number
     part-size n = sym (ap (first_fault long T) (part_items-size s sort filled sized asked n))
 

@@ -1,5 +1,6 @@
 -- Laws of the whole section: the parts one behind the other, and 41 to 44 in front of them.
 -- Assumes nothing.
+use Rattle.std.specs.Prelude.{Err, Ok, Result}
 use Prim.Native.Nat.{ℕ, ◌≤◌, ◌<◌}
 use mathlib.Core.Path.{◌≡◌, refl, sym, ap, ap₂, ◌∙◌}
 use mathlib.Core.Bool.{Bool, true, false, not}
@@ -13,8 +14,6 @@ use Rattle.exts.specs.Ext.{head_length_bad, parts_bad, first_fault, items_fault,
 use Rattle.exts.specs.Items.{Part, part_items, items_of, items}
 use Rattle.exts.specs.declared.Fault.{Fault}
 use Rattle.exts.specs.declared.Fault.TheVariants.{Length, Opening}
-use Rattle.exts.specs.declared.Judged.{Judged}
-use Rattle.exts.specs.declared.Judged.TheVariants.{Sound, Faulty}
 use Rattle.exts.specs.declared.Sort.TheVariants.{Function, Line, Relocation}
 use Rattle.groups.proofs.Walks.{fault-said, sound-said}
 use Rattle.groups.specs.Fronts.{FrontIn, parts_fault, three_parts}
@@ -57,28 +56,28 @@ module _ (T : Table) (s : List ℕ) (from first second end : ℕ) {long : ℕ} (
       later : List Part
       later = record { sort = Line; from = first; end = second } ∷ last
 
-  module _ {f : Judged} (functions : judged_number f ≡ part_fault T long s Function from first) where
-    pub parts_first : (x : Fault) → f ≡ Faulty x → judged_number f ≡ parts_fault T s from first second end
+  module _ {f : Result (Unit {0}) Fault} (functions : judged_number f ≡ part_fault T long s Function from first) where
+    pub parts_first : (x : Fault) → f ≡ Err x → judged_number f ≡ parts_fault T s from first second end
     unfolding judged_number
     parts_first x is =
         ap judged_number is
         ∙ sym (in_order
         ∙ ap (λ (o : Option ℕ). or_else o (or_else (part_fault T long s Line first second) (part_fault T long s Relocation second end))) (fault-said functions x is))
 
-    module _ (sound : f ≡ Sound) where
+    module _ (sound : f ≡ (Ok (record {}))) where
       behind : parts_fault T s from first second end ≡ or_else (part_fault T long s Line first second) (part_fault T long s Relocation second end)
       behind =
           in_order
           ∙ ap (λ (o : Option ℕ). or_else o (or_else (part_fault T long s Line first second) (part_fault T long s Relocation second end))) (sound-said functions sound)
 
-      pub parts-second : {l : Judged} → judged_number l ≡ part_fault T long s Line first second → (x : Fault) → l ≡ Faulty x
+      pub parts-second : {l : Result (Unit {0}) Fault} → judged_number l ≡ part_fault T long s Line first second → (x : Fault) → l ≡ Err x
           → judged_number l ≡ parts_fault T s from first second end
       unfolding judged_number
       parts-second lines x is =
           ap judged_number is
           ∙ sym (behind ∙ ap (λ (o : Option ℕ). or_else o (part_fault T long s Relocation second end)) (fault-said lines x is))
 
-      pub parts-third : {l : Judged} → judged_number l ≡ part_fault T long s Line first second → l ≡ Sound
+      pub parts-third : {l : Result (Unit {0}) Fault} → judged_number l ≡ part_fault T long s Line first second → l ≡ (Ok (record {}))
           → {o : Option ℕ} → o ≡ part_fault T long s Relocation second end → o ≡ parts_fault T s from first second end
       parts-third lines is e = e ∙ sym (behind ∙ ap (λ (o : Option ℕ). or_else o (part_fault T long s Relocation second end)) (sound-said lines is))
 
@@ -99,16 +98,16 @@ module _ (opens : List ℕ) (T : Table) (s : List ℕ) where
   unfolding section_fault
   in-front = regroup (length_bad s) (not (same (take 4 s) opens)) (head_length_bad s) (parts_bad s) (items_fault T (items s))
 
-  too_long : length_bad s ≡ true → judged_number (Faulty Length) ≡ section_fault opens T s
+  too_long : length_bad s ≡ true → judged_number (Err Length) ≡ section_fault opens T s
   unfolding judged_number fault_number
   too_long e =
       sym (in-front ∙ ap (λ (z : Bool). by z (not (same (take 4 s) opens)) (first_due (43 when head_length_bad s ∷ 44 when parts_bad s ∷ []))) e)
 
-  pub section-under : length s < 24 → judged_number (Faulty Length) ≡ section_fault opens T s
+  pub section-under : length s < 24 → judged_number (Err Length) ≡ section_fault opens T s
   unfolding length_bad
   section-under h = too_long (or_left (ltb byte_limit (length s)) (lt-ltb (length s) 24 h))
 
-  pub section-over : byte_limit < length s → judged_number (Faulty Length) ≡ section_fault opens T s
+  pub section-over : byte_limit < length s → judged_number (Err Length) ≡ section_fault opens T s
   unfolding length_bad
   section-over h = too_long (or_right (ltb (length s) 24) (lt-ltb byte_limit (length s) h))
 
@@ -122,13 +121,13 @@ module _ (opens : List ℕ) (T : Table) (s : List ℕ) where
         in-front
         ∙ ap₂ (λ (a b : Bool). by a b (first_due (43 when head_length_bad s ∷ 44 when parts_bad s ∷ []))) fits (ap not (sym alike) ∙ e)
 
-    pub section-opening : not z ≡ true → judged_number (Faulty Opening) ≡ section_fault opens T s
+    pub section-opening : not z ≡ true → judged_number (Err Opening) ≡ section_fault opens T s
     unfolding judged_number fault_number
     section-opening e = sym (by-opening e)
 
     module _ (opened : not z ≡ false) where
       pub section-front : (f : Fault) → first_due (43 when head_length_bad s ∷ 44 when parts_bad s ∷ []) ≡ some (fault_number f)
-          → judged_number (Faulty f) ≡ section_fault opens T s
+          → judged_number (Err f) ≡ section_fault opens T s
       unfolding judged_number
       section-front f e = sym (by-opening opened ∙ ap (by false false) e)
 

@@ -1,5 +1,5 @@
 -- What the walk of a part answers, in the terms of the definitions, beside a table T that has so many bytes of strings.
-use Rattle.std.specs.Prelude.{ℕ, ◌≤◌, ◌<◌, ◌≡◌, true, false, List, [], ◌∷◌, get_or}
+use Rattle.std.specs.Prelude.{Err, Ok, Result, None, Some, Option as RustOption, ℕ, ◌≤◌, ◌<◌, ◌≡◌, true, false, List, [], ◌∷◌, get_or}
 use Rattle.std.proofs.Math.Option.{Option, some}
 use Rattle.exts.specs.Ext.{entry_rules, first_fault, fault_number}
 use Rattle.exts.specs.Items.{Item, entry_at, entries_from, group_name, group_count, group_end, group_ok, group_then, groups_from, part_items}
@@ -9,10 +9,7 @@ use Rattle.exts.specs.declared.Role.{Role}
 use Rattle.exts.specs.declared.Role.TheVariants.{Plain}
 use Rattle.exts.specs.declared.Sort.{Sort}
 use Rattle.groups.specs.declared.records.Row.{Row}
-use Rattle.groups.specs.declared.walk.Step.{Step}
-use Rattle.groups.specs.declared.walk.Step.TheVariants.{Broken, Group}
-use Rattle.groups.specs.declared.walk.Turn.{Turn}
-use Rattle.groups.specs.declared.walk.Turn.TheVariants as turn
+use Rattle.groups.specs.declared.walk.Group.{Group}
 use Rattle.paper.specs.rules.Choice.{first_due}
 use Rattle.paper.specs.rules.Table.{Table}
 
@@ -47,9 +44,9 @@ pub record GroupIn (s : List ℕ) (size at end name count next : ℕ) : Type 0 w
   pub ends : next ≡ group_end s size at
   pub inside : next ≤ end
 
-abbrev pub StepAs : Step → List ℕ → ℕ → ℕ → ℕ → Type 0
-StepAs Broken s size at end = group_ok s size at end ≡ false
-StepAs (Group name count next) s size at end = GroupIn s size at end name count next
+abbrev pub StepAs : RustOption Group → List ℕ → ℕ → ℕ → ℕ → Type 0
+StepAs None s size at end = group_ok s size at end ≡ false
+StepAs (Some g) s size at end = GroupIn s size at end g.name g.count g.next
 
 -- what is said of the group at a place, whatever stands behind it
 abbrev pub group_fault : Table → ℕ → List ℕ → Sort → ℕ → ℕ → ℕ → (ℕ → List Item) → Option ℕ
@@ -63,9 +60,9 @@ pub record TurnNext (T : Table) (long : ℕ) (s : List ℕ) (sort : Sort) (size 
   pub later : at < next
   pub inside : next ≤ end
 
-abbrev pub TurnAs : Turn → Table → ℕ → List ℕ → Sort → ℕ → ℕ → ℕ → Type 0
-TurnAs (turn.Bad f) T long s sort size at end = TurnBad T long s sort size at end f
-TurnAs (turn.Next next) T long s sort size at end = TurnNext T long s sort size at end next
+abbrev pub TurnAs : Result ℕ Fault → Table → ℕ → List ℕ → Sort → ℕ → ℕ → ℕ → Type 0
+TurnAs (Err f) T long s sort size at end = TurnBad T long s sort size at end f
+TurnAs (Ok next) T long s sort size at end = TurnNext T long s sort size at end next
 
 abbrev pub groups_fault : Table → ℕ → List ℕ → Sort → ℕ → ℕ → ℕ → Option ℕ
 groups_fault T long s sort size at end = first_fault long T (groups_from s end sort size at end)

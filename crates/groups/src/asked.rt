@@ -8,70 +8,79 @@ ghost use Rattle.groups.specs.Fronts.{three_parts};
 use crate::find::{find_in_part, part_whole};
 use crate::front::{Front, opens, read_front};
 use crate::records::row_of;
-use exts::{Found, Sort};
-use paper::BYTE_LIMIT;
+use exts::Sort;
+use paper::{BYTE_LIMIT, NameOff, Place};
 
-// The part that a record is asked of, if there is one: its sort, and the places where it begins and ends.
+// The part that a record is asked of: its sort, and the places where it begins and ends.
 #[derive(Clone, Copy)]
-pub(crate) enum Picked {
-    Nothing,
-    Part(Sort, u32, u32),
+pub(crate) struct Picked {
+    pub(crate) sort: Sort,
+    pub(crate) from: u32,
+    pub(crate) end: u32,
 }
 
-// Three parts that begin and end at these places have no 45 and no 46.
-fn parts_whole(s: &[u8], from: u32, first: u32, second: u32, end: u32) -> bool
-    requires { (first ≤ 1000000) × (second ≤ 1000000) × (end ≤ 1000000) }
-    ensures { result ≡ parts_whole s.now from first second end }
+// Three parts that begin and end there have no 45 and no 46.
+fn parts_whole(s: &[u8], front: Front) -> bool
+    requires { (front.lines ≤ 1000000) × (front.relocations ≤ 1000000) × (front.end ≤ 1000000) }
+    ensures { result ≡ parts_whole s.now front.functions front.lines front.relocations front.end }
 {
-    part_whole(s, Sort::Function, from, first)
-        & part_whole(s, Sort::Line, first, second)
-        & part_whole(s, Sort::Relocation, second, end)
+    part_whole(s, Sort::Function, front.functions, front.lines)
+        & part_whole(s, Sort::Line, front.lines, front.relocations)
+        & part_whole(s, Sort::Relocation, front.relocations, front.end)
 }
 
 // Part x of three.
-fn part_at(x: u32, from: u32, first: u32, second: u32, end: u32) -> Picked
-    ensures { picked_part result ≡ part_at (three_parts from first second end) x }
+fn part_at(x: u32, front: Front) -> Option<Picked>
+    ensures { picked_part result ≡ part_at (three_parts front.functions front.lines front.relocations front.end) x }
 {
     match x {
-        1 => Picked::Part(Sort::Function, from, first),
-        2 => Picked::Part(Sort::Line, first, second),
-        3 => Picked::Part(Sort::Relocation, second, end),
-        _ => Picked::Nothing,
+        1 => Some(Picked {
+            sort: Sort::Function,
+            from: front.functions,
+            end: front.lines,
+        }),
+        2 => Some(Picked {
+            sort: Sort::Line,
+            from: front.lines,
+            end: front.relocations,
+        }),
+        3 => Some(Picked {
+            sort: Sort::Relocation,
+            from: front.relocations,
+            end: front.end,
+        }),
+        _ => None,
     }
 }
 
 // "there is none where the section breaks 41, 43, 44, 45 or 46 anywhere or begins with neither order's four bytes".
-fn pick(s: &[u8], x: u32) -> Picked
+fn pick(s: &[u8], x: u32) -> Option<Picked>
     ensures { PickedOf result s.now x }
 {
     if s.len() < 24 {
-        return Picked::Nothing;
+        return None;
     }
     if BYTE_LIMIT < s.len() {
-        return Picked::Nothing;
+        return None;
     }
     if !opens(s) {
-        return Picked::Nothing;
+        return None;
     }
-    match read_front(s) {
-        Front::Bad(_) => Picked::Nothing,
-        Front::Ends(from, first, second, end) => {
-            if !parts_whole(s, from, first, second, end) {
-                return Picked::Nothing;
-            }
-            part_at(x, from, first, second, end)
-        }
+    let Ok(front) = read_front(s) else {
+        return None;
+    };
+    if !parts_whole(s, front) {
+        return None;
     }
+    part_at(x, front)
 }
 
 // Where record y of part x stands, and the name offset of its group.
-pub fn record_at(s: &[u8], x: u32, y: u32) -> Found
+pub fn record_at(s: &[u8], x: u32, y: u32) -> Option<(NameOff, Place)>
     ensures { found_as_paper result ≡ entry_as_paper (record_asked s.now x y) }
 {
-    match pick(s, x) {
-        Picked::Nothing => Found::Nowhere,
-        Picked::Part(sort, from, end) => find_in_part(s, sort, from, end, y),
-    }
+    let part = pick(s, x)?;
+    find_in_part(s, part.sort, part.from, part.end, y)
 }
 
 // The bytes of record y of a part; none where there is no such record.
@@ -80,8 +89,8 @@ fn part_bytes(s: &[u8], sort: Sort, from: u32, end: u32, y: u32) -> &[u8]
     ensures { PartBytes result s.entry sort from end y }
 {
     match find_in_part(s, sort, from, end, y) {
-        Found::Nowhere => &s[..0],
-        Found::At(_, place) => {
+        None => &s[..0],
+        Some((_, place)) => {
             let at = place.0 as usize;
             let to = at + row_of(sort).size as usize;
             &s[at..to]
@@ -94,7 +103,7 @@ pub fn record_bytes(s: &[u8], x: u32, y: u32) -> &[u8]
     ensures { BytesOf result s.entry x y }
 {
     match pick(s, x) {
-        Picked::Nothing => &s[..0],
-        Picked::Part(sort, from, end) => part_bytes(s, sort, from, end, y),
+        None => &s[..0],
+        Some(part) => part_bytes(s, part.sort, part.from, part.end, y),
     }
 }

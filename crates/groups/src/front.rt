@@ -10,18 +10,13 @@ use exts::{Fault, Sort};
 use paper::{Order, Place};
 use words::blob_word;
 
-// What a header says: its fault, or where the parts begin, each behind the one before, and where the last ends.
+// Where the parts begin, each behind the one before, and where the last ends.
 #[derive(Clone, Copy)]
-pub(crate) enum Front {
-    Bad(Fault),
-    Ends(u32, u32, u32, u32),
-}
-
-// What it says of one part: that it does not follow, or the offset where it ends.
-#[derive(Clone, Copy)]
-pub(crate) enum Next {
-    Bad,
-    To(u64),
+pub(crate) struct Front {
+    pub(crate) functions: u32,
+    pub(crate) lines: u32,
+    pub(crate) relocations: u32,
+    pub(crate) end: u32,
 }
 
 // Four bytes are those that a section begins with.
@@ -66,49 +61,48 @@ fn header_place(sort: Sort) -> u32
     }
 }
 
-// Offsets are added in 64 bits, so that no sum wraps.
-fn part_end(s: &[u8], sort: Sort, from: u64) -> Next
+// The offset where a part ends that begins here. Offsets are added in 64 bits, so that no sum wraps.
+fn part_end(s: &[u8], sort: Sort, from: u64) -> Result<u64, Fault>
     requires { from < 1000000000000 }
     ensures { NextAs result s.now sort from }
 {
     let at = header_place(sort);
     let behind = at + 4;
     if blob_word(s, Place(4)) < at + 8 {
-        return Next::To(from); // a header of 24 bytes, which has no words for relocations
+        return Ok(from); // a header of 24 bytes, which has no words for relocations
     }
     if blob_word(s, Place(at)) as u64 != from {
-        return Next::Bad;
+        return Err(Fault::Parts);
     }
     let len = blob_word(s, Place(behind));
     if len % 4 != 0 {
-        return Next::Bad;
+        return Err(Fault::Parts);
     }
     let end = from + len as u64;
-    Next::To(end)
+    Ok(end)
 }
 
-pub(crate) fn read_front(s: &[u8]) -> Front
+pub(crate) fn read_front(s: &[u8]) -> Result<Front, Fault>
     requires { length s.now ≤ 1000000 }
     ensures { FrontAs result s.now }
 {
     if !header_ok(s) {
-        return Front::Bad(Fault::HeaderLength);
+        return Err(Fault::HeaderLength);
     }
-    let Next::To(first) = part_end(s, Sort::Function, 0) else {
-        return Front::Bad(Fault::Parts);
-    };
-    let Next::To(second) = part_end(s, Sort::Line, first) else {
-        return Front::Bad(Fault::Parts);
-    };
-    let Next::To(third) = part_end(s, Sort::Relocation, second) else {
-        return Front::Bad(Fault::Parts);
-    };
+    let first = part_end(s, Sort::Function, 0)?;
+    let second = part_end(s, Sort::Line, first)?;
+    let third = part_end(s, Sort::Relocation, second)?;
     let start = blob_word(s, Place(4));
     let end = start as u64 + third;
     if end != s.len() as u64 {
-        return Front::Bad(Fault::Parts);
+        return Err(Fault::Parts);
     }
     let lines = start + first as u32;
     let relocations = start + second as u32;
-    Front::Ends(start, lines, relocations, end as u32)
+    Ok(Front {
+        functions: start,
+        lines,
+        relocations,
+        end: end as u32,
+    })
 }

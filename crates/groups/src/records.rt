@@ -4,7 +4,7 @@ ghost use Rattle.exts.specs.Ext.{each_word, judged_number, name_word_ok, type_wo
 ghost use Rattle.groups.specs.Walking.{entry_fault, roles_in, row_for};
 ghost use Rattle.views.specs.Shown.{table_by};
 
-use exts::{Fault, Judged, Role, Sort};
+use exts::{Fault, Role, Sort};
 use kindrows::FUNC;
 use paper::{Place, TypeNo};
 use views::{View, kind_at};
@@ -96,7 +96,7 @@ pub(crate) fn judge_entry(
     s: &[u8],
     sort: Sort,
     at: u32,
-) -> Judged
+) -> Result<(), Fault>
     requires { at ≤ 1000000 }
     ensures { judged_number result ≡ entry_fault (table_by [] b.now index.now view) strings s.now sort at }
 {
@@ -108,10 +108,10 @@ pub(crate) fn judge_entry(
     let v = blob_word(s, Place(third));
     let w = blob_word(s, Place(fourth));
     if !names_ok(row, strings, u, v, w) {
-        return Judged::Faulty(Fault::Named);
+        return Err(Fault::Named);
     }
     if !types_ok(b, index, view, row, u, v, w) {
-        return Judged::Faulty(Fault::Typed);
+        return Err(Fault::Typed);
     }
-    Judged::Sound
+    Ok(())
 }

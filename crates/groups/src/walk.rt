@@ -6,46 +6,41 @@ ghost use Rattle.groups.specs.Walking.{StepAs, TurnAs, entries_fault, groups_fau
 ghost use Rattle.views.specs.Shown.{table_by};
 
 use crate::records::{judge_entry, row_of};
-use exts::{Fault, Judged, Sort};
+use exts::{Fault, Sort};
 use paper::Place;
 use views::View;
 use words::blob_word;
 
-// What stands at a place of a part: no group, or a group's name offset, its count of records, and where it ends.
+// A group's name offset, its count of records, and where the next begins.
 #[derive(Clone, Copy)]
-pub(crate) enum Step {
-    Broken,
-    Group(u32, u32, u32),
+pub(crate) struct Group {
+    pub(crate) name: u32,
+    pub(crate) count: u32,
+    pub(crate) next: u32,
 }
 
-// What a group says: its fault, or where the next begins.
-#[derive(Clone, Copy)]
-pub(crate) enum Turn {
-    Bad(Fault),
-    Next(u32),
-}
-
-// The product is taken in 64 bits, where it fits.
-pub(crate) fn group_at(s: &[u8], size: u32, at: u32, end: u32) -> Step
+// The group at a place of a part, if it is whole. The product is taken in 64 bits, where it fits.
+pub(crate) fn group_at(s: &[u8], size: u32, at: u32, end: u32) -> Option<Group>
     requires { at ≤ end }
     ensures { StepAs result s.now size at end }
 {
     let room = end - at;
     if room < 8 {
-        return Step::Broken;
+        return None;
     }
     let behind = at + 4;
     let count = blob_word(s, Place(behind));
     if count == 0 {
-        return Step::Broken;
+        return None;
     }
     let bytes = count as u64 * size as u64;
     let most = room - 8;
     if (most as u64) < bytes {
-        return Step::Broken;
+        return None;
     }
     let next = at + 8 + bytes as u32;
-    Step::Group(blob_word(s, Place(at)), count, next)
+    let name = blob_word(s, Place(at));
+    Some(Group { name, count, next })
 }
 
 // So many records of so many bytes from a place on.
@@ -59,25 +54,17 @@ fn judge_entries(
     size: u32,
     count: u32,
     at: u32,
-) -> Judged
+) -> Result<(), Fault>
     requires { at + count * size ≤ 1000000 }
     ensures { judged_number result ≡ entries_fault (table_by [] b.now index.now view) strings s.now sort size count at }
 {
-    let mut p = at;
-    let mut left = count;
-    while 0 < left {
-        match judge_entry(b, index, view, strings, s, sort, p) {
-            Judged::Faulty(f) => return Judged::Faulty(f),
-            Judged::Sound => {
-                p += size;
-                left -= 1;
-            }
-        }
+    for i in 0..count {
+        judge_entry(b, index, view, strings, s, sort, at + i * size)?;
     }
-    Judged::Sound
+    Ok(())
 }
 
-// The group at a place.
+// The group at a place; where it has no fault, where the next begins.
 fn judge_group(
     b: &[u8],
     index: &[u32],
@@ -88,23 +75,19 @@ fn judge_group(
     size: u32,
     at: u32,
     end: u32,
-) -> Turn
+) -> Result<u32, Fault>
     requires { (at ≤ end) × (end ≤ 1000000) }
     ensures { TurnAs result (table_by [] b.now index.now view) strings s.now sort size at end }
 {
-    match group_at(s, size, at, end) {
-        Step::Broken => Turn::Bad(Fault::Group),
-        Step::Group(name, count, next) => {
-            if strings <= name as usize {
-                return Turn::Bad(Fault::Named);
-            }
-            let first = at + 8;
-            match judge_entries(b, index, view, strings, s, sort, size, count, first) {
-                Judged::Faulty(f) => Turn::Bad(f),
-                Judged::Sound => Turn::Next(next),
-            }
-        }
+    let Some(group) = group_at(s, size, at, end) else {
+        return Err(Fault::Group);
+    };
+    if strings <= group.name as usize {
+        return Err(Fault::Named);
     }
+    let first = at + 8;
+    judge_entries(b, index, view, strings, s, sort, size, group.count, first)?;
+    Ok(group.next)
 }
 
 // The groups from a place up to the part's end.
@@ -118,18 +101,16 @@ fn judge_groups(
     size: u32,
     at: u32,
     end: u32,
-) -> Judged
+) -> Result<(), Fault>
     requires { end ≤ 1000000 }
     ensures { judged_number result ≡ groups_fault (table_by [] b.now index.now view) strings s.now sort size at end }
 {
     let mut p = at;
+    // A while: each group says where the next begins, so there is no count to go over.
     while p < end {
-        match judge_group(b, index, view, strings, s, sort, size, p, end) {
-            Turn::Bad(f) => return Judged::Faulty(f),
-            Turn::Next(next) => p = next,
-        }
+        p = judge_group(b, index, view, strings, s, sort, size, p, end)?;
     }
-    Judged::Sound
+    Ok(())
 }
 
 // A record size that a sort may have.
@@ -153,16 +134,16 @@ pub(crate) fn judge_part(
     sort: Sort,
     from: u32,
     end: u32,
-) -> Judged
+) -> Result<(), Fault>
     requires { end ≤ 1000000 }
     ensures { judged_number result ≡ part_fault (table_by [] b.now index.now view) strings s.now sort from end }
 {
     if end <= from {
-        return Judged::Sound;
+        return Ok(());
     }
     let size = blob_word(s, Place(from));
     if !size_ok(sort, size) {
-        return Judged::Faulty(Fault::RecordSize);
+        return Err(Fault::RecordSize);
     }
     let first = from + 4;
     judge_groups(b, index, view, strings, s, sort, size, first, end)

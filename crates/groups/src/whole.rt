@@ -6,53 +6,61 @@ ghost use Rattle.views.specs.Shown.{table_by};
 
 use crate::front::{Front, opens_as, read_front};
 use crate::walk::judge_part;
-use exts::{Fault, Judged, Sort};
+use exts::{Fault, Sort};
 use paper::BYTE_LIMIT;
 use views::{View, strings_in};
 
-// Three parts that begin and end at these places: "the first part, group or record at fault from the front".
-fn judge_parts(
-    b: &[u8],
-    index: &[u32],
-    view: View,
-    s: &[u8],
-    from: u32,
-    first: u32,
-    second: u32,
-    end: u32,
-) -> Judged
-    requires { (first ≤ 1000000) × (second ≤ 1000000) × (end ≤ 1000000) }
-    ensures { judged_number result ≡ parts_fault (table_by [] b.now index.now view) s.now from first second end }
+// The parts that begin and end there: "the first part, group or record at fault from the front".
+fn judge_parts(b: &[u8], index: &[u32], view: View, s: &[u8], front: Front) -> Result<(), Fault>
+    requires { (front.lines ≤ 1000000) × (front.relocations ≤ 1000000) × (front.end ≤ 1000000) }
+    ensures { judged_number result ≡ parts_fault (table_by [] b.now index.now view) s.now front.functions front.lines front.relocations front.end }
 {
     let strings = strings_in(b).len();
-    let functions = judge_part(b, index, view, strings, s, Sort::Function, from, first);
-    let Judged::Sound = functions else {
-        return functions;
-    };
-    let lines = judge_part(b, index, view, strings, s, Sort::Line, first, second);
-    let Judged::Sound = lines else {
-        return lines;
-    };
-    judge_part(b, index, view, strings, s, Sort::Relocation, second, end)
+    judge_part(
+        b,
+        index,
+        view,
+        strings,
+        s,
+        Sort::Function,
+        front.functions,
+        front.lines,
+    )?;
+    judge_part(
+        b,
+        index,
+        view,
+        strings,
+        s,
+        Sort::Line,
+        front.lines,
+        front.relocations,
+    )?;
+    judge_part(
+        b,
+        index,
+        view,
+        strings,
+        s,
+        Sort::Relocation,
+        front.relocations,
+        front.end,
+    )
 }
 
 // 41 to 48, of any bytes beside the table that any index shows.
-pub fn judge(b: &[u8], index: &[u32], view: View, s: &[u8]) -> Judged
+pub fn judge(b: &[u8], index: &[u32], view: View, s: &[u8]) -> Result<(), Fault>
     ensures { judged_number result ≡ section_fault (take 4 b.now) (table_by [] b.now index.now view) s.now }
 {
     if s.len() < 24 {
-        return Judged::Faulty(Fault::Length);
+        return Err(Fault::Length);
     }
     if BYTE_LIMIT < s.len() {
-        return Judged::Faulty(Fault::Length);
+        return Err(Fault::Length);
     }
     if !opens_as(b, s) {
-        return Judged::Faulty(Fault::Opening);
+        return Err(Fault::Opening);
     }
-    match read_front(s) {
-        Front::Bad(f) => Judged::Faulty(f),
-        Front::Ends(from, first, second, end) => {
-            judge_parts(b, index, view, s, from, first, second, end)
-        }
-    }
+    let front = read_front(s)?;
+    judge_parts(b, index, view, s, front)
 }

@@ -1,5 +1,8 @@
 -- Phase 1 by itself and behind a base are one: told whether 1 and whether 5 is due.
 -- Assumes nothing.
+use Rattle.std.specs.Prelude.{Err, Ok, Result}
+use Rattle.paper.specs.declared.Report.{Report}
+use Rattle.header.specs.declared.first.Sections.{Sections}
 use Prim.Native.Nat.{ℕ, ◌+◌}
 use mathlib.Core.Path.{◌≡◌, ap, ap₂, ◌∙◌, subst}
 use mathlib.Core.Bool.{Bool, ◌||◌}
@@ -15,8 +18,6 @@ use Rattle.pairs.specs.Lean.{length_bad_behind, end_bad, behind_report}
 use Rattle.paper.specs.rules.Limits.{byte_limit}
 use Rattle.header.specs.Behind.{HeaderBehind}
 use Rattle.header.specs.Header.{HeaderOf, rules_by, report_by, HeaderBy}
-use Rattle.header.specs.declared.first.Header.{Header}
-use Rattle.header.specs.declared.first.Header.TheVariants.{Good, Bad}
 
 -- ── by what is due ──
 
@@ -27,12 +28,12 @@ length_bad-alone b =
     let same : 0 + length b ≡ length b = omega arith in
     ap (λ (n : ℕ). ltb (length b) header_length || ltb byte_limit n) same
 
-header_by-phase1 : (h : Header) (b : List ℕ) → HeaderBy (header_report b) h b → HeaderOf h b
+header_by-phase1 : (h : Result Sections Report) (b : List ℕ) → HeaderBy (header_report b) h b → HeaderOf h b
 unfolding phase1
-header_by-phase1 (Good s) b e = record { silent = ap (naming 0) e.silent; types = e.types; strings = e.strings }
-header_by-phase1 (Bad r) b e = e
+header_by-phase1 (Ok s) b e = record { silent = ap (naming 0) e.silent; types = e.types; strings = e.strings }
+header_by-phase1 (Err r) b e = e
 
-module _ (h : Header) (b : List ℕ) {one five : Bool} (e : HeaderBy (report_by one five b) h b) where
+module _ (h : Result Sections Report) (b : List ℕ) {one five : Bool} (e : HeaderBy (report_by one five b) h b) where
   pub header-alone : one ≡ length_bad_behind 0 b → five ≡ strings_bad b → HeaderOf h b
   unfolding report_by header_report
   header-alone e₁ e₅ =

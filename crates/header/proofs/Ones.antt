@@ -1,5 +1,8 @@
 -- Any two results that the contracts of `read`, `part` and `name` allow are the same, by itself and behind a base.
 -- Assumes nothing.
+use Rattle.std.specs.Prelude.{Err, Ok, Result}
+use Rattle.paper.specs.declared.Report.{Report}
+use Rattle.header.specs.declared.first.Sections.{Sections}
 use Prim.Native.Nat.{ℕ}
 use mathlib.Core.Path.{◌≡◌, sym, ap, ◌∙◌}
 use mathlib.Core.List.{List}
@@ -7,19 +10,17 @@ use denote.Ref.{Bor}
 use Rattle.header.specs.Behind.{HeaderBehind, PartBehind, NamePartBehind}
 use Rattle.header.specs.Header.{HeaderOf}
 use Rattle.header.specs.Part.{PartOf, NamePart}
-use Rattle.header.specs.declared.first.Header.{Header}
-use Rattle.header.specs.declared.first.Header.TheVariants.{Good, Bad}
 use Rattle.paper.proofs.basics.Answers.{report-one}
 use Rattle.paper.proofs.gates.Gates.{some≢none, some_one}
 use Rattle.paper.specs.declared.Part.{Part}
 use Rattle.paper.specs.rules.Gate.{naming}
 
 -- both lengths, or the report
-pub header-one : (r r' : Header) (b : List ℕ) → HeaderOf r b → HeaderOf r' b → r ≡ r'
-header-one (Good s) (Good t) b h k = ap Good (λ i. record { types = (h.types ∙ sym k.types) i; strings = (h.strings ∙ sym k.strings) i })
-header-one (Good s) (Bad r) b h k = absurd (some≢none (sym k ∙ h.silent))
-header-one (Bad r) (Good s) b h k = absurd (some≢none (sym h ∙ k.silent))
-header-one (Bad r) (Bad q) b h k = ap Bad (report-one r q (some_one (sym h ∙ k)))
+pub header-one : (r r' : Result Sections Report) (b : List ℕ) → HeaderOf r b → HeaderOf r' b → r ≡ r'
+header-one (Ok s) (Ok t) b h k = ap Ok (λ i. record { types = (h.types ∙ sym k.types) i; strings = (h.strings ∙ sym k.strings) i })
+header-one (Ok s) (Err r) b h k = absurd (some≢none (sym k ∙ h.silent))
+header-one (Err r) (Ok s) b h k = absurd (some≢none (sym h ∙ k.silent))
+header-one (Err r) (Err q) b h k = ap Err (report-one r q (some_one (sym h ∙ k)))
 
 -- both numbers
 pub part-one : {p p' : Part} {b : List ℕ} {off : ℕ} → PartOf p b off → PartOf p' b off → p ≡ p'
@@ -31,12 +32,12 @@ name-one h k = (h.bytes ∙ sym k.bytes, h.place ∙ sym k.place)
 
 -- ── behind a base ──
 
-pub header-behind-one : (r r' : Header) (before : ℕ) (b : List ℕ) → HeaderBehind r before b → HeaderBehind r' before b → r ≡ r'
-header-behind-one (Good s) (Good t) before b h k =
-    ap Good (λ i. record { types = (h.types ∙ sym k.types) i; strings = (h.strings ∙ sym k.strings) i })
-header-behind-one (Good s) (Bad r) before b h k = absurd (some≢none (sym k ∙ ap (naming 0) h.silent))
-header-behind-one (Bad r) (Good s) before b h k = absurd (some≢none (sym h ∙ ap (naming 0) k.silent))
-header-behind-one (Bad r) (Bad q) before b h k = ap Bad (report-one r q (some_one (sym h ∙ k)))
+pub header-behind-one : (r r' : Result Sections Report) (before : ℕ) (b : List ℕ) → HeaderBehind r before b → HeaderBehind r' before b → r ≡ r'
+header-behind-one (Ok s) (Ok t) before b h k =
+    ap Ok (λ i. record { types = (h.types ∙ sym k.types) i; strings = (h.strings ∙ sym k.strings) i })
+header-behind-one (Ok s) (Err r) before b h k = absurd (some≢none (sym k ∙ ap (naming 0) h.silent))
+header-behind-one (Err r) (Ok s) before b h k = absurd (some≢none (sym h ∙ ap (naming 0) k.silent))
+header-behind-one (Err r) (Err q) before b h k = ap Err (report-one r q (some_one (sym h ∙ k)))
 
 pub part-behind-one : {p p' : Part} {before : ℕ} {b : List ℕ} {off : ℕ} → PartBehind p before b off → PartBehind p' before b off → p ≡ p'
 part-behind-one h k = λ i. record { start = record { 0 = (h.starts ∙ sym k.starts) i }; length = (h.long ∙ sym k.long) i }

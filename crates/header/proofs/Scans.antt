@@ -1,24 +1,27 @@
--- Laws of `Name`: a scan for the first zero byte, and names by what phase 1 says.
+-- Laws of `Name`: the place of the first zero byte, and names by what phase 1 says.
 -- Assumes nothing.
+use Rattle.std.specs.Prelude.{Err, Ok, Result}
 use Prim.Native.Nat.{ℕ, zero, suc, ◌+◌, ◌<◌, ◌≤◌}
 use mathlib.Core.Path.{◌≡◌, refl, sym, ap, ap₂, subst, ◌∙◌}
 use mathlib.Core.Bool.{Bool, true, false, not, cond, ◌||◌, false≢true}
-use mathlib.Core.List.{List, [], ◌∷◌, ◌++◌, append-nil}
+use mathlib.Core.List.{List, [], ◌∷◌}
 use mathlib.Core.Option.{Option, none, some}
-use native.Mathlib.Numerals.{add-one}
+use native.Mathlib.Numerals.{one-add}
 use native.Mathlib.Omega.{arith}
-use borrow.Author.Tests.{eq-eqb, ne_eqb, ltb-true, not-false}
+use borrow.Author.Tests.{ltb-true, ltb-false, not-false}
 use denote.Ref.{Bor}
 use lib.Dec.{eqb, ltb}
-use lib.ListN.{length, get_or, take, drop, length-drop, get_or-eq_default}
+use lib.ListN.{length, take, drop, length-drop}
 use lib.Seq.{drop-drop, length-take-le}
 use Rattle.paper.proofs.bytes.Headers.{header_report-facts}
 use Rattle.paper.proofs.gates.Gates.{naming-none}
+use Rattle.std.specs.List.{position_or_len}
+use Rattle.std.specs.Option.{unwrap_or}
+use Rattle.std.proofs.Common as option
+use Rattle.std.proofs.Common.{Some, None}
 use Rattle.header.specs.Behind.{HeaderBehind, nameless_behind, name_at_behind, name_start_behind, PartBehind, NamePartBehind}
 use Rattle.header.specs.Part.{Ending, nameless_by, name_if, start_if, Held, PartIf, PartOf, CutOut, NamePart}
 use Rattle.header.specs.Header.{HeaderOf, HeaderBy}
-use Rattle.header.specs.declared.first.Header.{Header}
-use Rattle.header.specs.declared.first.Header.TheVariants.{Good, Bad}
 use Rattle.header.specs.declared.first.Sections.{Sections}
 use Rattle.pairs.proofs.Headers.{behind_report-facts}
 use Rattle.paper.specs.declared.Part.{Part}
@@ -31,38 +34,44 @@ use Rattle.pairs.specs.Lean.{behind_report}
 use Rattle.paper.specs.rules.Name.{until_zero, name_in, nameless, name_at, name_start}
 use Rattle.paper.specs.rules.Word.{word_at}
 
--- ── a scan ──
+-- ── a search ──
 
--- so far into the bytes: what is passed, and the name that is left, are the name
-pub record Scanned (s : List ℕ) (i : ℕ) : Type 0 where
-  pub inside : i ≤ length s
-  pub passed : take i s ++ until_zero (drop i s) ≡ until_zero s
+abbrev first_zero : List ℕ → ℕ
+first_zero s = position_or_len (λ (c : ℕ). eqb c 0) s
 
--- over a byte that is not zero the scan goes on
-over : (s : List ℕ) (i : ℕ) → i < length s → (get_or s i 0 ≡ 0 → ⊥) → take (suc i) s ++ until_zero (drop (suc i) s) ≡ take i s ++ until_zero (drop i s)
-over [] i h n = absurd (omega arith)
-over (c ∷ s) zero h n = rw (ne_eqb c 0 n) refl
-over (c ∷ s) (suc i) h n = ap (λ (t : List ℕ). c ∷ t) (over s i (omega arith) n)
+first_zero-inside : (s : List ℕ) → first_zero s ≤ length s
+first_zero-inside [] = omega arith
+first_zero-inside (c ∷ s) = go (eqb c 0) (first_zero-inside s)
+  where
+    go : (t : Bool) → first_zero s ≤ length s → cond (not t) (1 + first_zero s) 0 ≤ suc (length s)
+    go true h = omega arith
+    go false h = omega arith
 
-pub scanned-next : {s : List ℕ} {i : ℕ} → Scanned s i → i < length s → (get_or s i 0 ≡ 0 → ⊥) → Scanned s (i + 1)
-scanned-next {s} {i} e h n = record { inside = omega arith; passed = rw add-one (over s i h n ∙ e.passed) }
+first_zero-until : (s : List ℕ) → take (first_zero s) s ≡ until_zero s
+first_zero-until [] = refl
+first_zero-until (c ∷ s) = go (eqb c 0) (first_zero-until s)
+  where
+    go : (t : Bool) → take (first_zero s) s ≡ until_zero s → take (cond (not t) (1 + first_zero s) 0) (c ∷ s) ≡ cond t [] (c ∷ until_zero s)
+    go true h = refl
+    go false h = rw one-add (ap (λ (r : List ℕ). c ∷ r) h)
 
--- at a zero byte, and so at the end, nothing is left
-stop : (s : List ℕ) (i : ℕ) → get_or s i 0 ≡ 0 → until_zero (drop i s) ≡ []
-stop [] zero e = refl
-stop [] (suc i) e = refl
-stop (c ∷ s) zero e = rw (eq-eqb c 0 e) refl
-stop (c ∷ s) (suc i) e = stop s i e
+-- the place of the first zero byte, or the end, is where the name ends
+pub ending-first : {n : ℕ} {r : option.Option ℕ} (s : List ℕ) → r ≡ cond (ltb (first_zero s) (length s)) (Some (first_zero s)) None
+    → n ≡ unwrap_or r (length s) → Ending s n
+ending-first {n} s e is = go (ltb (first_zero s) (length s)) refl
+  where
+    at : n ≡ first_zero s → Ending s n
+    at same = subst (Ending s) (sym same) (record { inside = first_zero-inside s; until = first_zero-until s })
 
-pub scanned-stop : {s : List ℕ} {i : ℕ} → Scanned s i → get_or s i 0 ≡ 0 → Ending s i
-scanned-stop {s} {i} e z =
-    record {
-      inside = e.inside;
-      until = sym (append-nil (take i s)) ∙ ap (λ (t : List ℕ). take i s ++ t) (sym (stop s i z)) ∙ e.passed;
-    }
+    told : {t : Bool} → ltb (first_zero s) (length s) ≡ t → n ≡ unwrap_or (cond t (Some (first_zero s)) None) (length s)
+    told t = is ∙ ap (λ (o : option.Option ℕ). unwrap_or o (length s)) (e ∙ ap (λ (b : Bool). cond b (Some (first_zero s)) None) t)
 
-pub scanned-end : {s : List ℕ} {i : ℕ} → Scanned s i → length s ≤ i → Ending s i
-scanned-end {s} {i} e h = scanned-stop e (get_or-eq_default s 0 h)
+    go : (t : Bool) → ltb (first_zero s) (length s) ≡ t → Ending s n
+    go true t = at (told t)
+    go false t =
+        let inside = first_zero-inside s in
+        let past = ltb-false (first_zero s) (length s) t in
+        at (omega (arith, told t))
 
 until_zero-short : (s : List ℕ) → length (until_zero s) ≤ length s
 until_zero-short [] = omega arith
@@ -88,27 +97,27 @@ naming-some none e f = absurd (let z : ◌≡◌ {A = ℕ} 0 1 = cc in omega ari
 naming-some (some n) e f = f n refl
 
 -- what the header in code says decides, by the report that is due
-nameless-due : (h : Header) (due : Option ℕ) (b : List ℕ) (off : ℕ) → HeaderBy due h b → nameless_by h off ≡ (is_some due || not (ltb off (str_len b)))
-nameless-due (Good s) due b off e = rw (e.strings, e.silent) refl
-nameless-due (Bad r) due b off e = naming-some due e (λ n q. rw q refl)
+nameless-due : (h : Result Sections Report) (due : Option ℕ) (b : List ℕ) (off : ℕ) → HeaderBy due h b → nameless_by h off ≡ (is_some due || not (ltb off (str_len b)))
+nameless-due (Ok s) due b off e = rw (e.strings, e.silent) refl
+nameless-due (Err r) due b off e = naming-some due e (λ n q. rw q refl)
 
-pub nameless_by-good : {h : Header} {s : Sections} (off : ℕ) → h ≡ Good s → not (ltb off s.strings) ≡ nameless_by h off
-nameless_by-good off e = sym (ap (λ (h : Header). nameless_by h off) e)
+pub nameless_by-good : {h : Result Sections Report} {s : Sections} (off : ℕ) → h ≡ Ok s → not (ltb off s.strings) ≡ nameless_by h off
+nameless_by-good off e = sym (ap (λ (h : Result Sections Report). nameless_by h off) e)
 
-pub nameless_by-bad : {h : Header} {r : Report} (off : ℕ) → h ≡ Bad r → true ≡ nameless_by h off
-nameless_by-bad off e = sym (ap (λ (h : Header). nameless_by h off) e)
+pub nameless_by-bad : {h : Result Sections Report} {r : Report} (off : ℕ) → h ≡ Err r → true ≡ nameless_by h off
+nameless_by-bad off e = sym (ap (λ (h : Result Sections Report). nameless_by h off) e)
 
 -- of phase 1 by itself
-header_of-due : (h : Header) (b : List ℕ) → HeaderOf h b → HeaderBy (header_report b) h b
+header_of-due : (h : Result Sections Report) (b : List ℕ) → HeaderOf h b → HeaderBy (header_report b) h b
 unfolding phase1
-header_of-due (Good s) b e = record { silent = naming-none 0 (header_report b) e.silent; types = e.types; strings = e.strings }
-header_of-due (Bad r) b e = e
+header_of-due (Ok s) b e = record { silent = naming-none 0 (header_report b) e.silent; types = e.types; strings = e.strings }
+header_of-due (Err r) b e = e
 
-pub nameless-alone : (h : Header) (b : List ℕ) (off : ℕ) → HeaderOf h b → nameless_by h off ≡ nameless b off
+pub nameless-alone : (h : Result Sections Report) (b : List ℕ) (off : ℕ) → HeaderOf h b → nameless_by h off ≡ nameless b off
 unfolding nameless
 nameless-alone h b off e = nameless-due h (header_report b) b off (header_of-due h b e)
 
-pub nameless-behind : (h : Header) (before : ℕ) (b : List ℕ) (off : ℕ) → HeaderBehind h before b → nameless_by h off ≡ nameless_behind before b off
+pub nameless-behind : (h : Result Sections Report) (before : ℕ) (b : List ℕ) (off : ℕ) → HeaderBehind h before b → nameless_by h off ≡ nameless_behind before b off
 unfolding nameless_behind
 nameless-behind h before b off e = nameless-due h (behind_report before b) b off e
 

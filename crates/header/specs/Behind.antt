@@ -1,16 +1,17 @@
 -- Phase 1 and the names of a table behind a base of so many bytes; offsets count in the table's own strings.
-use Rattle.std.specs.Prelude.{ℕ, ◌+◌, ◌≡◌, Bool, not, ◌||◌, List, ltb, length}
+use Rattle.paper.specs.declared.Report.{Report}
+use Rattle.header.specs.declared.first.Sections.{Sections}
+use Rattle.std.specs.Prelude.{ℕ, ◌+◌, ◌≡◌, Bool, not, ◌||◌, List, ltb, length, Result}
 use Rattle.std.specs.Borrow.{Bor}
 use Rattle.header.specs.Header.{HeaderBy}
 use Rattle.header.specs.Part.{name_if, start_if}
-use Rattle.header.specs.declared.first.Header.{Header}
 use Rattle.paper.specs.declared.Part.{Part}
 use Rattle.paper.specs.rules.Choice.{is_some}
 use Rattle.paper.specs.rules.Header.{str_len}
 use Rattle.pairs.specs.Lean.{behind_report}
 
 -- both sections where nothing is due, else the report
-abbrev pub HeaderBehind : Header → ℕ → List ℕ → Type 0
+abbrev pub HeaderBehind : Result Sections Report → ℕ → List ℕ → Type 0
 HeaderBehind h before b = HeaderBy (behind_report before b) h b
 
 -- the table would get any of reports 1 to 5, or the offset is not below the length of its strings

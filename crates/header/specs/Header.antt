@@ -1,8 +1,7 @@
 -- What phase 1 in code finds, in the paper's words.
-use Rattle.std.specs.Prelude.{ℕ, ◌≡◌, Bool, not, List, [], ◌∷◌, take}
+use Rattle.paper.specs.declared.Report.{Report}
+use Rattle.std.specs.Prelude.{ℕ, ◌≡◌, Bool, not, List, [], ◌∷◌, take, Err, Ok, Result}
 use Rattle.std.proofs.Math.Option.{Option, none, some}
-use Rattle.header.specs.declared.first.Header.{Header}
-use Rattle.header.specs.declared.first.Header.TheVariants.{Good, Bad}
 use Rattle.header.specs.declared.first.Sections.{Sections}
 use Rattle.paper.specs.rules.Answer.{report_as_paper}
 use Rattle.paper.specs.rules.Choice.{same, Rule, ◌when◌, first_due}
@@ -23,9 +22,9 @@ opens_otherwise b first second = not (same (take 4 b) (first ∷ second ∷ 1 �
 unfoldable pub begins_with : List ℕ → ℕ → ℕ → Bool
 begins_with b first second = same (take 2 b) (first ∷ second ∷ [])
 
-abbrev pub HeaderOf : Header → List ℕ → Type 0
-HeaderOf (Good s) b = SectionsOf s b
-HeaderOf (Bad r) b = phase1 b ≡ some (report_as_paper r)
+abbrev pub HeaderOf : Result Sections Report → List ℕ → Type 0
+HeaderOf (Ok s) b = SectionsOf s b
+HeaderOf (Err r) b = phase1 b ≡ some (report_as_paper r)
 
 -- ── by itself or behind a base ──
 
@@ -48,6 +47,6 @@ pub record SectionsBy (due : Option ℕ) (s : Sections) (b : List ℕ) : Type 0 
   pub types : s.types ≡ type_len b
   pub strings : s.strings ≡ str_len b
 
-abbrev pub HeaderBy : Option ℕ → Header → List ℕ → Type 0
-HeaderBy due (Good s) b = SectionsBy due s b
-HeaderBy due (Bad r) b = naming 0 due ≡ some (report_as_paper r)
+abbrev pub HeaderBy : Option ℕ → Result Sections Report → List ℕ → Type 0
+HeaderBy due (Ok s) b = SectionsBy due s b
+HeaderBy due (Err r) b = naming 0 due ≡ some (report_as_paper r)

@@ -1,8 +1,8 @@
 -- Where a name lies in a blob, and where it ends in the bytes that begin with it.
-use Rattle.std.specs.Prelude.{ℕ, ◌+◌, ◌≤◌, ◌<◌, ◌≡◌, Bool, true, false, not, cond, List, [], ltb, length, take, drop}
+use Rattle.paper.specs.declared.Report.{Report}
+use Rattle.header.specs.declared.first.Sections.{Sections}
+use Rattle.std.specs.Prelude.{ℕ, ◌+◌, ◌≤◌, ◌<◌, ◌≡◌, Bool, true, false, not, cond, List, [], ltb, length, take, drop, Err, Ok, Result}
 use Rattle.std.specs.Borrow.{Bor}
-use Rattle.header.specs.declared.first.Header.{Header}
-use Rattle.header.specs.declared.first.Header.TheVariants.{Good, Bad}
 use Rattle.paper.specs.rules.Header.{header_length, type_len, strings_in}
 use Rattle.paper.specs.rules.Limits.{byte_limit}
 use Rattle.paper.specs.rules.Name.{until_zero, name_in, name_at, name_start}
@@ -26,9 +26,9 @@ pub record NamePart (r b : Bor (List ℕ)) (off : ℕ) : Type 0 where
 -- ── by itself or behind a base ──
 
 -- there is no name, by what phase 1 in code finds
-abbrev pub nameless_by : Header → ℕ → Bool
-nameless_by (Good s) off = not (ltb off s.strings)
-nameless_by (Bad r) off = true
+abbrev pub nameless_by : Result Sections Report → ℕ → Bool
+nameless_by (Ok s) off = not (ltb off s.strings)
+nameless_by (Err r) off = true
 
 -- the name at an offset, told whether it is missing, and where it begins
 unfoldable pub name_if : Bool → List ℕ → ℕ → List ℕ

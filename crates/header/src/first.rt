@@ -14,13 +14,6 @@ pub struct Sections {
     pub strings: u32,
 }
 
-// What phase 1 finds: both sections, or a report.
-#[derive(Clone, Copy)]
-pub enum Header {
-    Good(Sections),
-    Bad(Report),
-}
-
 // Report 1: too short, or too long together with so many bytes before it. A difference is taken, since the sum could pass 64 bits.
 fn length_bad(before: usize, b: &[u8]) -> bool
     ensures { result ≡ length_bad_behind before b.now }
@@ -125,39 +118,39 @@ fn strings_bad(b: &[u8]) -> bool
 }
 
 // Phase 1, told whether 1 and whether 5 is due, on which a base bears: the smallest report that is due, else the lengths of the sections.
-fn read_by(b: &[u8], one: bool, five: bool) -> Header
+fn read_by(b: &[u8], one: bool, five: bool) -> Result<Sections, Report>
     ensures { HeaderBy (report_by one five b.now) result b.now }
 {
     if one {
-        return Header::Bad(Report::Length);
+        return Err(Report::Length);
     }
     if opening_bad(b) {
-        return Header::Bad(Report::Opening);
+        return Err(Report::Opening);
     }
     if header_length_bad(b) {
-        return Header::Bad(Report::HeaderLength);
+        return Err(Report::HeaderLength);
     }
     if sections_bad(b) {
-        return Header::Bad(Report::Sections);
+        return Err(Report::Sections);
     }
     if five {
-        return Header::Bad(Report::Strings);
+        return Err(Report::Strings);
     }
-    Header::Good(Sections {
+    Ok(Sections {
         types: words::blob_word(b, Place(12)),
         strings: words::blob_word(b, Place(20)),
     })
 }
 
 // Phase 1 of a table that stands by itself.
-pub fn read(b: &[u8]) -> Header
+pub fn read(b: &[u8]) -> Result<Sections, Report>
     ensures { HeaderOf result b.now }
 {
     read_by(b, length_bad(0, b), strings_bad(b))
 }
 
 // Phase 1 of a table behind a base of so many bytes.
-pub fn read_behind(before: usize, b: &[u8]) -> Header
+pub fn read_behind(before: usize, b: &[u8]) -> Result<Sections, Report>
     ensures { HeaderBehind result before b.now }
 {
     read_by(b, length_bad(before, b), end_bad(b))

@@ -4,30 +4,23 @@ ghost use Rattle.header.specs.Behind.{NamePartBehind, PartBehind, nameless_behin
 ghost use Rattle.header.specs.Part.{CutOut, Ending, Held, NamePart, PartIf, PartOf, nameless_by};
 ghost use Rattle.paper.specs.rules.Name.{nameless};
 
-use crate::first::{Header, read, read_behind};
-use paper::{NameOff, Part, Place};
+use crate::first::{Sections, read, read_behind};
+use paper::{NameOff, Part, Place, Report};
 
 // How many bytes stand before the first zero byte, or the end.
 fn until_zero(s: &[u8]) -> usize
     ensures { Ending s.now result }
 {
-    let mut i = 0;
-    while i < s.len() {
-        if s[i] == 0 {
-            return i;
-        }
-        i += 1;
-    }
-    i
+    s.iter().position(|c| *c == 0).unwrap_or(s.len())
 }
 
 // No name can be had there, by what phase 1 finds: a report, or an offset past the strings.
-fn nameless_by(found: Header, at: NameOff) -> bool
+fn nameless_by(found: Result<Sections, Report>, at: NameOff) -> bool
     ensures { result ≡ nameless_by found at.0 }
 {
     match found {
-        Header::Good(s) => !(at.0 < s.strings),
-        Header::Bad(_) => true,
+        Ok(s) => !(at.0 < s.strings),
+        Err(_) => true,
     }
 }
 

@@ -1,5 +1,6 @@
 -- Laws of `runs` and `run_length`: a run of bytes up to the first zero byte, one byte at a time.
 -- Assumes nothing.
+use Rattle.std.specs.Prelude.{None, Option as RustOption, Some, ℕ}
 use Prim.Native.Nat.{ℕ, suc, ◌+◌, ◌-◌, ◌<◌, ◌≤◌}
 use mathlib.Core.Path.{◌≡◌, refl, sym, ap, ◌∙◌}
 use mathlib.Core.Bool.{Bool, true, false, not, cond, ◌&&◌, false≢true}
@@ -14,8 +15,6 @@ use lib.Seq.{drop-cons}
 use Rattle.paper.proofs.basics.Choices.{and-false}
 use Rattle.paper.specs.rules.Choice.{every, is_some}
 use Rattle.paper.specs.rules.Name.{until_zero}
-use Rattle.idents.specs.declared.Spelt.{Spelt}
-use Rattle.idents.specs.declared.Spelt.TheVariants.{Bytes, Not}
 use Rattle.idents.specs.Spelling.{runs, run_length, spelt_as_paper}
 
 -- ── tests ──
@@ -160,14 +159,14 @@ module _ {f : ℕ → Bool} {s : List ℕ} {from most i n : ℕ} (run : Running 
 
 -- ── answers ──
 
-abbrev spelt_of : Option ℕ → Spelt
-spelt_of none = Not
-spelt_of (some n) = Bytes n
+abbrev spelt_of : Option ℕ → RustOption ℕ
+spelt_of none = None
+spelt_of (some n) = Some n
 
-spelt_of-spelt_as_paper : (x : Spelt) → spelt_of (spelt_as_paper x) ≡ x
-spelt_of-spelt_as_paper (Bytes n) = refl
-spelt_of-spelt_as_paper Not = refl
+spelt_of-spelt_as_paper : (x : RustOption ℕ) → spelt_of (spelt_as_paper x) ≡ x
+spelt_of-spelt_as_paper (Some n) = refl
+spelt_of-spelt_as_paper None = refl
 
 -- two answers with the same number are one
-pub spelt-one : (x y : Spelt) → spelt_as_paper x ≡ spelt_as_paper y → x ≡ y
+pub spelt-one : (x y : RustOption ℕ) → spelt_as_paper x ≡ spelt_as_paper y → x ≡ y
 spelt-one x y e = sym (spelt_of-spelt_as_paper x) ∙ ap spelt_of e ∙ spelt_of-spelt_as_paper y

@@ -1,8 +1,6 @@
 -- What the looks at a name's bytes are promised to answer, in the paper's words.
-use Rattle.std.specs.Prelude.{ℕ, ◌+◌, ◌-◌, ◌/◌, ◌%◌, ◌^◌, ◌<◌, ◌≤◌, ◌≡◌, Bool, true, false, not, cond, ◌&&◌, ◌||◌, List, eqb, leb, ltb, length, get_or}
+use Rattle.std.specs.Prelude.{ℕ, ◌+◌, ◌-◌, ◌/◌, ◌%◌, ◌^◌, ◌<◌, ◌≤◌, ◌≡◌, Bool, true, false, not, cond, ◌&&◌, ◌||◌, List, eqb, leb, ltb, length, get_or, None, Option as RustOption, Some}
 use Rattle.std.proofs.Math.Option.{Option, none, some}
-use Rattle.idents.specs.declared.Spelt.{Spelt}
-use Rattle.idents.specs.declared.Spelt.TheVariants.{Bytes, Not}
 use Rattle.paper.specs.rules.Choice.{every}
 use Rattle.paper.specs.rules.Name.{until_zero, is_digit, is_letter}
 
@@ -27,9 +25,9 @@ runs f most cs = every f (until_zero cs) && leb (length (until_zero cs)) most
 unfoldable pub run_length : (ℕ → Bool) → ℕ → List ℕ → Option ℕ
 run_length f most cs = cond (runs f most cs) (some (length (until_zero cs))) none
 
-abbrev pub spelt_as_paper : Spelt → Option ℕ
-spelt_as_paper (Bytes n) = some n
-spelt_as_paper Not = none
+abbrev pub spelt_as_paper : RustOption ℕ → Option ℕ
+spelt_as_paper (Some n) = some n
+spelt_as_paper None = none
 
 -- every byte from a place up to another passes a test
 pub record Passing (f : ℕ → Bool) (s : List ℕ) (from to : ℕ) : Type 0 where

@@ -8,13 +8,6 @@ ghost use Rattle.idents.specs.Spelling.{Begun, Lower, Passing, Past, Surely, amo
 
 use paper::NameOff;
 
-// How many bytes a name has, or that it is not what was asked for.
-#[derive(Clone, Copy)]
-pub enum Spelt {
-    Bytes(u32),
-    Not,
-}
-
 // Digits are 48 to 57, letters 65 to 90 and 97 to 122, the underscore is 95.
 const WORD: [u64; 4] = [0x03ff_0000_0000_0000, 0x07ff_fffe_87ff_fffe, 0, 0];
 
@@ -43,10 +36,8 @@ fn sixteen(s: &[u8], from: usize) -> bool
     ensures { Surely s.now from (from + 16) result }
 {
     let mut all = true;
-    let mut j = 0;
-    while j < 16 {
-        all = all & is_word(s[from + j]);
-        j += 1;
+    for i in from..from + 16 {
+        all = all & is_word(s[i]);
     }
     all
 }
@@ -56,14 +47,14 @@ fn ahead(s: &[u8], from: usize, to: usize) -> usize
     requires { (from ≤ to) × (to ≤ length s.now) }
     ensures { Passing identifier_byte s.now from result × (result ≤ to) }
 {
-    let mut i = from;
-    while 16 <= to - i {
+    let rows = (to - from) / 16;
+    for k in 0..rows {
+        let i = from + 16 * k;
         if !sixteen(s, i) {
             return i;
         }
-        i += 16;
     }
-    i
+    from + 16 * rows
 }
 
 // How far the bytes of a set go on, and not past a bound.
@@ -71,14 +62,12 @@ fn past(s: &[u8], from: usize, to: usize, set: &[u64; 4]) -> usize
     requires { (from ≤ to) × (to ≤ length s.now) }
     ensures { Past (among set.now) s.now from to result }
 {
-    let mut i = from;
-    while i < to {
+    for i in from..to {
         if !is_among(set, s[i]) {
             return i;
         }
-        i += 1;
     }
-    i
+    to
 }
 
 // The lower of two places.
@@ -104,23 +93,23 @@ fn long(s: &[u8], from: usize, at: usize, set: &[u64; 4]) -> usize
 }
 
 // A run that was left at a place ends there if the bytes do, or a zero byte follows.
-fn ended(s: &[u8], from: usize, i: usize) -> Spelt
+fn ended(s: &[u8], from: usize, i: usize) -> Option<u32>
     requires { (from ≤ i) × (i ≤ from + 127) }
     ensures { spelt_as_paper result ≡ left_at s.now from i }
 {
     let n = (i - from) as u32;
     if s.len() <= i {
-        return Spelt::Bytes(n);
+        return Some(n);
     }
     if s[i] != 0 {
-        return Spelt::Not;
+        return None;
     }
-    Spelt::Bytes(n)
+    Some(n)
 }
 
 // From a place up to the first zero byte: how many bytes, if at most 127 and each is of a set. Most names are short: the first bytes
 // are looked at one by one, and only a long name costs a call. They are fifteen, since 127 is 15 and seven rows of sixteen.
-fn run(s: &[u8], from: usize, set: &[u64; 4]) -> Spelt
+fn run(s: &[u8], from: usize, set: &[u64; 4]) -> Option<u32>
     requires { Begun set.now s.now from from }
     ensures { spelt_as_paper result ≡ run_length (among set.now) 127 (drop from s.now) }
 {
@@ -136,15 +125,15 @@ fn run(s: &[u8], from: usize, set: &[u64; 4]) -> Spelt
 
 // How many bytes the identifier at an offset has, or that the name there is none. A byte of the set from 64 on is no digit, so it
 // may be the first.
-pub fn identifier(strings: &[u8], at: NameOff) -> Spelt
+pub fn identifier(strings: &[u8], at: NameOff) -> Option<u32>
     ensures { spelt_as_paper result ≡ identifier_length (name_in strings.now at.0) }
 {
     let from = at.0 as usize;
     if strings.len() <= from {
-        return Spelt::Not;
+        return None;
     }
     if strings[from] < 64 {
-        return Spelt::Not;
+        return None;
     }
     run(strings, from, &WORD)
 }
@@ -162,7 +151,7 @@ pub fn section_name(strings: &[u8], at: NameOff) -> bool
     }
     let end = long(strings, from, from, &PRINTED);
     match ended(strings, from, end) {
-        Spelt::Bytes(_) => true,
-        Spelt::Not => false,
+        Some(_) => true,
+        None => false,
     }
 }

@@ -1,5 +1,7 @@
 -- Longer joins of the code: runs of `join` along bracketings of the same blobs hand back the same. Each from the contract alone.
 -- Assumes nothing.
+use Rattle.std.specs.Prelude.{Result, ℕ}
+use Rattle.paper.specs.declared.JoinError.{JoinError}
 use Prim.Native.Nat.{ℕ}
 use mathlib.Core.Path.{◌≡◌, refl, sym, ap, ap₂, ◌∙◌}
 use mathlib.Core.List.{List}
@@ -8,7 +10,6 @@ use lib.ListN.{length, length-replicate}
 use Rattle.join.proofs.Demands.{FullJoin, handed-full}
 use Rattle.join.specs.Joins.{handed_back}
 use Rattle.paper.proofs.joins.FullJoins.{join_full-any}
-use Rattle.paper.specs.declared.Joined.{Joined}
 use Rattle.paper.specs.rules.Gate.{zeros}
 use Rattle.paper.specs.rules.Limits.{byte_limit}
 use Rattle.paper.specs.rules.Table.{count}
@@ -20,7 +21,7 @@ use Rattle.parts.specs.Brackets.{Bracketing, leaf, node, leaves, EachBytes, join
 -- back, and none where a side handed back nothing
 pub data RunAlong : Bracketing → Option (List ℕ) → Type 0 where
   given : (b : List ℕ) → RunAlong (leaf b) (some b)
-  ran : {l r : Bracketing} {o a b output : List ℕ} {j : Joined} → RunAlong l (some a) → RunAlong r (some b)
+  ran : {l r : Bracketing} {o a b output : List ℕ} {j : Result ℕ JoinError} → RunAlong l (some a) → RunAlong r (some b)
       → FullJoin o a b j output → RunAlong (node l r) (handed_back j output)
   no-first : {l r : Bracketing} → RunAlong l none → RunAlong (node l r) none
   no_second : {l r : Bracketing} → RunAlong r none → RunAlong (node l r) none

@@ -1,5 +1,9 @@
 -- Demand 3 of the code: what it means that `join` has answered, in the person's words. Each from its contract alone.
 -- Assumes nothing.
+use Rattle.std.specs.Prelude.{Err, Ok, Result, ℕ}
+use Rattle.paper.specs.declared.JoinError.TheVariants.{FirstRefused, OrdersDiffer, OutputShort, SecondRefused, TooLong, TooMany}
+use Rattle.paper.specs.declared.JoinError.{JoinError}
+use Rattle.paper.specs.declared.Report.{Report}
 use Prim.Native.Nat.{ℕ, ◌+◌, ◌-◌, ◌≤◌, ◌<◌}
 use mathlib.Core.Path.{◌≡◌, refl, sym, ap, ap₂, ◌∙◌, subst}
 use mathlib.Core.List.{List, ◌++◌}
@@ -35,13 +39,9 @@ use Rattle.paper.specs.rules.Rename.{raise}
 use Rattle.paper.specs.rules.Size.{exact_size, answer_of, size_of}
 use Rattle.paper.specs.rules.Table.{count, record_at}
 use Rattle.paper.specs.rules.Walk.{table_of}
-use Rattle.paper.specs.declared.Checked.{Checked}
-use Rattle.paper.specs.declared.Checked.TheVariants.{Accepted}
-use Rattle.paper.specs.declared.Joined.{Joined}
-use Rattle.paper.specs.declared.Joined.TheVariants.{Whole, FirstRefused, SecondRefused, OrdersDiffer, TooMany, TooLong, OutputShort}
 use Rattle.paper.specs.declared.Sized.{Sized}
 
-module _ {j : Joined} {a b : List ℕ} {places work : ℕ} {out index left output : List ℕ} (h : JoinOf j a b places work out index left output) where
+module _ {j : Result ℕ JoinError} {a b : List ℕ} {places work : ℕ} {out index left output : List ℕ} (h : JoinOf j a b places work out index left output) where
   -- both u32 slices end all 0, refused or not
   pub join-slices : (index ≡ zeros places) × (left ≡ zeros work)
   unfolding join
@@ -71,13 +71,13 @@ module _ {j : Joined} {a b : List ℕ} {places work : ℕ} {out index left outpu
 
   -- ── joined unless limits or lent slices forbid ──
 
-  pub joinable-joined : Joinable a b places work (length out) → j ≡ Whole (length (joined_bytes a b))
+  pub joinable-joined : Joinable a b places work (length out) → j ≡ Ok (length (joined_bytes a b))
   unfolding joined_as_paper
   joinable-joined g =
-      joined-one j (Whole (length (joined_bytes a b)))
+      joined-one j (Ok (length (joined_bytes a b)))
       (h.answers ∙ ap (λ (o : JoinOutcome). o.answer) (join-made a b places work out (joinable-join_refusal a b places work (length out) g)))
 
-  module _ (n : ℕ) (p : j ≡ Whole n) where
+  module _ (n : ℕ) (p : j ≡ Ok n) where
     told : (join_refusal a b places work (length out) ≡ none) × (n ≡ length (joined_bytes a b))
     told = joined-whole a b places work out (ap joined_as_paper (sym p) ∙ h.answers)
 
@@ -100,13 +100,13 @@ module _ {j : Joined} {a b : List ℕ} {places work : ℕ} {out index left outpu
 
     module _ (x : Bytes a) (y : Bytes b) where
       -- what was joined is accepted by `check`, with as many types as both have
-      pub joined-checked : {c : Checked} {places' work' : ℕ} {index' left' : List ℕ} → CheckOf c (take n output) places' work' index' left'
+      pub joined-checked : {c : Result ℕ Report} {places' work' : ℕ} {index' left' : List ℕ} → CheckOf c (take n output) places' work' index' left'
           → count (table_of a) + count (table_of b) < places' → count (table_of a) + count (table_of b) < work'
-          → c ≡ Accepted (count (table_of a) + count (table_of b))
+          → c ≡ Ok (count (table_of a) + count (table_of b))
       joined-checked {c} {places'} {work'} {index'} {left'} k enough enough' =
           paper-accepted (subst (λ (s : List ℕ). CheckOf c s places' work' index' left') joined-bytes k)
           (accepted-meets (joined_bytes a b) places' work' (join-accepted a b x y places work (length out) told.0 places' work' enough enough'))
-          ∙ ap Accepted (join-count a b x y places work (length out) told.0)
+          ∙ ap Ok (join-count a b x y places work (length out) told.0)
 
       -- the first's records stand unchanged, the second's are raised
       pub joined-first : (t : ℕ) → t ≤ count (table_of a) → record_at (table_of (take n output)) t ≡ record_at (table_of a) t
@@ -125,8 +125,8 @@ module _ {j : Joined} {a b : List ℕ} {places work : ℕ} {out index left outpu
           ap (λ (s : List ℕ). name_at s (raise (str_len a - 1) k)) joined-bytes ∙ join-named-second a b x y places work (length out) told.0 k l
 
       -- and every size: what `size` answers after a check of what was joined is what it answers after a check of the part, each with slices of its own
-      module _ {c : Checked} {places' work' : ℕ} {index' left' : List ℕ} (k : CheckOf c (take n output) places' work' index' left') (m : ℕ)
-          (q : c ≡ Accepted m) where
+      module _ {c : Result ℕ Report} {places' work' : ℕ} {index' left' : List ℕ} (k : CheckOf c (take n output) places' work' index' left') (m : ℕ)
+          (q : c ≡ Ok m) where
         sized : (t : ℕ) → t ≤ count (table_of a) + count (table_of b) → (s : Sized) → sized_as_paper s ≡ size_of (take n output) index' t
             → sized_as_paper s ≡ answer_of (exact_size (table_of (joined_bytes a b)) t)
         sized t high s e =
@@ -136,7 +136,7 @@ module _ {j : Joined} {a b : List ℕ} {places work : ℕ} {out index left outpu
             (omega (arith, accepted-count whole m q, join-count a b x y places work (length out) told.0)) s
             (e ∙ ap (λ (o : List ℕ). size_of o index' t) joined-bytes)
 
-        pub joined-sizes-first : {d : Checked} {places₁ work₁ : ℕ} {index₁ left₁ : List ℕ} → CheckOf d a places₁ work₁ index₁ left₁ → (n₁ : ℕ) → d ≡ Accepted n₁
+        pub joined-sizes-first : {d : Result ℕ Report} {places₁ work₁ : ℕ} {index₁ left₁ : List ℕ} → CheckOf d a places₁ work₁ index₁ left₁ → (n₁ : ℕ) → d ≡ Ok n₁
             → (t : ℕ) → t ≤ n₁ → (s s₁ : Sized) → sized_as_paper s ≡ size_of (take n output) index' t → sized_as_paper s₁ ≡ size_of a index₁ t → s ≡ s₁
         joined-sizes-first part n₁ p₁ t high s s₁ e e₁ =
             let counted = accepted-count part n₁ p₁ in
@@ -145,8 +145,8 @@ module _ {j : Joined} {a b : List ℕ} {places work : ℕ} {out index left outpu
             ∙ ap answer_of (join-size-first a b x y places work (length out) told.0 t (omega arith))
             ∙ sym (accepted-sizes part n₁ p₁ x t high s₁ e₁))
 
-        pub joined-sizes-second : {d : Checked} {places₂ work₂ : ℕ} {index₂ left₂ : List ℕ}
-            → CheckOf d b places₂ work₂ index₂ left₂ → (n₂ : ℕ) → d ≡ Accepted n₂
+        pub joined-sizes-second : {d : Result ℕ Report} {places₂ work₂ : ℕ} {index₂ left₂ : List ℕ}
+            → CheckOf d b places₂ work₂ index₂ left₂ → (n₂ : ℕ) → d ≡ Ok n₂
             → (t : ℕ) → t ≤ n₂ → (s s₂ : Sized) → sized_as_paper s ≡ size_of (take n output) index' (raise (count (table_of a)) t)
             → sized_as_paper s₂ ≡ size_of b index₂ t → s ≡ s₂
         joined-sizes-second part n₂ p₂ t high s s₂ e e₂ =
@@ -157,7 +157,7 @@ module _ {j : Joined} {a b : List ℕ} {places work : ℕ} {out index left outpu
             ∙ sym (accepted-sizes part n₂ p₂ y t high s₂ e₂))
 
 -- any two results that the contract allows are the same, slice by slice
-pub join_one : {j j' : Joined} {a b : List ℕ} {places work : ℕ} {out index index' left left' output output' : List ℕ}
+pub join_one : {j j' : Result ℕ JoinError} {a b : List ℕ} {places work : ℕ} {out index index' left left' output output' : List ℕ}
     → JoinOf j a b places work out index left output → JoinOf j' a b places work out index' left' output'
     → (j ≡ j') × (index ≡ index') × (left ≡ left') × (output ≡ output')
 join_one {j} {j'} h k =
@@ -167,23 +167,23 @@ join_one {j} {j'} h k =
 
 -- what a join in code hands back is what the paper's join of full size does
 module _ {a b out index left output : List ℕ} where
-  pub handed-full : (j : Joined) → JoinOf j a b full_places full_places out index left output → handed_back j output ≡ join_full out a b
+  pub handed-full : (j : Result ℕ JoinError) → JoinOf j a b full_places full_places out index left output → handed_back j output ≡ join_full out a b
   unfolding join_full joined_as_paper
   handed-full j h =
       by_answer j
       ∙ ap₂ (λ (x : Answer) (s : List ℕ). cond (eqb x.number 0) (some (take x.p s)) none) h.answers h.outputs
     where
-      by_answer : (k : Joined) → handed_back k output ≡ cond (eqb (joined_as_paper k).number 0) (some (take (joined_as_paper k).p output)) none
-      by_answer (Whole n) = refl
-      by_answer (FirstRefused r) = refl
-      by_answer (SecondRefused r) = refl
-      by_answer OrdersDiffer = refl
-      by_answer TooMany = refl
-      by_answer TooLong = refl
-      by_answer OutputShort = refl
+      by_answer : (k : Result ℕ JoinError) → handed_back k output ≡ cond (eqb (joined_as_paper k).number 0) (some (take (joined_as_paper k).p output)) none
+      by_answer (Ok n) = refl
+      by_answer (Err (FirstRefused r)) = refl
+      by_answer (Err (SecondRefused r)) = refl
+      by_answer (Err OrdersDiffer) = refl
+      by_answer (Err TooMany) = refl
+      by_answer (Err TooLong) = refl
+      by_answer (Err OutputShort) = refl
 
 -- a run of `join` with slices of full size, into an output that holds these bytes before it
-pub record FullJoin (out a b : List ℕ) (j : Joined) (output : List ℕ) : Type 0 where
+pub record FullJoin (out a b : List ℕ) (j : Result ℕ JoinError) (output : List ℕ) : Type 0 where
   pub full : length out ≡ byte_limit
   pub index : List ℕ
   pub left : List ℕ
@@ -197,7 +197,7 @@ then (some made) h = h made refl
 
 -- three blobs joined in either grouping, by whatever runs, give the same bytes, or both groupings refuse; a second join is run on what
 -- the first handed back, and not at all where it refused
-pub join-grouping : (a b c : List ℕ) → Bytes a → Bytes b → Bytes c → {j₁ j₂ j₃ j₄ : Joined} {o₁ o₂ o₃ o₄ out₁ out₂ out₃ out₄ : List ℕ}
+pub join-grouping : (a b c : List ℕ) → Bytes a → Bytes b → Bytes c → {j₁ j₂ j₃ j₄ : Result ℕ JoinError} {o₁ o₂ o₃ o₄ out₁ out₂ out₃ out₄ : List ℕ}
     → FullJoin o₁ a b j₁ out₁ → ((ab : List ℕ) → handed_back j₁ out₁ ≡ some ab → FullJoin o₂ ab c j₂ out₂)
     → FullJoin o₃ b c j₃ out₃ → ((bc : List ℕ) → handed_back j₃ out₃ ≡ some bc → FullJoin o₄ a bc j₄ out₄)
     → and_then (handed_back j₁ out₁) (λ (ab : List ℕ). handed_back j₂ out₂) ≡ and_then (handed_back j₃ out₃) (λ (bc : List ℕ). handed_back j₄ out₄)
@@ -209,13 +209,13 @@ join-grouping a b c x y z {j₁} {j₂} {j₃} {j₄} {o₁} {o₂} {o₃} {o₄
     ∙ sym (then (handed_back j₃ out₃) (λ bc q. handed-full j₄ (f₄ bc q).joins ∙ join_full-any o₄ o₃ a bc (f₄ bc q).full f₃.full))
 
 -- joined with the empty table, on either side, a table that a check has accepted, with whatever slices, comes back byte for byte
-module _ {b : List ℕ} (bytes : Bytes b) {c : Checked} {places work : ℕ} {index left : List ℕ} (k : CheckOf c b places work index left) (n : ℕ)
-    (p : c ≡ Accepted n) where
+module _ {b : List ℕ} (bytes : Bytes b) {c : Result ℕ Report} {places work : ℕ} {index left : List ℕ} (k : CheckOf c b places work index left) (n : ℕ)
+    (p : c ≡ Ok n) where
   -- slices of full size have places for every table
   full : refusal b full_places full_places ≡ none
   full = accepted-full b places work (meets-accepted b places work (accepted-paper k n p))
 
-  module _ {out : List ℕ} {j : Joined} {output : List ℕ} where
+  module _ {out : List ℕ} {j : Result ℕ JoinError} {output : List ℕ} where
     pub empty_left : FullJoin out (empty_blob (order_of b)) b j output → handed_back j output ≡ some b
     empty_left f = handed-full j f.joins ∙ join-empty-left out f.full b bytes full
 

@@ -1,5 +1,11 @@
 -- What the join answers at each way out: the two refusals, two orders, the three limits, and the joined length.
 -- Assumes nothing.
+use denote.Enum.Bare.{sameb}
+use Rattle.paper.specs.contracts.Order.{the_type}
+use Rattle.paper.specs.declared.Order.TheVariants.{LowFirst, HighFirst}
+use Rattle.std.specs.Prelude.{Err, Ok, Result, ℕ}
+use Rattle.paper.specs.declared.JoinError.TheVariants.{FirstRefused, OrdersDiffer, OutputShort, SecondRefused, TooLong, TooMany}
+use Rattle.paper.specs.declared.JoinError.{JoinError}
 use Prim.Native.Nat.{ℕ, ◌+◌, ◌-◌, ◌≤◌, ◌<◌}
 use mathlib.Core.Path.{◌≡◌, refl, sym, ap, ap₂, ◌∙◌}
 use mathlib.Core.Bool.{Bool, true, false, not}
@@ -28,12 +34,16 @@ use Rattle.paper.specs.rules.Table.{count}
 use Rattle.paper.specs.rules.Walk.{table_of}
 use Rattle.paper.specs.rules.Word.{same_order}
 use Rattle.paper.specs.declared.Order.{Order}
-use Rattle.paper.specs.declared.Checked.TheVariants.{Accepted, Refused}
-use Rattle.paper.specs.declared.Joined.{Joined}
-use Rattle.paper.specs.declared.Joined.TheVariants.{Whole, FirstRefused, SecondRefused, OrdersDiffer, TooMany, TooLong, OutputShort}
 use Rattle.paper.specs.declared.Report.{Report}
 
 -- ── two accepted tables ──
+
+-- what a derived `!=` asks of two orders
+pub same-as : (o q : Order) → sameb the_type o q ≡ same_order o q
+same-as LowFirst LowFirst = refl
+same-as LowFirst HighFirst = refl
+same-as HighFirst LowFirst = refl
+same-as HighFirst HighFirst = refl
 
 module _ {a b : List ℕ} {n m : ℕ} (h : BothAccepted a b n m) where
   -- the joined length is both lengths less 25
@@ -63,53 +73,53 @@ module _ {a b : List ℕ} {n m : ℕ} (h : BothAccepted a b n m) where
     asked = sym (join_refusal-limits a b h.places h.work (length out) h.first h.second)
 
     -- a limit that is passed leaves the output as it was
-    passed : (j : Joined) → join_refusal a b h.places h.work (length out) ≡ some (joined_as_paper j) → LimitedOf j a b out out
+    passed : (j : Result ℕ JoinError) → join_refusal a b h.places h.work (length out) ≡ some (joined_as_paper j) → LimitedOf j a b out out
     unfolding limited
     passed j e =
         let said = ap (join_outcome (joined_bytes a b) 0 0 out) (asked ∙ e) in
         record { answers = ap (λ (o : JoinOutcome). o.answer) (sym said); outputs = ap (λ (o : JoinOutcome). o.output) (sym said) }
 
     -- the test of both orders, from what the code asks
-    pub two-orders : {s : Bool} {o q : Order} → s ≡ same_order o q → o ≡ order_of a → q ≡ order_of b → not s ≡ true → LimitedOf OrdersDiffer a b out out
+    pub two-orders : {s : Bool} {o q : Order} → s ≡ same_order o q → o ≡ order_of a → q ≡ order_of b → not s ≡ true → LimitedOf (Err OrdersDiffer) a b out out
     unfolding joined_as_paper
     two-orders {s} asked is-a is_b differ =
-        passed OrdersDiffer (join-24 a b h.places h.work (length out) h.first h.second
+        passed (Err OrdersDiffer) (join-24 a b h.places h.work (length out) h.first h.second
         (sym (λ i. same_order (is-a i) (is_b i)) ∙ sym asked ∙ not-true s differ))
 
     pub one-order : {s : Bool} {o q : Order} → s ≡ same_order o q → o ≡ order_of a → q ≡ order_of b → not s ≡ false → order_of a ≡ order_of b
     one-order {s} {o} {q} asked is-a is_b same = sym is-a ∙ same_order-true o q (sym asked ∙ not-false s same) ∙ is_b
 
     module _ (ordered : order_of a ≡ order_of b) where
-      pub limit-types : type_limit < n + m → LimitedOf TooMany a b out out
+      pub limit-types : type_limit < n + m → LimitedOf (Err TooMany) a b out out
       unfolding joined_as_paper
       limit-types l =
-          passed TooMany (join-18 a b h.places h.work (length out) h.first h.second ordered (omega (arith, h.first_count, h.second_count)))
+          passed (Err TooMany) (join-18 a b h.places h.work (length out) h.first h.second ordered (omega (arith, h.first_count, h.second_count)))
 
       module _ (few : n + m ≤ type_limit) where
         few-types : count (table_of a) + count (table_of b) ≤ type_limit
         few-types = omega (arith, h.first_count, h.second_count)
 
-        pub limit-bytes : {len : ℕ} → len ≡ length a + length b - 25 → byte_limit < len → LimitedOf TooLong a b out out
+        pub limit-bytes : {len : ℕ} → len ≡ length a + length b - 25 → byte_limit < len → LimitedOf (Err TooLong) a b out out
         unfolding joined_as_paper
         limit-bytes e l =
-            passed TooLong (join-19 a b h.places h.work (length out) h.first h.second ordered few-types (omega (arith, length-joined)))
+            passed (Err TooLong) (join-19 a b h.places h.work (length out) h.first h.second ordered few-types (omega (arith, length-joined)))
 
         module _ {len : ℕ} (e : len ≡ length a + length b - 25) (short : len ≤ byte_limit) where
           long : length (joined_bytes a b) ≡ len
           long = omega (arith, length-joined)
 
-          pub limit-room : length out < len → LimitedOf OutputShort a b out out
+          pub limit-room : length out < len → LimitedOf (Err OutputShort) a b out out
           unfolding joined_as_paper
           limit-room l =
               let j = long in
-              passed OutputShort (join-20 a b h.places h.work (length out) h.first h.second ordered few-types (omega arith) (omega arith))
+              passed (Err OutputShort) (join-20 a b h.places h.work (length out) h.first h.second ordered few-types (omega arith) (omega arith))
 
           module _ (room : len ≤ length out) where
             pub write-ask : {size : ℕ} → size ≡ len → WriteAsk a b n m size
             write-ask s = let j = long in record { both = h; one-order = ordered; fits = omega arith; short = omega arith }
 
             -- nothing is in the way
-            pub limit-none : {part : List ℕ} → part ≡ joined_bytes a b → LimitedOf (Whole len) a b out (part ++ drop len out)
+            pub limit-none : {part : List ℕ} → part ≡ joined_bytes a b → LimitedOf (Ok len) a b out (part ++ drop len out)
             unfolding limited joined_as_paper
             limit-none {part} w =
                 let j = long in
@@ -125,8 +135,8 @@ module _ {a b : List ℕ} {n m : ℕ} (h : BothAccepted a b n m) where
 
 module _ (a b : List ℕ) (places work : ℕ) where
   -- 16: the first is refused
-  pub first-refused : {r : Report} {index works : List ℕ} (out : List ℕ) → CheckOf (Refused r) a places work index works
-      → JoinOf (FirstRefused r) a b places work out index works out
+  pub first-refused : {r : Report} {index works : List ℕ} (out : List ℕ) → CheckOf (Err r) a places work index works
+      → JoinOf (Err (FirstRefused r)) a b places work out index works out
   unfolding joined_as_paper
   first-refused {r} {index} {works} out c =
       let said = checked_refused a places work r c.told.answers in
@@ -139,13 +149,13 @@ module _ (a b : List ℕ) (places work : ℕ) where
         outputs = ap (λ (o : JoinOutcome). o.output) (sym whole);
       }
 
-  module _ {n : ℕ} {index works : List ℕ} (c : CheckOf (Accepted n) a places work index works) where
+  module _ {n : ℕ} {index works : List ℕ} (c : CheckOf (Ok n) a places work index works) where
     first-none : refusal a places work ≡ none
     first-none = (checked-accepted a places work c.told.answers).0
 
     -- 17: the second is refused
-    pub second-refused : {r : Report} {index₂ works₂ : List ℕ} (out : List ℕ) → CheckOf (Refused r) b places work index₂ works₂
-        → JoinOf (SecondRefused r) a b places work out index₂ works₂ out
+    pub second-refused : {r : Report} {index₂ works₂ : List ℕ} (out : List ℕ) → CheckOf (Err r) b places work index₂ works₂
+        → JoinOf (Err (SecondRefused r)) a b places work out index₂ works₂ out
     unfolding joined_as_paper
     second-refused {r} out d =
         let said = checked_refused b places work r d.told.answers in
@@ -158,7 +168,7 @@ module _ (a b : List ℕ) (places work : ℕ) where
           outputs = ap (λ (o : JoinOutcome). o.output) (sym whole);
         }
 
-    module _ {m : ℕ} {index₂ works₂ : List ℕ} (d : CheckOf (Accepted m) b places work index₂ works₂) where
+    module _ {m : ℕ} {index₂ works₂ : List ℕ} (d : CheckOf (Ok m) b places work index₂ works₂) where
       second_none : refusal b places work ≡ none
       second_none = (checked-accepted b places work d.told.answers).0
 
@@ -176,7 +186,7 @@ module _ (a b : List ℕ) (places work : ℕ) where
           }
 
       -- then the limits decide, and both slices end all 0
-      pub limits-decide : {j : Joined} {out output index₃ : List ℕ} → index₃ ≡ zeros places → LimitedOf j a b out output
+      pub limits-decide : {j : Result ℕ JoinError} {out output index₃ : List ℕ} → index₃ ≡ zeros places → LimitedOf j a b out output
           → JoinOf j a b places work out index₃ works₂ output
       unfolding limited join
       limits-decide {j} {out} {output} cleared l =

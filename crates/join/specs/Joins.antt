@@ -1,5 +1,7 @@
 -- What the join asks of its parts, answers and leaves, in the paper's terms.
-use Rattle.std.specs.Prelude.{ℕ, ◌≤◌, ◌≡◌, List, length, take}
+use Rattle.paper.specs.declared.JoinError.TheVariants.{FirstRefused, OrdersDiffer, OutputShort, SecondRefused, TooLong, TooMany}
+use Rattle.paper.specs.declared.JoinError.{JoinError}
+use Rattle.std.specs.Prelude.{ℕ, ◌≤◌, ◌≡◌, List, length, take, Err, Ok, Result}
 use Rattle.std.proofs.Math.Option.{Option, none, some}
 use Rattle.paper.specs.rules.Answer.{joined_as_paper}
 use Rattle.paper.specs.terms.Fit.{Bytes}
@@ -9,8 +11,6 @@ use Rattle.paper.specs.rules.Join.{joined_bytes, limit_report, JoinOutcome, join
 use Rattle.paper.specs.rules.Limits.{byte_limit}
 use Rattle.paper.specs.rules.Table.{count}
 use Rattle.paper.specs.rules.Walk.{table_of}
-use Rattle.paper.specs.declared.Joined.{Joined}
-use Rattle.paper.specs.declared.Joined.TheVariants.{Whole, FirstRefused, SecondRefused, OrdersDiffer, TooMany, TooLong, OutputShort}
 
 -- two blobs of n and m types, both accepted with some places lent
 pub record BothAccepted (a b : List ℕ) (n m : ℕ) : Type 0 where
@@ -34,23 +34,23 @@ pub record WriteAsk (a b : List ℕ) (n m room : ℕ) : Type 0 where
 unfoldable pub limited : List ℕ → List ℕ → List ℕ → JoinOutcome
 limited a b out = join_outcome (joined_bytes a b) 0 0 out (limit_report a b (length out))
 
-pub record LimitedOf (r : Joined) (a b out output : List ℕ) : Type 0 where
+pub record LimitedOf (r : Result ℕ JoinError) (a b out output : List ℕ) : Type 0 where
   pub answers : joined_as_paper r ≡ (limited a b out).answer
   pub outputs : output ≡ (limited a b out).output
 
 -- the answer and all three slices afterwards are those of the paper's join, into an output of these bytes
-pub record JoinOf (r : Joined) (a b : List ℕ) (places work_places : ℕ) (out index work output : List ℕ) : Type 0 where
+pub record JoinOf (r : Result ℕ JoinError) (a b : List ℕ) (places work_places : ℕ) (out index work output : List ℕ) : Type 0 where
   pub answers : joined_as_paper r ≡ (join a b places work_places out).answer
   pub indexes : index ≡ (join a b places work_places out).index
   pub works : work ≡ (join a b places work_places out).work
   pub outputs : output ≡ (join a b places work_places out).output
 
 -- the bytes that a join hands back in its output, nothing where it refuses
-abbrev pub handed_back : Joined → List ℕ → Option (List ℕ)
-handed_back (Whole n) output = some (take n output)
-handed_back (FirstRefused r) output = none
-handed_back (SecondRefused r) output = none
-handed_back OrdersDiffer output = none
-handed_back TooMany output = none
-handed_back TooLong output = none
-handed_back OutputShort output = none
+abbrev pub handed_back : Result ℕ JoinError → List ℕ → Option (List ℕ)
+handed_back (Ok n) output = some (take n output)
+handed_back (Err (FirstRefused r)) output = none
+handed_back (Err (SecondRefused r)) output = none
+handed_back (Err OrdersDiffer) output = none
+handed_back (Err TooMany) output = none
+handed_back (Err TooLong) output = none
+handed_back (Err OutputShort) output = none

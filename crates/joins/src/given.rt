@@ -1,6 +1,6 @@
 // The tables of a call are arguments: a name is fetched where it is needed, so that no more than one waits.
 use files::arg;
-use lines::{Out, ROOM, put_file};
+use lines::Out;
 use texts::first_of;
 
 // As many tables as one call joins.
@@ -24,8 +24,8 @@ pub fn out_of(given: Given) -> usize {
 }
 
 // A file's name, by its argument.
-pub(crate) fn put_word(rt: &HostRuntime, buf: &mut [u8; ROOM], o: Out, i: usize) -> Out {
+pub(crate) fn put_word(rt: &HostRuntime, out: &mut Out, i: usize) {
     let mut s = [0u8; 4096];
     let n = arg(rt, i, &mut s);
-    put_file(buf, o, first_of(&s, n))
+    out.put_file(first_of(&s, n));
 }

@@ -35,18 +35,13 @@ fn name_bytes(blob: &[u8], at: u32) -> &[u8] {
 
 // Up to a zero byte, which both must have, two parts hold the same.
 fn same_until_zero(s: &[u8], z: &[u8]) -> bool {
-    let mut k = 0;
-    while k < s.len() {
-        if z.len() <= k {
+    for (a, b) in s.iter().zip(z) {
+        if *a != *b {
             return false;
         }
-        if s[k] != z[k] {
-            return false;
-        }
-        if s[k] == 0 {
+        if *a == 0 {
             return true;
         }
-        k += 1;
     }
     false
 }
@@ -55,6 +50,7 @@ pub(crate) fn same_name(blob: &[u8], i: u32, j: u32) -> bool {
     same_until_zero(name_bytes(blob, i), name_bytes(blob, j))
 }
 
+// By their numbers: a match over each pair of answers would say no more.
 fn same_size(s: Sized, z: Sized) -> bool {
     let one = of_sized(s);
     let other = of_sized(z);
@@ -115,17 +111,11 @@ fn same_tail(blob: &[u8], index: &[u32], n: u32, r: &[u8], s: &[u8]) -> bool {
     let order = words::order_of(blob);
     let info = info_of(order, r);
     let kind = kind_of(info);
-    let left = tail_words(info);
-    let mut i: u32 = 0;
-    while i < left {
+    (0..tail_words(info)).all(|i| {
         let w = word_behind(order, r, i);
         let v = word_behind(order, s, i);
-        if !same_word(blob, index, n, role_of(kind, i), w, v) {
-            return false;
-        }
-        i += 1;
-    }
-    true
+        same_word(blob, index, n, role_of(kind, i), w, v)
+    })
 }
 
 // Two records say the same.

@@ -1,31 +1,24 @@
 // One table after another is read and joined to those before it. How they are grouped makes no difference to a byte (`join-brackets`).
 use crate::given::{Given, TABLES, word_of};
 use crate::refusals::unjoined;
-use files::{READ_LIMIT, Read, Status, append, arg, read_file};
-use paper::{BYTE_LIMIT, FULL_PLACES, Joined};
+use files::{READ_LIMIT, Status, append, arg, read_file};
+use paper::{BYTE_LIMIT, FULL_PLACES};
 use tables::count;
 use texts::first_of;
 
 // So many tables have a place for what is known of each.
 pub(crate) const KEPT: usize = TABLES as usize;
 
-// What is joined so far has so many bytes; or how the call has ended without it.
-#[derive(Clone, Copy)]
-pub(crate) enum Step {
-    Whole(usize),
-    Ended(Status),
-}
-
-// The file of a table, counted from 0.
+// How many bytes the file of a table has, counted from 0.
 pub(crate) fn read_table(
     rt: &HostRuntime,
     given: Given,
     k: u32,
     blob: &mut [u8; READ_LIMIT],
-) -> Read {
+) -> Result<usize, Status> {
     let mut s = [0u8; 4096];
     let n = arg(rt, word_of(given, k), &mut s);
-    read_file(rt, first_of(&s, n), blob)
+    read_file(rt, first_of(&s, n), blob).ok_or(Status::Failed)
 }
 
 // How many types stand before a table is kept.
@@ -36,7 +29,8 @@ fn keep(before: &mut [u32; KEPT], k: u32, n: u32) {
     }
 }
 
-// The next table is joined to the first bytes of `all`, which the joined table then takes the place of.
+// The next table is joined to the first bytes of `all`, which the joined table then takes the place of. How many bytes that has is answered;
+// an error is how the call has ended without it.
 fn join_next(
     rt: &HostRuntime,
     given: Given,
@@ -47,12 +41,12 @@ fn join_next(
     joined: &mut [u8; BYTE_LIMIT],
     index: &mut [u32; FULL_PLACES],
     work: &mut [u32; FULL_PLACES],
-) -> Step {
+) -> Result<usize, Status> {
     let answer = join::join(first_of(all, n), next, index, work, joined);
-    if let Joined::Whole(len) = answer {
-        return Step::Whole(append(all, 0, first_of(joined, len as usize)));
+    if let Ok(len) = answer {
+        return Ok(append(all, 0, first_of(joined, len as usize)));
     }
-    Step::Ended(unjoined(rt, answer, given, k, first_of(all, n), next))
+    Err(unjoined(rt, answer, given, k, first_of(all, n), next))
 }
 
 // The next table is read, and how many types stand before it is kept.
@@ -67,11 +61,8 @@ fn read_and_join(
     index: &mut [u32; FULL_PLACES],
     work: &mut [u32; FULL_PLACES],
     before: &mut [u32; KEPT],
-) -> Step {
-    let read = read_table(rt, given, k, next);
-    if !read.is_read {
-        return Step::Ended(Status::Failed);
-    }
+) -> Result<usize, Status> {
+    let len = read_table(rt, given, k, next)?;
     keep(before, k, count(first_of(all, n), index));
     join_next(
         rt,
@@ -79,7 +70,7 @@ fn read_and_join(
         k,
         all,
         n,
-        first_of(next, read.n),
+        first_of(next, len),
         joined,
         index,
         work,
@@ -97,16 +88,10 @@ pub(crate) fn join_rest(
     index: &mut [u32; FULL_PLACES],
     work: &mut [u32; FULL_PLACES],
     before: &mut [u32; KEPT],
-) -> Step {
-    let count = given.count;
+) -> Result<usize, Status> {
     let mut n = n;
-    let mut k: u32 = 1;
-    while k < count {
-        match read_and_join(rt, given, k, all, n, next, joined, index, work, before) {
-            Step::Ended(status) => return Step::Ended(status),
-            Step::Whole(len) => n = len,
-        }
-        k += 1;
+    for k in 1..given.count {
+        n = read_and_join(rt, given, k, all, n, next, joined, index, work, before)?;
     }
-    Step::Whole(n)
+    Ok(n)
 }

@@ -4,7 +4,7 @@ use crate::given::{Given, out_of, put_word, word_of};
 use crate::same::{record_at, same_name, same_record};
 use crate::steps::KEPT;
 use kindrows::{DATASEC, DECL_TAG, TYPE_TAG};
-use lines::{Out, ROOM, STDERR_FILENO, flush, put, put_with};
+use lines::{Out, STDERR_FILENO};
 use paper::Order;
 use rows::{info_of, kind_of, name_of};
 use titles::put_record;
@@ -40,31 +40,24 @@ fn is_twin(blob: &[u8], order: Order, r: &[u8], s: &[u8]) -> bool {
     same_name(blob, i.0, j.0)
 }
 
-// The first type of a table that has the kind and name of one before it, where there is one and none of them says the same; else 0.
-fn twin_of(blob: &[u8], index: &[u32], n: u32, own: Own, t: u32) -> u32 {
+// The first type of a table that has the kind and name of one before it, where there is one and none of them says the same.
+fn twin_of(blob: &[u8], index: &[u32], n: u32, own: Own, t: u32) -> Option<u32> {
     let r = record_at(blob, index, n, t);
     let order = words::order_of(blob);
     let at = name_of(order, r);
-    if at.0 == 0 {
-        return 0;
+    if at.0 == 0 || !is_titled(kind_of(info_of(order, r))) {
+        return None;
     }
-    if !is_titled(kind_of(info_of(order, r))) {
-        return 0;
-    }
-    let last = own.last;
-    let mut first: u32 = 0;
+    let mut first = None;
     let mut left = LOOKS;
-    let mut u = own.before;
-    while u < last {
-        u += 1;
+    for k in own.before..own.last {
+        let u = k + 1;
         let s = record_at(blob, index, n, u);
         if is_twin(blob, order, r, s) {
             if same_record(blob, index, n, r, s) {
-                return 0;
+                return None;
             }
-            if first == 0 {
-                first = u;
-            }
+            first = first.or(Some(u));
             left -= 1;
             if left == 0 {
                 return first;
@@ -75,55 +68,44 @@ fn twin_of(blob: &[u8], index: &[u32], n: u32, own: Own, t: u32) -> u32 {
 }
 
 // "scrieve: note: the tables differ in STRUCT blade: type 2 of A, type 3 of B", by the numbers that the two have in their own tables.
-fn put_pair(
-    rt: &HostRuntime,
-    buf: &mut [u8; ROOM],
-    o: Out,
-    given: Given,
-    blob: &[u8],
-    r: &[u8],
-    t: u32,
-    u: u32,
-) -> Out {
-    let o = put(buf, o, b"scrieve: note: the tables differ in ");
-    let o = put_record(buf, o, blob, r);
-    let o = put_with(buf, o, b": type ", t as u64);
-    let o = put(buf, o, b" of ");
-    let o = put_word(rt, buf, o, word_of(given, 0));
-    let o = put_with(buf, o, b", type ", u as u64);
-    let o = put(buf, o, b" of ");
-    let o = put_word(rt, buf, o, word_of(given, 1));
-    put(buf, o, b"\n")
+fn put_pair(rt: &HostRuntime, out: &mut Out, given: Given, blob: &[u8], r: &[u8], t: u32, u: u32) {
+    out.put(b"scrieve: note: the tables differ in ");
+    put_record(out, blob, r);
+    out.put_with(b": type ", t as u64);
+    out.put(b" of ");
+    put_word(rt, out, word_of(given, 0));
+    out.put_with(b", type ", u as u64);
+    out.put(b" of ");
+    put_word(rt, out, word_of(given, 1));
+    out.put(b"\n");
 }
 
 // "scrieve: note: C differs from the tables before it in STRUCT blade: types 2 and 7 of OUT"
 fn put_later(
     rt: &HostRuntime,
-    buf: &mut [u8; ROOM],
-    o: Out,
+    out: &mut Out,
     given: Given,
     k: u32,
     blob: &[u8],
     r: &[u8],
     t: u32,
     u: u32,
-) -> Out {
-    let o = put(buf, o, b"scrieve: note: ");
-    let o = put_word(rt, buf, o, word_of(given, k));
-    let o = put(buf, o, b" differs from the tables before it in ");
-    let o = put_record(buf, o, blob, r);
-    let o = put_with(buf, o, b": types ", t as u64);
-    let o = put_with(buf, o, b" and ", u as u64);
-    let o = put(buf, o, b" of ");
-    let o = put_word(rt, buf, o, out_of(given));
-    put(buf, o, b"\n")
+) {
+    out.put(b"scrieve: note: ");
+    put_word(rt, out, word_of(given, k));
+    out.put(b" differs from the tables before it in ");
+    put_record(out, blob, r);
+    out.put_with(b": types ", t as u64);
+    out.put_with(b" and ", u as u64);
+    out.put(b" of ");
+    put_word(rt, out, out_of(given));
+    out.put(b"\n");
 }
 
 // A type of the table k and one before it differ: of two tables each has its own number, of more the joined table's.
 fn put_note(
     rt: &HostRuntime,
-    buf: &mut [u8; ROOM],
-    o: Out,
+    out: &mut Out,
     given: Given,
     k: u32,
     blob: &[u8],
@@ -131,51 +113,47 @@ fn put_note(
     before: u32,
     t: u32,
     u: u32,
-) -> Out {
+) {
     if given.count == 2 {
         if before <= u {
-            return put_pair(rt, buf, o, given, blob, r, t, u - before);
+            put_pair(rt, out, given, blob, r, t, u - before);
+            return;
         }
     }
-    put_later(rt, buf, o, given, k, blob, r, t, u)
+    put_later(rt, out, given, k, blob, r, t, u);
 }
 
-fn put_others(buf: &mut [u8; ROOM], o: Out, found: u32) -> Out {
+fn put_others(out: &mut Out, found: u32) {
     if found <= NOTES {
-        return o;
+        return;
     }
-    let o = put_with(buf, o, b"scrieve: note: and in ", (found - NOTES) as u64);
-    put(buf, o, b" more\n")
+    out.put_with(b"scrieve: note: and in ", (found - NOTES) as u64);
+    out.put(b" more\n");
 }
 
 // A note for each type before the table k that has such a twin in it, at most so many.
 fn put_twins(
     rt: &HostRuntime,
-    buf: &mut [u8; ROOM],
-    o: Out,
+    out: &mut Out,
     given: Given,
     k: u32,
     blob: &[u8],
     index: &[u32],
     n: u32,
     own: Own,
-) -> Out {
+) {
     let before = own.before;
-    let mut o = o;
-    let mut t: u32 = 0;
     let mut found: u32 = 0;
-    while t < before {
-        t += 1;
-        let u = twin_of(blob, index, n, own, t);
-        if u != 0 {
+    for t in 1..=before {
+        if let Some(u) = twin_of(blob, index, n, own, t) {
             if found < NOTES {
                 let r = record_at(blob, index, n, t);
-                o = put_note(rt, buf, o, given, k, blob, r, before, t, u);
+                put_note(rt, out, given, k, blob, r, before, t, u);
             }
-            found += 1;
+            found = found.saturating_add(1);
         }
     }
-    put_others(buf, o, found)
+    put_others(out, found);
 }
 
 // How many types stand before the table k: before the end all of them.
@@ -198,17 +176,13 @@ pub(crate) fn note_twins(
     n: u32,
     before: &[u32; KEPT],
 ) {
-    let mut buf = [0u8; ROOM];
-    let mut o = lines::to(STDERR_FILENO);
-    let count = given.count;
-    let mut k: u32 = 0;
-    while k < count {
+    let mut out = Out::to(STDERR_FILENO);
+    for k in 0..given.count {
         let own = Own {
             before: types_before(before, given, k, n),
             last: types_before(before, given, k + 1, n),
         };
-        o = put_twins(rt, &mut buf, o, given, k, blob, index, n, own);
-        k += 1;
+        put_twins(rt, &mut out, given, k, blob, index, n, own);
     }
-    flush(&mut buf, o);
+    out.flush();
 }

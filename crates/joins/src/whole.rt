@@ -1,35 +1,17 @@
 // All tables of a call are joined, and the joined one is saved.
 use crate::given::{Given, out_of};
-use crate::steps::{KEPT, Step, join_rest, read_table};
+use crate::steps::{KEPT, join_rest, read_table};
 use crate::twins::note_twins;
-use files::{READ_LIMIT, Status, arg, end, save};
-use lines::{ROOM, STDOUT_FILENO};
+use files::{READ_LIMIT, Status, arg};
 use paper::{BYTE_LIMIT, FULL_PLACES};
-use tables::{count, put_made};
+use tables::{count, saved};
 use texts::first_of;
 
-// The joined table is saved under a name, and the answer says how large it is.
-fn saved_as(rt: &HostRuntime, name: &[u8], joined: &[u8], n: u32) -> Status {
-    if !save(rt, name, joined) {
-        return Status::Failed;
-    }
-    let mut buf = [0u8; ROOM];
-    let o = put_made(
-        &mut buf,
-        lines::to(STDOUT_FILENO),
-        name,
-        b": joined",
-        joined.len() as u64,
-        n,
-    );
-    end(&mut buf, o, Status::Done)
-}
-
-// The name is the argument behind the tables.
-fn saved(rt: &HostRuntime, given: Given, joined: &[u8], n: u32) -> Status {
+// The joined table is saved under the name that is the argument behind the tables.
+fn saved_out(rt: &HostRuntime, given: Given, joined: &[u8], n: u32) -> Status {
     let mut s = [0u8; 4096];
     let len = arg(rt, out_of(given), &mut s);
-    saved_as(rt, first_of(&s, len), joined, n)
+    saved(rt, first_of(&s, len), b": joined", joined, n)
 }
 
 // The whole join is saved, and then what the tables have in two shapes is told.
@@ -43,7 +25,7 @@ fn finish(
 ) -> Status {
     let joined = first_of(all, len);
     let n = count(joined, index);
-    let status = saved(rt, given, joined, n);
+    let status = saved_out(rt, given, joined, n);
     if let Status::Done = status {
         note_twins(rt, given, joined, index, n, before);
     }
@@ -68,17 +50,16 @@ fn join_behind(rt: &HostRuntime, given: Given, all: &mut [u8; READ_LIMIT], n: us
         &mut work,
         &mut before,
     ) {
-        Step::Ended(status) => status,
-        Step::Whole(len) => finish(rt, given, all, len, &mut index, &before),
+        Err(status) => status,
+        Ok(len) => finish(rt, given, all, len, &mut index, &before),
     }
 }
 
 // The files are read, joined from the left and saved as one.
 pub fn join_files(rt: &HostRuntime, given: Given) -> Status {
     let mut all = [0u8; READ_LIMIT];
-    let read = read_table(rt, given, 0, &mut all);
-    if !read.is_read {
-        return Status::Failed;
+    match read_table(rt, given, 0, &mut all) {
+        Err(status) => status,
+        Ok(n) => join_behind(rt, given, &mut all, n),
     }
-    join_behind(rt, given, &mut all, read.n)
 }

@@ -6,7 +6,7 @@ mod out; // a table is read, and its list saved
 mod text_in; // a text is read, and its table saved
 mod text_out; // a table is read, and its text saved
 mod text_told; // why a text is no table's
-mod told; // what is saved, or why nothing is
+mod told; // why nothing is saved
 
 pub use back::make_file;
 pub use out::list_file;

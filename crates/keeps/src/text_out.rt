@@ -1,12 +1,11 @@
 // A table is read, and its text is saved.
 use crate::text_told::long_text;
-use crate::told::saved;
 use answers::of_report;
 use files::{READ_LIMIT, Status, read_file};
 use lines::STDERR_FILENO;
-use list_text::{Taken, put_text, take_text};
-use paper::{BYTE_LIMIT, Checked, FULL_PLACES};
-use tables::refused;
+use list_text::{put_text, take_text};
+use paper::{BYTE_LIMIT, FULL_PLACES};
+use tables::{refused, saved};
 use texts::first_of;
 
 // As many bytes as a text may have. It is for people. The prover takes no array that is as long: it is lent in two halves, and is one slice.
@@ -19,8 +18,8 @@ fn says(text: &[u8], blob: &[u8]) -> bool {
     let mut strings = [0u8; BYTE_LIMIT];
     let mut table = [0u8; BYTE_LIMIT];
     match take_text(text, &mut strings, &mut table) {
-        Taken::Table(n) => check::same(first_of(&table, n), blob),
-        Taken::Fault(_) => false,
+        Ok(n) => check::same(first_of(&table, n), blob),
+        Err(_) => false,
     }
 }
 
@@ -33,10 +32,9 @@ fn save_in(
     n: u32,
     text: &mut [u8],
 ) -> Status {
-    let len = put_text(blob, text);
-    if len == 0 {
+    let Some(len) = put_text(blob, text) else {
         return long_text(file);
-    }
+    };
     let s = first_of(text, len);
     if !says(s, blob) {
         io::write_all(
@@ -57,16 +55,15 @@ fn text_table(rt: &HostRuntime, file: &[u8], blob: &[u8], out: &[u8]) -> Status 
     let mut index = [0u32; FULL_PLACES];
     let mut work = [0u32; FULL_PLACES];
     match gate::check(blob, &mut index, &mut work) {
-        Checked::Refused(r) => refused(false, file, blob, &mut index, of_report(r)),
-        Checked::Accepted(n) => save_text(rt, file, blob, out, n),
+        Err(r) => refused(false, file, blob, &mut index, of_report(r)),
+        Ok(n) => save_text(rt, file, blob, out, n),
     }
 }
 
 pub fn list_text_file(rt: &HostRuntime, file: &[u8], out: &[u8]) -> Status {
     let mut blob = [0u8; READ_LIMIT];
-    let read = read_file(rt, file, &mut blob);
-    if !read.is_read {
+    let Some(n) = read_file(rt, file, &mut blob) else {
         return Status::Failed;
-    }
-    text_table(rt, file, first_of(&blob, read.n), out)
+    };
+    text_table(rt, file, first_of(&blob, n), out)
 }

@@ -1,6 +1,7 @@
 // The kinds by their names.
 
-// Kinds 1 to 19, by the paper's names.
+// Kinds 1 to 19, by the paper's names. Numbers and no enum: an info word of any bytes has one of 32, and what is promised of a kind (`kind_of`,
+// `head_row`, `tail_row`) is promised of the 13 too that are none.
 pub const INT: u32 = 1;
 
 pub const PTR: u32 = 2;

@@ -1,5 +1,6 @@
 -- Laws of members: a member's span by what is read of it, and what is left of the members of a struct or a union.
 -- Assumes nothing.
+use Rattle.std.specs.Prelude.{Option as RustOption, ℕ}
 use Prim.Native.Nat.{ℕ, zero, suc, ◌+◌, ◌-◌, ◌*◌, ◌<◌, ◌≤◌}
 use mathlib.Core.Path.{◌≡◌, refl, sym, ap, ◌∙◌}
 use mathlib.Core.Bool.{Bool, true, false, not, cond, ◌&&◌}
@@ -10,7 +11,6 @@ use borrow.Author.Tests.{ne_eqb, not-true, not-false}
 use lib.Dec.{eqb, leb}
 use Rattle.rows.proofs.RecordWords.{tail-read}
 use Rattle.spans.specs.Spanned.{member_at, typed, with_offset, span_with, span_as_paper}
-use Rattle.spans.specs.declared.Lies.{Lies}
 use Rattle.paper.proofs.basics.Choices.{and-false}
 use Rattle.paper.specs.rules.Choice.{every}
 use Rattle.paper.specs.rules.KindNo.{UNION}
@@ -51,7 +51,7 @@ unfolding span_told
 span-typed X flag m = typed-size X flag m (within (sized X m.type))
 
 -- a member's span is that of its type and its offset word
-pub span-read : (X : Recalled) (flag end : ℕ) (m : Member) {t : ℕ} → t ≡ m.type → {o : ℕ} → o ≡ m.offset → (l : Lies)
+pub span-read : (X : Recalled) (flag end : ℕ) (m : Member) {t : ℕ} → t ≡ m.type → {o : ℕ} → o ≡ m.offset → (l : RustOption (ℕ × ℕ))
     → span_as_paper l ≡ span_told X flag (typed t o) → {x : Bool} → x ≡ ends_by end (span_as_paper l) → x ≡ ends_by end (span_told X flag m)
 span-read X flag end m type offset l says d = d ∙ ap (ends_by end) (says ∙ (λ i. span_told X flag (typed (type i) (offset i))) ∙ span-typed X flag m)
 

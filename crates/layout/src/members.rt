@@ -9,7 +9,7 @@ use kindrows::UNION;
 use paper::{Place, Sized, TypeNo};
 use recall::{base_told, size_at};
 use rows::{flag_of, kind_of, tail_words};
-use spans::{Lies, bit_offset, span_ends, span_with};
+use spans::{bit_offset, span_ends, span_with};
 use views::{View, record_of};
 
 // The span of a member: of its type's size and base, as the slice tells them, and of its offset word.
@@ -22,7 +22,7 @@ fn span_told<'a>(
     flag: u32,
     t: TypeNo,
     offset: u32,
-) -> Lies
+) -> Option<(u64, u64)>
     ensures { span_as_paper result ≡ span_told (recalled base.now b.now index.now view memo.now) flag (typed t.0 offset) }
 {
     let order = view.order;
@@ -30,10 +30,10 @@ fn span_told<'a>(
     let under = record_of(base, b, index, view, a);
     match size_at(base, b, index, view, memo, under, a) {
         Sized::Exact(s) => span_with(order, under, flag, offset, s),
-        Sized::NoSize => Lies::Nowhere,
-        Sized::Overflow => Lies::Nowhere,
-        Sized::Lost => Lies::Nowhere,
-        Sized::TooFar => Lies::Nowhere,
+        Sized::NoSize => None,
+        Sized::Overflow => None,
+        Sized::Lost => None,
+        Sized::TooFar => None,
     }
 }
 
@@ -88,10 +88,10 @@ pub(crate) fn members_ok<'a>(
     let size = words::read(order, bytes, Place(8));
     let flag = flag_of(info);
     let kind = kind_of(info);
-    let mut p: u32 = 12;
-    let mut left = tail_words(info);
+    let n = tail_words(info) / 3;
     let mut before: u32 = 0;
-    while 3 <= left {
+    for i in 0..n {
+        let p = 12 + 12 * i;
         if !member_ok(base, b, index, view, memo, bytes, Place(p), flag, size) {
             return false;
         }
@@ -102,8 +102,6 @@ pub(crate) fn members_ok<'a>(
             return false;
         }
         before = offset;
-        p += 12;
-        left -= 3;
     }
     true
 }

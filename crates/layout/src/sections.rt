@@ -34,10 +34,10 @@ pub(crate) fn section_ok<'a>(
 {
     let order = view.order;
     let end = words::read(order, bytes, Place(8));
-    let mut p: u32 = 12;
-    let mut left = tail_words(words::read(order, bytes, Place(4)));
+    let n = tail_words(words::read(order, bytes, Place(4))) / 3;
     let mut free: u64 = 0;
-    while 3 <= left {
+    for i in 0..n {
+        let p = 12 + 12 * i;
         let order = view.order;
         let variable = TypeNo(words::read(order, bytes, Place(p)));
         let second = p + 4;
@@ -51,8 +51,6 @@ pub(crate) fn section_ok<'a>(
             return false;
         }
         free = (from as u64) + (size as u64);
-        p += 12;
-        left -= 3;
     }
     true
 }

@@ -34,13 +34,10 @@ pub(crate) fn has_size<'a>(
 ) -> bool
     ensures { result ≡ is_some (sized (recalled base.now b.now index.now view memo.now) t.0) }
 {
-    match size_of(base, b, index, view, memo, t) {
-        Sized::Exact(_) => true,
-        Sized::NoSize => false,
-        Sized::Overflow => true,
-        Sized::Lost => false,
-        Sized::TooFar => false,
-    }
+    matches!(
+        size_of(base, b, index, view, memo, t),
+        Sized::Exact(_) | Sized::Overflow
+    )
 }
 
 // A size that does not overflow.
@@ -54,13 +51,7 @@ pub(crate) fn has_small_size<'a>(
 ) -> bool
     ensures { result ≡ variable_told (recalled base.now b.now index.now view memo.now) t.0 }
 {
-    match size_of(base, b, index, view, memo, t) {
-        Sized::Exact(_) => true,
-        Sized::NoSize => false,
-        Sized::Overflow => false,
-        Sized::Lost => false,
-        Sized::TooFar => false,
-    }
+    matches!(size_of(base, b, index, view, memo, t), Sized::Exact(_))
 }
 
 // So many bytes are at least a type's exact size, where it has one; no number of 32 bits reaches one that overflows.

@@ -1,12 +1,16 @@
 -- Whose strings hold an offset, by what phase 1 of both blobs finds; and the name there is the one of that blob.
 -- Assumes nothing.
+use Rattle.lean.specs.declared.questions.Side.TheVariants.{Base, Own}
+use Rattle.lean.specs.declared.questions.Lying.TheVariants.{InBase, InOwn}
+use Rattle.lean.specs.declared.questions.Side.{Side}
+use Rattle.std.specs.Prelude.{Err, Ok, Result, None, Option as RustOption, Some, is_some as rust_is_some}
 use Prim.Native.Nat.{ℕ, ◌+◌, ◌-◌, ◌≤◌, ◌<◌}
-use mathlib.Core.Path.{◌≡◌, refl, ap, subst, ◌∙◌}
+use mathlib.Core.Path.{◌≡◌, refl, sym, ap, subst, ◌∙◌}
 use mathlib.Core.Bool.{Bool, true, false, not, ◌||◌}
 use mathlib.Core.List.{List, []}
 use mathlib.Core.Option.{Option, none, some}
 use native.Mathlib.Omega.{arith}
-use borrow.Author.Tests.{lt-ltb, le-ltb, ltb-true, ltb-false, not-false}
+use borrow.Author.Tests.{lt-ltb, le-ltb, ltb-true, ltb-false, not-false, not-true}
 use denote.Ref.{Bor}
 use lib.Dec.{ltb}
 use lib.ListN.{length}
@@ -14,13 +18,8 @@ use Rattle.header.proofs.Scans.{name_at-inside, name_at_behind-inside}
 use Rattle.header.specs.Behind.{HeaderBehind, nameless_behind, name_at_behind, name_start_behind, PartBehind, NamePartBehind}
 use Rattle.header.specs.Header.{HeaderOf}
 use Rattle.header.specs.Part.{PartOf, NamePart, name_if, start_if}
-use Rattle.header.specs.declared.first.Header.{Header}
-use Rattle.header.specs.declared.first.Header.TheVariants.{Good, Bad}
 use Rattle.header.specs.declared.first.Sections.{Sections}
 use Rattle.lean.specs.Asked.{SideBy, SideOf, LyingOf, holder, NameLeaning}
-use Rattle.lean.specs.declared.questions.Lying.TheVariants.{InBase, InOwn}
-use Rattle.lean.specs.declared.questions.Side.{Side}
-use Rattle.lean.specs.declared.questions.Side.TheVariants.{Base, Own, Neither}
 use Rattle.pairs.proofs.Headers.{behind_report-facts}
 use Rattle.pairs.specs.Lean.{other_opening, behind_report, name_over, nameless_over, name_at_over, in_base, name_start_over}
 use Rattle.paper.proofs.basics.Choices.{or_left, or_right, or-false}
@@ -51,16 +50,16 @@ module _ (base own : List ℕ) (off : ℕ) where
   unfolding nameless_over
   nameless-26 e = or_left _ (or_left _ (or_right (is_some (header_report base)) e))
 
-  pub nameless-base : (h : Header) {r : Report} → HeaderOf h base → h ≡ Bad r → nameless_over base own off ≡ true
+  pub nameless-base : (h : Result Sections Report) {r : Report} → HeaderOf h base → h ≡ Err r → nameless_over base own off ≡ true
   unfolding nameless_over phase1
-  nameless-base h k e = or_left _ (or_left _ (or_left _ (due-some (header_report base) (subst (λ (x : Header). HeaderOf x base) e k))))
+  nameless-base h k e = or_left _ (or_left _ (or_left _ (due-some (header_report base) (subst (λ (x : Result Sections Report). HeaderOf x base) e k))))
 
-  pub nameless-own : (h : Header) {r : Report} → HeaderBehind h (length base) own → h ≡ Bad r → nameless_over base own off ≡ true
+  pub nameless-own : (h : Result Sections Report) {r : Report} → HeaderBehind h (length base) own → h ≡ Err r → nameless_over base own off ≡ true
   unfolding nameless_over
   nameless-own h k e =
       or_left _
       (or_right (is_some (header_report base) || other_opening base own)
-      (due-some (behind_report (length base) own) (subst (λ (x : Header). HeaderBehind x (length base) own) e k)))
+      (due-some (behind_report (length base) own) (subst (λ (x : Result Sections Report). HeaderBehind x (length base) own) e k)))
 
   -- both blobs have passed phase 1, in one order: their strings decide
   module _ (e : header_report base ≡ none) (one : other_opening base own ≡ false) (f : behind_report (length base) own ≡ none) where
@@ -72,25 +71,30 @@ module _ (base own : List ℕ) (off : ℕ) where
     unfolding nameless_over
     past h = rw (e, one, f, le-ltb _ _ h) refl
 
-    side-good : (r : Side) → SideBy r (str_len base) (str_len own) off → SideOf r base own off
+    side-good : (r : RustOption Side) → SideBy r (str_len base) (str_len own) off → SideOf r base own off
     unfolding in_base
-    side-good (Base o) h = (there (omega arith), lt-ltb _ _ h.0, h.1)
-    side-good (Own o) h = (there h.1, le-ltb _ _ h.0, h.2)
-    side-good Neither h = past h
+    side-good (Some (Base o)) h = (there (omega arith), lt-ltb _ _ h.0, h.1)
+    side-good (Some (Own o)) h = (there h.1, le-ltb _ _ h.0, h.2)
+    side-good None h = past h
 
-  pub side-both : (h k : Header) {s t : Sections} (r : Side) → other_opening base own ≡ false → HeaderOf h base → h ≡ Good s
-      → HeaderBehind k (length base) own → k ≡ Good t → SideBy r s.strings t.strings off → SideOf r base own off
+  pub side-both : (h k : Result Sections Report) {s t : Sections} (r : RustOption Side) → other_opening base own ≡ false → HeaderOf h base → h ≡ Ok s
+      → HeaderBehind k (length base) own → k ≡ Ok t → SideBy r s.strings t.strings off → SideOf r base own off
   unfolding phase1
   side-both h k {s} {t} r one b p o q side =
-      let b' = subst (λ (x : Header). HeaderOf x base) p b in
-      let o' = subst (λ (x : Header). HeaderBehind x (length base) own) q o in
+      let b' = subst (λ (x : Result Sections Report). HeaderOf x base) p b in
+      let o' = subst (λ (x : Result Sections Report). HeaderBehind x (length base) own) q o in
       let side' : SideBy r (str_len base) (str_len own) off = subst (λ (n : ℕ). SideBy r n (str_len own) off) b'.strings
       (subst (λ (m : ℕ). SideBy r s.strings m off) o'.strings side) in
       side-good (naming-none 0 (header_report base) b'.silent) one o'.silent r side'
 
   -- what is known of a side is known of what it is found to be
-  pub side-as : {r r' : Side} → r ≡ r' → SideOf r base own off → SideOf r' base own off
-  side-as e h = subst (λ (x : Side). SideOf x base own off) e h
+  pub side-none : (r : RustOption Side) → SideOf r base own off → (z : Bool) → rust_is_some r ≡ not z → z ≡ nameless_over base own off
+  side-none (Some (Base o)) h z e = not-true z (sym e) ∙ sym h.0
+  side-none (Some (Own o)) h z e = not-true z (sym e) ∙ sym h.0
+  side-none None h z e = not-false z (sym e) ∙ sym h
+
+  pub side-as : {r r' : RustOption Side} → r ≡ r' → SideOf r base own off → SideOf r' base own off
+  side-as e h = subst (λ (x : RustOption Side). SideOf x base own off) e h
 
   -- ── the name is the one of that blob ──
 
@@ -158,13 +162,13 @@ module _ (base own : List ℕ) (off : ℕ) where
 
   -- where it lies
   pub lying-base : nameless_over base own off ≡ false → in_base base own off ≡ true → {n : ℕ} → n ≡ off → {p : Part} → PartOf p base n
-      → LyingOf (InBase p) base own off
+      → LyingOf (Some (InBase p)) base own off
   lying-base named e q {p} k =
       let k' = subst (λ (m : ℕ). PartOf p base m) q k in
       (named, e, record { starts = k'.starts ∙ base-start named e; long = k'.long ∙ ap length (base-name named e) })
 
   pub lying-own : nameless_over base own off ≡ false → in_base base own off ≡ false → {n : ℕ} → n ≡ off - str_len base → {p : Part}
-      → PartBehind p (length base) own n → LyingOf (InOwn p) base own off
+      → PartBehind p (length base) own n → LyingOf (Some (InOwn p)) base own off
   lying-own named e q {p} k =
       let k' = subst (λ (m : ℕ). PartBehind p (length base) own m) q k in
       (named, e, record { starts = k'.starts ∙ own-start named e; long = k'.long ∙ ap length (own_name named e) })

@@ -1,5 +1,8 @@
 -- Demand 2's second form, of the code: what it means that `check_leaning` has answered of a base and a table that leans on it.
 -- Each from its contract alone. Assumes nothing.
+use Rattle.std.specs.Prelude.{Err, Ok, Result, ℕ}
+use Rattle.paper.specs.declared.LeanError.TheVariants.{BaseRefused, OrdersDiffer, Refused}
+use Rattle.paper.specs.declared.LeanError.{LeanError}
 use Prim.Native.Nat.{ℕ, suc, ◌+◌, ◌*◌, ◌≤◌, ◌<◌}
 use mathlib.Core.Path.{◌≡◌, refl, sym, ap, ◌∙◌}
 use mathlib.Core.List.{List}
@@ -27,13 +30,11 @@ use Rattle.paper.specs.rules.Size.{exact_size, answer_of}
 use Rattle.paper.specs.rules.Table.{Table, count, record_at, words_of}
 use Rattle.paper.specs.rules.Walk.{table_of, bytes_of}
 use Rattle.paper.specs.rules.Word.{bytes_of_words}
-use Rattle.paper.specs.declared.Leaned.{Leaned}
-use Rattle.paper.specs.declared.Leaned.TheVariants.{Accepted, BaseRefused, OrdersDiffer, Refused}
 use Rattle.paper.specs.declared.Report.{Report}
 use Rattle.paper.specs.declared.Sized.{Sized}
 use Rattle.paper.specs.terms.Fit.{Bytes}
 
-module _ {l : Leaned} {base own : List ℕ} {places work : ℕ} {index left : List ℕ} (h : LeanOf l base own places work index left) where
+module _ {l : Result ℕ LeanError} {base own : List ℕ} {places work : ℕ} {index left : List ℕ} (h : LeanOf l base own places work index left) where
   abbrev A : Table
   A = table_of base
 
@@ -57,7 +58,7 @@ module _ {l : Leaned} {base own : List ℕ} {places work : ℕ} {index left : Li
       (e, h.told.indexes ∙ ap (λ (o : Outcome). o.index) (ap (lean_outcome base own places work) e))
 
   -- a report of the leaning table itself
-  pub lean-refused : (r : Report) → l ≡ Refused r → (lean_refusal base own places work ≡ some (report_as_paper r)) × (index ≡ zeros places)
+  pub lean-refused : (r : Report) → l ≡ Err (Refused r) → (lean_refusal base own places work ≡ some (report_as_paper r)) × (index ≡ zeros places)
   unfolding leaned_as_paper
   lean-refused r p =
       let told = ap leaned_as_paper p in
@@ -65,14 +66,14 @@ module _ {l : Leaned} {base own : List ℕ} {places work : ℕ} {index left : Li
       (s.0 ∙ ap some told, s.1)
 
   -- 25, with the base's own report inside
-  pub lean-base-refused : (r : Report) → l ≡ BaseRefused r → (lean_refusal base own places work ≡ some (inside 25 (report_as_paper r))) × (index ≡ zeros places)
+  pub lean-base-refused : (r : Report) → l ≡ Err (BaseRefused r) → (lean_refusal base own places work ≡ some (inside 25 (report_as_paper r))) × (index ≡ zeros places)
   unfolding leaned_as_paper
   lean-base-refused r p =
       let told = ap leaned_as_paper p in
       let s = refused (λ z. let e = ap (λ (a : Answer). a.number) told in omega arith) in
       (s.0 ∙ ap some told, s.1)
 
-  pub lean-orders-differ : l ≡ OrdersDiffer → (lean_refusal base own places work ≡ some (report 26 0)) × (index ≡ zeros places)
+  pub lean-orders-differ : l ≡ Err OrdersDiffer → (lean_refusal base own places work ≡ some (report 26 0)) × (index ≡ zeros places)
   unfolding leaned_as_paper
   lean-orders-differ p =
       let told = ap leaned_as_paper p in
@@ -81,7 +82,7 @@ module _ {l : Leaned} {base own : List ℕ} {places work : ℕ} {index left : Li
 
   -- ── an accepted one ──
 
-  module _ (n : ℕ) (p : l ≡ Accepted n) where
+  module _ (n : ℕ) (p : l ≡ Ok n) where
     told : (lean_refusal base own places work ≡ none) × (n ≡ count T)
     unfolding leaned_as_paper
     told =
@@ -156,14 +157,14 @@ module _ {l : Leaned} {base own : List ℕ} {places work : ℕ} {index left : Li
   -- ── exactly ──
 
   -- a pair that meets the rules over both together is accepted, with the count of both
-  pub meets-lean : PairMeets base own places work → l ≡ Accepted (count T)
+  pub meets-lean : PairMeets base own places work → l ≡ Ok (count T)
   unfolding leaned_as_paper lean_gate
   meets-lean m =
-      leaned-one l (Accepted (count T))
+      leaned-one l (Ok (count T))
       (answers ∙ ap (λ (o : Outcome). o.answer) (ap (lean_outcome base own places work) (meets-pair base own places work m)))
 
 -- any two results that the contract allows are the same, slice by slice
-pub lean-one : {l l' : Leaned} {base own : List ℕ} {places work : ℕ} {index index' left left' : List ℕ} → LeanOf l base own places work index left
+pub lean-one : {l l' : Result ℕ LeanError} {base own : List ℕ} {places work : ℕ} {index index' left left' : List ℕ} → LeanOf l base own places work index left
     → LeanOf l' base own places work index' left'
     → (l ≡ l') × (index ≡ index') × (left ≡ left')
 lean-one {l} {l'} h k =

@@ -1,5 +1,8 @@
 -- Laws of the leaning check: what is answered at each step of the code is what the definition answers.
 -- Assumes nothing.
+use Rattle.std.specs.Prelude.{Err, Ok, Result, ℕ}
+use Rattle.paper.specs.declared.LeanError.TheVariants.{BaseRefused, OrdersDiffer, Refused}
+use Rattle.paper.specs.declared.LeanError.{LeanError}
 use Prim.Native.Nat.{ℕ, ◌≤◌}
 use mathlib.Core.Path.{◌≡◌, refl, sym, ap, ◌∙◌, subst}
 use mathlib.Core.Bool.{Bool, true, false}
@@ -27,19 +30,11 @@ use Rattle.paper.specs.rules.Join.{refused_inside}
 use Rattle.paper.specs.rules.Limits.{type_limit}
 use Rattle.paper.specs.rules.Table.{count}
 use Rattle.paper.specs.rules.Walk.{table_of}
-use Rattle.paper.specs.declared.Checked.{Checked}
-use Rattle.paper.specs.declared.Checked.TheVariants as checked
-use Rattle.paper.specs.declared.Leaned.{Leaned}
-use Rattle.paper.specs.declared.Leaned.TheVariants.{Accepted, BaseRefused, OrdersDiffer, Refused}
 use Rattle.paper.specs.declared.Report.{Report}
 use Rattle.paper.specs.terms.Fit.{Bytes}
 use Rattle.phases.specs.Said.{said_as_paper, judged}
-use Rattle.phases.specs.declared.types.Said.{Said}
-use Rattle.phases.specs.declared.types.Said.TheVariants as said
 use Rattle.scan.proofs.Rests.{walk_report-few}
 use Rattle.scan.specs.Behind.{count_behind, scan_report_behind, CountBy, FoundBy, index_behind, ScanBehind}
-use Rattle.scan.specs.declared.found.Scanned.{Scanned}
-use Rattle.scan.specs.declared.found.Scanned.TheVariants as scanned
 use Rattle.views.specs.declared.View.{View}
 
 -- the same for slices that are as long as they were
@@ -47,7 +42,7 @@ pub base_kept : {base own index : List ℕ} {n p p' w w' : ℕ} → p' ≡ p →
 base_kept {base} {own} {index} {n} {p} {p'} {w} e f a =
     subst (λ (k : ℕ). AfterBase base own n index p' k) (sym f) (subst (λ (k : ℕ). AfterBase base own n index k w) (sym e) a)
 
-pub answer-kept : {l : Leaned} {base own index : List ℕ} {p p' w w' : ℕ} → p' ≡ p → w' ≡ w → LeanAnswer l base own p' w' index → LeanAnswer l base own p w index
+pub answer-kept : {l : Result ℕ LeanError} {base own index : List ℕ} {p p' w w' : ℕ} → p' ≡ p → w' ≡ w → LeanAnswer l base own p' w' index → LeanAnswer l base own p w index
 answer-kept {l} {base} {own} {index} {p} {p'} {w} {w'} e f a =
     subst (λ (k : ℕ). LeanAnswer l base own p k index) f (subst (λ (k : ℕ). LeanAnswer l base own k w' index) e a)
 
@@ -81,8 +76,8 @@ module _ (base own : List ℕ) (places work : ℕ) where
   early-refused e = early-first base own places work ∙ first_said e (lean_table_report base own)
 
   -- after the base's check
-  module _ {c : Checked} {index left : List ℕ} (h : CheckOf c base places work index left) where
-    pub base-refused : {r : Report} → c ≡ checked.Refused r → LeanAnswer (BaseRefused r) base own places work index
+  module _ {c : Result ℕ Report} {index left : List ℕ} (h : CheckOf c base places work index left) where
+    pub base-refused : {r : Report} → c ≡ Err r → LeanAnswer (Err (BaseRefused r)) base own places work index
     unfolding leaned_as_paper early_report
     base-refused {r} p =
         let g = said-refused (early-refused (first_said (ap (refused_inside 25) (refused-report h r p)) _)) in
@@ -91,7 +86,7 @@ module _ (base own : List ℕ) (places work : ℕ) where
           indexes = refused-index h r p ∙ sym (ap (λ (o : Outcome). o.index) g);
         }
 
-    module _ {n : ℕ} (p : c ≡ checked.Accepted n) where
+    module _ {n : ℕ} (p : c ≡ Ok n) where
       base-accepted : refusal base places work ≡ none
       base-accepted = (checked-accepted base places work (ap checked_as_paper (sym p) ∙ h.told.answers)).0
 
@@ -99,7 +94,7 @@ module _ (base own : List ℕ) (places work : ℕ) where
       base-silent = ap (refused_inside 25) base-accepted
 
       pub orders-differ : {z : Bool} → z ≡ other_opening base own → z ≡ true → {cleared : List ℕ} → cleared ≡ zeros places
-          → LeanAnswer OrdersDiffer base own places work cleared
+          → LeanAnswer (Err OrdersDiffer) base own places work cleared
       unfolding leaned_as_paper early_report
       orders-differ {z} q e clear =
           let due : naming 0 (first_due (26 when other_opening base own ∷ [])) ≡ some (report 26 0) =
@@ -136,23 +131,23 @@ module _ (base own : List ℕ) (places work : ℕ) where
         ∙ ap (λ (o : Option Answer). or_else (naming 0 (behind_report (length base) own)) (or_else o (short_slices (count_behind n own) places work)))
         (sym (walk_report-few own n few))
 
-    module _ (s : Scanned) {after : List ℕ} (found : ScanBehind s (length base) own n index work after) (long : length index ≡ places) where
+    module _ (s : Result ℕ Report) {after : List ℕ} (found : ScanBehind s (length base) own n index work after) (long : length index ≡ places) where
       found_here : FoundBy s (scan_report_behind (length base) n own places work) (count_behind n own)
       found_here = subst (λ (k : ℕ). FoundBy s (scan_report_behind (length base) n own k work) (count_behind n own)) long found.found
 
-      pub scan-refused : {r : Report} → s ≡ scanned.Refused r → LeanAnswer (Refused r) base own places work after
+      pub scan-refused : {r : Report} → s ≡ Err r → LeanAnswer (Err (Refused r)) base own places work after
       unfolding leaned_as_paper
       scan-refused {r} p =
-          let due = subst (λ (x : Scanned). FoundBy x (scan_report_behind (length base) n own places work) (count_behind n own)) p found_here in
+          let due = subst (λ (x : Result ℕ Report). FoundBy x (scan_report_behind (length base) n own places work) (count_behind n own)) p found_here in
           let g = said-refused (early-refused (scan-says ∙ due)) in
           record {
             answers = sym (ap (λ (o : Outcome). o.answer) g);
-            indexes = found.left ∙ ap (λ (x : Scanned). index_behind x n own index) p ∙ ap zeros long ∙ sym (ap (λ (o : Outcome). o.index) g);
+            indexes = found.left ∙ ap (λ (x : Result ℕ Report). index_behind x n own index) p ∙ ap zeros long ∙ sym (ap (λ (o : Outcome). o.index) g);
           }
 
-      module _ {m : ℕ} (p : s ≡ scanned.Counted m) where
+      module _ {m : ℕ} (p : s ≡ Ok m) where
         counts : CountBy m (scan_report_behind (length base) n own places work) (count_behind n own)
-        counts = subst (λ (x : Scanned). FoundBy x (scan_report_behind (length base) n own places work) (count_behind n own)) p found_here
+        counts = subst (λ (x : Result ℕ Report). FoundBy x (scan_report_behind (length base) n own places work) (count_behind n own)) p found_here
 
         readable : PairReadable base own places work
         readable = early-readable base own places work (scan-says ∙ counts.silent)
@@ -164,12 +159,12 @@ module _ (base own : List ℕ) (places work : ℕ) where
         indexed : after ≡ index_over base own places
         unfolding own_records
         indexed =
-            found.left ∙ ap (λ (x : Scanned). index_behind x n own index) p
-            ∙ (λ i. index_behind (scanned.Counted m) (a.counted i) own (a.indexed i))
+            found.left ∙ ap (λ (x : Result ℕ Report). index_behind x n own index) p
+            ∙ (λ i. index_behind (Ok m) (a.counted i) own (a.indexed i))
             ∙ index-over base own places
 
         -- what is judged of the pair is what the phases over both say, and nothing was said before
-        table-says : Bytes own → (v : View) → v.n ≡ m → v.order ≡ order_of own → v.before ≡ n → (j : Said) → said_as_paper j ≡ judged base own after v work
+        table-says : Bytes own → (v : View) → v.n ≡ m → v.order ≡ order_of own → v.before ≡ n → (j : Result (Unit {0}) Report) → said_as_paper j ≡ judged base own after v work
             → lean_refusal base own places work ≡ said_as_paper j
         table-says bytes v e o b j says =
             early-first base own places work
@@ -178,9 +173,9 @@ module _ (base own : List ℕ) (places work : ℕ) where
             ∙ ap (λ (i : List ℕ). judged base own i v work) (sym indexed)
             ∙ sym says
 
-        module _ (bytes : Bytes own) (v : View) (e : v.n ≡ m) (o : v.order ≡ order_of own) (b : v.before ≡ n) (j : Said)
+        module _ (bytes : Bytes own) (v : View) (e : v.n ≡ m) (o : v.order ≡ order_of own) (b : v.before ≡ n) (j : Result (Unit {0}) Report)
             (says : said_as_paper j ≡ judged base own after v work) where
-          pub pair-accepted : j ≡ said.Nothing → LeanAnswer (Accepted m) base own places work after
+          pub pair-accepted : j ≡ (Ok (record {})) → LeanAnswer (Ok m) base own places work after
           unfolding leaned_as_paper
           pair-accepted q =
               let g = said-accepted (table-says bytes v e o b j says ∙ ap said_as_paper q) in
@@ -189,7 +184,7 @@ module _ (base own : List ℕ) (places work : ℕ) where
                 indexes = indexed ∙ sym (ap (λ (o : Outcome). o.index) g);
               }
 
-          pub pair-refused : {r : Report} → j ≡ said.Says r → {cleared : List ℕ} → cleared ≡ zeros places → LeanAnswer (Refused r) base own places work cleared
+          pub pair-refused : {r : Report} → j ≡ Err r → {cleared : List ℕ} → cleared ≡ zeros places → LeanAnswer (Err (Refused r)) base own places work cleared
           unfolding leaned_as_paper
           pair-refused q clear =
               let g = said-refused (table-says bytes v e o b j says ∙ ap said_as_paper q) in

@@ -4,51 +4,54 @@ ghost use Rattle.lean.specs.Leans.{AfterBase, LeanAnswer, LeanOf};
 
 use gate::check;
 use header::other_opening;
-use paper::{Checked, Leaned};
-use phases::{Said, judge};
-use scan::{Scanned, clear, scan_behind};
+use paper::LeanError;
+use phases::judge;
+use scan::{clear, scan_behind};
 use views::View;
 
 // What phases 1 and 2 behind a base of n types and then the phases over both say.
-fn behind<'a>(base: &'a [u8], own: &'a [u8], n: u32, index: &mut [u32], work: &mut [u32]) -> Leaned
+fn behind<'a>(
+    base: &'a [u8],
+    own: &'a [u8],
+    n: u32,
+    index: &mut [u32],
+    work: &mut [u32],
+) -> Result<u32, LeanError>
     requires { AfterBase base.now own.now n index.old (length index.old) (length work.old) }
     ensures { LeanAnswer result base.now own.now (length index.old) (length work.old) index.new }
 {
-    match scan_behind(base.len(), own, n, index, work.len()) {
-        Scanned::Refused(r) => Leaned::Refused(r),
-        Scanned::Counted(m) => {
-            let order = words::order_of(own);
-            let before = n as u16;
-            let view = View {
-                n: m,
-                before,
-                order,
-            };
-            match judge(base, own, index, view, work) {
-                Said::Nothing => Leaned::Accepted(m),
-                Said::Says(r) => {
-                    clear(index);
-                    Leaned::Refused(r)
-                }
-            }
+    let m = scan_behind(base.len(), own, n, index, work.len()).map_err(LeanError::Refused)?;
+    let order = words::order_of(own);
+    let before = n as u16;
+    let view = View {
+        n: m,
+        before,
+        order,
+    };
+    match judge(base, own, index, view, work) {
+        Ok(()) => Ok(m),
+        Err(r) => {
+            clear(index);
+            Err(LeanError::Refused(r))
         }
     }
 }
 
 // What is answered, and what the index then holds; the work slice may hold anything.
-fn answer<'a>(base: &'a [u8], own: &'a [u8], index: &mut [u32], work: &mut [u32]) -> Leaned
+fn answer<'a>(
+    base: &'a [u8],
+    own: &'a [u8],
+    index: &mut [u32],
+    work: &mut [u32],
+) -> Result<u32, LeanError>
     ensures { LeanAnswer result base.now own.now (length index.old) (length work.old) index.new }
 {
-    match check(base, index, work) {
-        Checked::Refused(r) => Leaned::BaseRefused(r),
-        Checked::Accepted(n) => {
-            if other_opening(base, own) {
-                clear(index);
-                return Leaned::OrdersDiffer;
-            }
-            behind(base, own, n, index, work)
-        }
+    let n = check(base, index, work).map_err(LeanError::BaseRefused)?;
+    if other_opening(base, own) {
+        clear(index);
+        return Err(LeanError::OrdersDiffer);
     }
+    behind(base, own, n, index, work)
 }
 
 // The count of both tables' types, where the second meets the paper over both together, with the place of each record in the blob that holds
@@ -58,7 +61,7 @@ pub fn check_leaning<'a>(
     own: &'a [u8],
     index: &mut [u32],
     work: &mut [u32],
-) -> Leaned
+) -> Result<u32, LeanError>
     ensures { LeanOf result base.now own.now (length index.old) (length work.old) index.new work.new }
 {
     let told = answer(base, own, index, work);

@@ -4,7 +4,7 @@ ghost use Rattle.lean.specs.Asked.{LyingOf, NameLeaning, SideBy, SideOf};
 ghost use Rattle.pairs.specs.Lean.{nameless_over, size_over};
 ghost use Rattle.paper.specs.rules.Answer.{sized_as_paper};
 
-use header::{Header, name, name_behind, other_opening, part, part_behind, read, read_behind};
+use header::{name, name_behind, other_opening, part, part_behind, read, read_behind};
 use paper::{NameOff, Part, Sized, TypeNo};
 
 // The exact size of a type of either table, by the index that a check of both has left; numbers up to `before` are the base's.
@@ -25,48 +25,43 @@ pub fn size_leaning<'a>(
 pub(crate) enum Side {
     Base(NameOff),
     Own(NameOff),
-    Neither,
 }
 
 // By the lengths of both string sections. A difference is taken, since their sum can pass 32 bits.
-fn side_by(before: u32, strings: u32, at: NameOff) -> Side
+fn side_by(before: u32, strings: u32, at: NameOff) -> Option<Side>
     ensures { SideBy result before strings at.0 }
 {
     if at.0 < before {
-        return Side::Base(at);
+        return Some(Side::Base(at));
     }
     let rest = at.0 - before;
     if rest < strings {
-        return Side::Own(NameOff(rest));
+        return Some(Side::Own(NameOff(rest)));
     }
-    Side::Neither
+    None
 }
 
-// Neither, where either blob would get one of reports 1 to 5, or 26.
-fn side_of(base: &[u8], own: &[u8], at: NameOff) -> Side
+// None, where either blob would get one of reports 1 to 5, or 26.
+fn side_of(base: &[u8], own: &[u8], at: NameOff) -> Option<Side>
     ensures { SideOf result base.now own.now at.0 }
 {
     if other_opening(base, own) {
-        return Side::Neither;
+        return None;
     }
-    match read(base) {
-        Header::Bad(_) => Side::Neither,
-        Header::Good(b) => match read_behind(base.len(), own) {
-            Header::Bad(_) => Side::Neither,
-            Header::Good(o) => side_by(b.strings, o.strings, at),
-        },
-    }
+    let Ok(b) = read(base) else {
+        return None;
+    };
+    let Ok(o) = read_behind(base.len(), own) else {
+        return None;
+    };
+    side_by(b.strings, o.strings, at)
 }
 
 // No name can be had there: either blob gets one of reports 1 to 5, or 26, or the offset is past both tables' strings.
 pub fn nameless_leaning(base: &[u8], own: &[u8], at: NameOff) -> bool
     ensures { result ≡ nameless_over base.now own.now at.0 }
 {
-    match side_of(base, own, at) {
-        Side::Base(_) => false,
-        Side::Own(_) => false,
-        Side::Neither => true,
-    }
+    side_of(base, own, at).is_none()
 }
 
 // Where a name lies, and in which blob.
@@ -74,17 +69,15 @@ pub fn nameless_leaning(base: &[u8], own: &[u8], at: NameOff) -> bool
 pub enum Lying {
     InBase(Part),
     InOwn(Part),
-    Nowhere,
 }
 
 // Where the name at an offset of both lies.
-pub fn part_leaning(base: &[u8], own: &[u8], at: NameOff) -> Lying
+pub fn part_leaning(base: &[u8], own: &[u8], at: NameOff) -> Option<Lying>
     ensures { LyingOf result base.now own.now at.0 }
 {
-    match side_of(base, own, at) {
-        Side::Base(o) => Lying::InBase(part(base, o)),
-        Side::Own(o) => Lying::InOwn(part_behind(base.len(), own, o)),
-        Side::Neither => Lying::Nowhere,
+    match side_of(base, own, at)? {
+        Side::Base(o) => Some(Lying::InBase(part(base, o))),
+        Side::Own(o) => Some(Lying::InOwn(part_behind(base.len(), own, o))),
     }
 }
 
@@ -93,8 +86,8 @@ pub fn name_leaning<'a>(base: &'a [u8], own: &'a [u8], at: NameOff) -> &'a [u8]
     ensures { NameLeaning result base.entry own.entry at.0 }
 {
     match side_of(base, own, at) {
-        Side::Base(o) => name(base, o),
-        Side::Own(o) => name_behind(base.len(), own, o),
-        Side::Neither => &own[..0],
+        Some(Side::Base(o)) => name(base, o),
+        Some(Side::Own(o)) => name_behind(base.len(), own, o),
+        None => &own[..0],
     }
 }

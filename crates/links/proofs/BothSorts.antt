@@ -1,5 +1,6 @@
 -- Report 14 asks walks of two sorts: the smaller of what is said by each is what is said by both.
 -- Assumes nothing.
+use Rattle.std.specs.Prelude.{None, Option as RustOption, Some}
 use Prim.Native.Nat.{ℕ, zero, suc, ◌≤◌, ◌<◌}
 use mathlib.Core.Path.{◌≡◌, refl, sym, ap, ap₂, ◌∙◌, subst}
 use mathlib.Core.Bool.{Bool, true, false, cond, ◌||◌}
@@ -10,8 +11,6 @@ use borrow.Author.Tests.{le-ltb, lt-ltb}
 use lib.Dec.{ltb}
 use Rattle.links.proofs.Roots.{first_ring, first_ring-next}
 use Rattle.links.specs.Search.{rings_by, smaller_of, ring_as_paper, RingLeaves, ChainsOf, RingsOf}
-use Rattle.links.specs.declared.chains.Ring.{Ring}
-use Rattle.links.specs.declared.chains.Ring.TheVariants.{Nowhere, From}
 use Rattle.paper.specs.rules.Answer.{Answer, report_at}
 use Rattle.paper.specs.rules.Chain.{held_by, pointed_by, walks, endless}
 use Rattle.paper.specs.rules.Choice.{◌when◌, first_due, or_else}
@@ -54,19 +53,19 @@ module _ (a : Answer) (o : Option Answer) (later : FromOn (suc a.t) o) where
 
 -- ── the smaller of two, as code picks it ──
 
-module _ (a b : Ring) {t : TypeNo} (first : a ≡ From t) where
-  pub smaller-alone : b ≡ Nowhere → From t ≡ smaller_of a b
+module _ (a b : RustOption TypeNo) {t : TypeNo} (first : a ≡ Some t) where
+  pub smaller-alone : b ≡ None → Some t ≡ smaller_of a b
   smaller-alone second = sym (ap₂ smaller_of first second)
 
-  module _ {u : TypeNo} (second : b ≡ From u) where
-    both : smaller_of a b ≡ cond (ltb u.0 t.0) (From u) (From t)
+  module _ {u : TypeNo} (second : b ≡ Some u) where
+    both : smaller_of a b ≡ cond (ltb u.0 t.0) (Some u) (Some t)
     both = ap₂ smaller_of first second
 
-    pub smaller-second : u.0 < t.0 → From u ≡ smaller_of a b
-    smaller-second h = sym (both ∙ ap (λ (z : Bool). cond z (From u) (From t)) (lt-ltb _ _ h))
+    pub smaller-second : u.0 < t.0 → Some u ≡ smaller_of a b
+    smaller-second h = sym (both ∙ ap (λ (z : Bool). cond z (Some u) (Some t)) (lt-ltb _ _ h))
 
-    pub smaller-first : t.0 ≤ u.0 → From t ≡ smaller_of a b
-    smaller-first h = sym (both ∙ ap (λ (z : Bool). cond z (From u) (From t)) (le-ltb _ _ h))
+    pub smaller-first : t.0 ≤ u.0 → Some t ≡ smaller_of a b
+    smaller-first h = sym (both ∙ ap (λ (z : Bool). cond z (Some u) (Some t)) (le-ltb _ _ h))
 
 -- ── of both sorts ──
 
@@ -118,36 +117,36 @@ module _ (T : Table) where
           by false true later = sym (smallest-second a (first_ring held_by T left (suc k)) (first_ring-from held_by left (suc k)))
           by false false later = later
 
-  smaller_of-smallest : (a b : Ring) → ring_as_paper T (smaller_of a b) ≡ smallest (ring_as_paper T a) (ring_as_paper T b)
-  smaller_of-smallest Nowhere b = refl
-  smaller_of-smallest (From t) Nowhere = refl
-  smaller_of-smallest (From t) (From u) = go (ltb u.0 t.0)
+  smaller_of-smallest : (a b : RustOption TypeNo) → ring_as_paper T (smaller_of a b) ≡ smallest (ring_as_paper T a) (ring_as_paper T b)
+  smaller_of-smallest None b = refl
+  smaller_of-smallest (Some t) None = refl
+  smaller_of-smallest (Some t) (Some u) = go (ltb u.0 t.0)
     where
-      go : (z : Bool) → ring_as_paper T (cond z (From u) (From t)) ≡ cond z (ring_as_paper T (From u)) (ring_as_paper T (From t))
+      go : (z : Bool) → ring_as_paper T (cond z (Some u) (Some t)) ≡ cond z (ring_as_paper T (Some u)) (ring_as_paper T (Some t))
       go true = refl
       go false = refl
 
   -- the first of each sort give the first of both
-  rings-either : (a b c : Ring) → ring_as_paper T a ≡ over_types (rings_by held_by) T → ring_as_paper T b ≡ over_types (rings_by pointed_by) T → c ≡ smaller_of a b
+  rings-either : (a b c : RustOption TypeNo) → ring_as_paper T a ≡ over_types (rings_by held_by) T → ring_as_paper T b ≡ over_types (rings_by pointed_by) T → c ≡ smaller_of a b
       → ring_as_paper T c ≡ over_types phase5 T
   unfolding over_types
   rings-either a b c p q e = ap (ring_as_paper T) e ∙ smaller_of-smallest a b ∙ ap₂ smallest p q ∙ sym (first_either-smallest (count T) 1)
 
   -- and what is left where there is none of either
-  rings-leave : (n : ℕ) (a b : Ring) (work : List ℕ) → RingLeaves T n a work → RingLeaves T n (smaller_of a b) work
-  rings-leave n Nowhere Nowhere work h = h
-  rings-leave n Nowhere (From u) work h = tt
-  rings-leave n (From t) Nowhere work h = tt
-  rings-leave n (From t) (From u) work h = go (ltb u.0 t.0)
+  rings-leave : (n : ℕ) (a b : RustOption TypeNo) (work : List ℕ) → RingLeaves T n a work → RingLeaves T n (smaller_of a b) work
+  rings-leave n None None work h = h
+  rings-leave n None (Some u) work h = tt
+  rings-leave n (Some t) None work h = tt
+  rings-leave n (Some t) (Some u) work h = go (ltb u.0 t.0)
     where
-      go : (z : Bool) → RingLeaves T n (cond z (From u) (From t)) work
+      go : (z : Bool) → RingLeaves T n (cond z (Some u) (Some t)) work
       go true = tt
       go false = tt
 
-  pub rings-both : {n : ℕ} (a b c : Ring) {work : List ℕ} → ChainsOf T n a work → ring_as_paper T b ≡ over_types (rings_by pointed_by) T → c ≡ smaller_of a b
+  pub rings-both : {n : ℕ} (a b c : RustOption TypeNo) {work : List ℕ} → ChainsOf T n a work → ring_as_paper T b ≡ over_types (rings_by pointed_by) T → c ≡ smaller_of a b
       → RingsOf T n c work
   rings-both {n} a b c {work} p q e =
       record {
         says = rings-either a b c p.says q e;
-        leaves = subst (λ (r : Ring). RingLeaves T n r work) (sym e) (rings-leave n a b work p.leaves);
+        leaves = subst (λ (r : RustOption TypeNo). RingLeaves T n r work) (sym e) (rings-leave n a b work p.leaves);
       }

@@ -1,5 +1,7 @@
 -- What is held in a blob whose types phases 1 to 4 have passed: types of the table, found behind few slots.
 -- Assumes nothing.
+use Rattle.std.specs.Prelude.{Option as RustOption, ℕ}
+use Rattle.paper.specs.declared.TypeNo.{TypeNo}
 use Prim.Native.Nat.{ℕ, ◌≤◌, ◌<◌}
 use mathlib.Core.Path.{◌≡◌, sym, subst}
 use mathlib.Core.Bool.{true}
@@ -15,7 +17,6 @@ use Rattle.paper.specs.rules.References.{refs_ok, ref_bad}
 use Rattle.paper.specs.rules.Table.{Record, Table, count, record_at, roles_of, words_of}
 use Rattle.paper.proofs.gates.Gates.{over_types-silent}
 use Rattle.paper.proofs.walks.Insides.{held-inside}
-use Rattle.links.specs.declared.held.Held.{Held}
 use Rattle.links.specs.Holding.{slots_of, held_from, HeldIs, NextOpen}
 use Rattle.links.proofs.Holds.{held_in-slots}
 use Rattle.links.specs.Search.{most_slots, many_slots, Followable}
@@ -27,7 +28,7 @@ module _ (T : Table) where
 
 -- ── the answer of a look along the slots of a type ──
 
-pub told : (work : List ℕ) (j : ℕ) {q r : Record} {h g : Held} → q ≡ r → h ≡ g → HeldIs q work j h → HeldIs r work j g
+pub told : (work : List ℕ) (j : ℕ) {q r : Record} {h g : RustOption (TypeNo × ℕ)} → q ≡ r → h ≡ g → HeldIs q work j h → HeldIs r work j g
 told work j {h = h} e d is = subst (HeldIs _ work j) d (subst (λ (r : Record). HeldIs r work j h) e is)
 
 -- ── after phase 4 ──

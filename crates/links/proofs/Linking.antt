@@ -1,5 +1,8 @@
 -- Phase 4 over the types in order, and both phases together.
 -- Assumes nothing.
+use Rattle.std.specs.Prelude.{Err, None, Ok, Option as RustOption, Result, Some}
+use Rattle.links.specs.declared.whole.Unlinked.TheVariants.{Endless, Reference}
+use Rattle.links.specs.declared.whole.Unlinked.{Unlinked}
 use Prim.Native.Nat.{ℕ, suc, ◌≤◌, ◌<◌}
 use mathlib.Core.Path.{◌≡◌, refl, sym, ap, ap₂, ◌∙◌, subst}
 use mathlib.Core.Bool.{Bool, true, false, not, cond, ◌&&◌}
@@ -23,11 +26,7 @@ use Rattle.links.specs.Holding.{slots_of}
 use Rattle.links.specs.Links.{linked_as_paper, searched, links_say, Leaves, LinksOf, BothOf}
 use Rattle.links.specs.Search.{most_slots, Unsearched, mark_at, RingLeaves, RingsOf, ring_as_paper}
 use Rattle.links.proofs.Roots.{get_d-zeros}
-use Rattle.links.specs.declared.chains.Ring.TheVariants.{Nowhere, From}
 use Rattle.paper.specs.declared.TypeNo.{TypeNo}
-use Rattle.links.specs.declared.chains.Ring.{Ring}
-use Rattle.links.specs.declared.whole.Linked.{Linked}
-use Rattle.links.specs.declared.whole.Linked.TheVariants.{Good, Reference, Endless}
 use Rattle.links.proofs.HeldTypes.{followable}
 use Rattle.links.proofs.Holds.{slots-few}
 
@@ -53,8 +52,8 @@ shown-few base b index v t =
     let same = ap (λ (r : Record). length (slots_of r)) (bytes_by-record base b index v t) in
     omega (arith, same, slots-few v.order (bytes_by base b index v t))
 
-pub searchable : (base b index : List ℕ) (v : View) {work : List ℕ} → (size : ℕ) → work ≡ zeros size → v.n ≤ type_limit → v.n < size → {r : Linked}
-    → linked_as_paper (table_by base b index v) r ≡ over_types phase4 (table_by base b index v) → r ≡ Good → Unsearched (table_by base b index v) v.n work
+pub searchable : (base b index : List ℕ) (v : View) {work : List ℕ} → (size : ℕ) → work ≡ zeros size → v.n ≤ type_limit → v.n < size → {r : Result (Unit {0}) Unlinked}
+    → linked_as_paper (table_by base b index v) r ≡ over_types phase4 (table_by base b index v) → r ≡ (Ok (record {})) → Unsearched (table_by base b index v) v.n work
 searchable base b index v size e few room says is =
     let T = table_by base b index v in
     let long = ap length e ∙ length-replicate {A = ℕ} size 0 in
@@ -68,7 +67,7 @@ zeros-left : {work : List ℕ} (size : ℕ) → work ≡ zeros size → (x : ℕ
 zeros-left size e x = ap (λ (w : List ℕ). get_or w x 0) e ∙ get_d-zeros size x
 
 module _ (T : Table) (n room : ℕ) where
-  not-searched : searched n room ≡ false → {work : List ℕ} (size : ℕ) → work ≡ zeros size → BothOf T n room Good work
+  not-searched : searched n room ≡ false → {work : List ℕ} (size : ℕ) → work ≡ zeros size → BothOf T n room (Ok (record {})) work
   unfolding links_say
   not-searched off size e =
       record {
@@ -76,11 +75,11 @@ module _ (T : Table) (n room : ℕ) where
         leaves = λ x. zeros-left size e x ∙ sym (ap (λ (z : Bool). cond z (mark_at T n x) 0) off);
       }
 
-  pub links-many : type_limit < n → {work : List ℕ} (size : ℕ) → work ≡ zeros size → BothOf T n room Good work
+  pub links-many : type_limit < n → {work : List ℕ} (size : ℕ) → work ≡ zeros size → BothOf T n room (Ok (record {})) work
   links-many h = not-searched (ap (λ (z : Bool). z && ltb n room) (lt-leb n type_limit h))
 
   module _ (few : n ≤ type_limit) where
-    pub links-short : room ≤ n → {work : List ℕ} (size : ℕ) → work ≡ zeros size → BothOf T n room Good work
+    pub links-short : room ≤ n → {work : List ℕ} (size : ℕ) → work ≡ zeros size → BothOf T n room (Ok (record {})) work
     links-short h = not-searched (ap₂ (λ (a b : Bool). a && b) (le-leb n type_limit few) (le-ltb n room h))
 
     module _ (enough : n < room) where
@@ -95,45 +94,39 @@ module _ (T : Table) (n room : ℕ) where
       links-first : {o : Option Answer} → o ≡ over_types phase4 T → or_else o (over_types phase5 T) ≡ links_say T n room
       links-first e = ap (λ (o : Option Answer). or_else o (over_types phase5 T)) e ∙ sym links-say
 
-      module _ (r : Linked) (bad : linked_as_paper T r ≡ over_types phase4 T) {work : List ℕ} {t : TypeNo} where
-        pub links-bad : r ≡ Reference t → BothOf T n room r work
-        links-bad e =
-            subst (λ (w : Linked). BothOf T n room w work) (sym e)
-            (record { says = links-first (sym (ap (linked_as_paper T) e) ∙ bad); leaves = tt })
+      -- what phase 4 finds is what both say
+      pub links-bad : (r : Result (Unit {0}) Unlinked) → linked_as_paper T r ≡ over_types phase4 T → {work : List ℕ} {u : Unlinked} → r ≡ Err u → BothOf T n room (Err u) work
+      links-bad r bad {u = Reference _} e = record { says = links-first (sym (ap (linked_as_paper T) e) ∙ bad); leaves = tt }
+      links-bad r bad {u = Endless _} e = record { says = links-first (sym (ap (linked_as_paper T) e) ∙ bad); leaves = tt }
 
-        pub links-other : r ≡ Endless t → BothOf T n room r work
-        links-other e =
-            subst (λ (w : Linked). BothOf T n room w work) (sym e)
-            (record { says = links-first (sym (ap (linked_as_paper T) e) ∙ bad); leaves = tt })
-
-      module _ (r : Linked) (bad : linked_as_paper T r ≡ over_types phase4 T) (good : r ≡ Good) (w : Ring) {work : List ℕ} (found : RingsOf T n w work) where
+      module _ (r : Result (Unit {0}) Unlinked) (bad : linked_as_paper T r ≡ over_types phase4 T) (good : r ≡ (Ok (record {}))) (w : RustOption TypeNo) {work : List ℕ} (found : RingsOf T n w work) where
         links-behind : ring_as_paper T w ≡ links_say T n room
         links-behind = found.says ∙ links-first (sym (ap (linked_as_paper T) good) ∙ bad)
 
-        pub links-good : w ≡ Nowhere → BothOf T n room Good work
+        pub links-good : w ≡ None → BothOf T n room (Ok (record {})) work
         links-good e =
             record {
               says = sym (ap (ring_as_paper T) e) ∙ links-behind;
-              leaves = λ x. subst (λ (v : Ring). RingLeaves T n v work) e found.leaves x ∙ sym (ap (λ (z : Bool). cond z (mark_at T n x) 0) is-searched);
+              leaves = λ x. subst (λ (v : RustOption TypeNo). RingLeaves T n v work) e found.leaves x ∙ sym (ap (λ (z : Bool). cond z (mark_at T n x) 0) is-searched);
             }
 
-        pub links-endless : {t : TypeNo} → w ≡ From t → BothOf T n room (Endless t) work
+        pub links-endless : {t : TypeNo} → w ≡ Some t → BothOf T n room (Err (Endless t)) work
         links-endless e = record { says = sym (ap (ring_as_paper T) e) ∙ links-behind; leaves = tt }
 
 -- ── one answer ──
 
-linked_of : Option Answer → Linked
-linked_of none = Good
-linked_of (some a) = cond (eqb a.number 13) (Reference (record { 0 = a.t })) (Endless (record { 0 = a.t }))
+linked_of : Option Answer → Result (Unit {0}) Unlinked
+linked_of none = (Ok (record {}))
+linked_of (some a) = cond (eqb a.number 13) (Err (Reference (record { 0 = a.t }))) (Err (Endless (record { 0 = a.t })))
 
-linked_of-linked_as_paper : (T : Table) (r : Linked) → linked_of (linked_as_paper T r) ≡ r
+linked_of-linked_as_paper : (T : Table) (r : Result (Unit {0}) Unlinked) → linked_of (linked_as_paper T r) ≡ r
 unfolding linked_of
-linked_of-linked_as_paper T Good = refl
-linked_of-linked_as_paper T (Reference t) = refl
-linked_of-linked_as_paper T (Endless t) = refl
+linked_of-linked_as_paper T (Ok _) = refl
+linked_of-linked_as_paper T (Err (Reference t)) = refl
+linked_of-linked_as_paper T (Err (Endless t)) = refl
 
 -- two answers with the same number and type are one
-linked-one : (T : Table) (x y : Linked) → linked_as_paper T x ≡ linked_as_paper T y → x ≡ y
+linked-one : (T : Table) (x y : Result (Unit {0}) Unlinked) → linked_as_paper T x ≡ linked_as_paper T y → x ≡ y
 linked-one T x y e = sym (linked_of-linked_as_paper T x) ∙ ap linked_of e ∙ linked_of-linked_as_paper T y
 
 -- two slices of one length that agree at each place are one
@@ -143,35 +136,30 @@ same-places [] (y ∷ ys) l h = absurd (omega arith)
 same-places (x ∷ xs) [] l h = absurd (omega arith)
 same-places (x ∷ xs) (y ∷ ys) l h = ap₂ {C = List ℕ} ◌∷◌ (h 0) (same-places xs ys (omega arith) (λ k. h (suc k)))
 
-leaves-one : (T : Table) (n room : ℕ) (r : Linked) {work work' : List ℕ} → Leaves T n room (work ≡ zeros room) r work
+leaves-one : (T : Table) (n room : ℕ) (r : Result (Unit {0}) Unlinked) {work work' : List ℕ} → Leaves T n room (work ≡ zeros room) r work
     → Leaves T n room (work' ≡ zeros room) r work' → length work ≡ length work' → work ≡ work'
-leaves-one T n room Good {work} {work'} h k l = same-places work work' l (λ x. h x ∙ sym (k x))
-leaves-one T n room (Reference t) h k l = h ∙ sym k
-leaves-one T n room (Endless t) h k l = h ∙ sym k
+leaves-one T n room (Ok _) {work} {work'} h k l = same-places work work' l (λ x. h x ∙ sym (k x))
+leaves-one T n room (Err _) h k l = h ∙ sym k
 
 -- any two results that the contract allows are the same, the work slice too
-pub links-one : {T : Table} {n room : ℕ} (r r' : Linked) {work work' : List ℕ} → LinksOf T n room r work → LinksOf T n room r' work' → (r ≡ r') × (work ≡ work')
+pub links-one : {T : Table} {n room : ℕ} (r r' : Result (Unit {0}) Unlinked) {work work' : List ℕ} → LinksOf T n room r work → LinksOf T n room r' work' → (r ≡ r') × (work ≡ work')
 links-one {T} {n} {room} r r' {work' = work'} h k =
     let same = linked-one T r r' (h.says ∙ sym k.says) in
-    (same, leaves-one T n room r h.leaves (subst (λ (w : Linked). Leaves T n room (work' ≡ zeros room) w work') (sym same) k.leaves) (h.size ∙ sym k.size))
+    (same, leaves-one T n room r h.leaves (subst (λ (w : Result (Unit {0}) Unlinked). Leaves T n room (work' ≡ zeros room) w work') (sym same) k.leaves) (h.size ∙ sym k.size))
 
 -- where something is wrong, the slice is cleared behind it
-pub links-kept : {T : Table} {n room : ℕ} (r : Linked) {work : List ℕ} → BothOf T n room r work → r ≡ Good → length work ≡ room → LinksOf T n room r work
+pub links-kept : {T : Table} {n room : ℕ} (r : Result (Unit {0}) Unlinked) {work : List ℕ} → BothOf T n room r work → r ≡ (Ok (record {})) → length work ≡ room → LinksOf T n room r work
 links-kept {T} {n} {room} r {work} h e l =
-    subst (λ (w : Linked). LinksOf T n room w work) (sym e)
-    (let g = subst (λ (w : Linked). BothOf T n room w work) e h in record { says = g.says; leaves = g.leaves; size = l })
+    subst (λ (w : Result (Unit {0}) Unlinked). LinksOf T n room w work) (sym e)
+    (let g = subst (λ (w : Result (Unit {0}) Unlinked). BothOf T n room w work) e h in record { says = g.says; leaves = g.leaves; size = l })
 
-module _ {T : Table} {n room : ℕ} (r : Linked) {work work' : List ℕ} (h : BothOf T n room r work) (size : ℕ) (clear : work' ≡ zeros size) (same : size ≡ room) where
+module _ {T : Table} {n room : ℕ} (r : Result (Unit {0}) Unlinked) {work work' : List ℕ} (h : BothOf T n room r work) (size : ℕ) (clear : work' ≡ zeros size) (same : size ≡ room) where
   cleared : work' ≡ zeros room
   cleared = clear ∙ ap zeros same
 
   long : length work' ≡ room
   long = ap length cleared ∙ length-replicate {A = ℕ} room 0
 
-  pub links-reference : {t : TypeNo} → r ≡ Reference t → LinksOf T n room r work'
-  links-reference e =
-      subst (λ (w : Linked). LinksOf T n room w work') (sym e) (record { says = sym (ap (linked_as_paper T) e) ∙ h.says; leaves = cleared; size = long })
-
-  pub links-ring : {t : TypeNo} → r ≡ Endless t → LinksOf T n room r work'
-  links-ring e =
-      subst (λ (w : Linked). LinksOf T n room w work') (sym e) (record { says = sym (ap (linked_as_paper T) e) ∙ h.says; leaves = cleared; size = long })
+  pub links-refused : {u : Unlinked} → r ≡ Err u → LinksOf T n room r work'
+  links-refused e =
+      subst (λ (w : Result (Unit {0}) Unlinked). LinksOf T n room w work') (sym e) (record { says = sym (ap (linked_as_paper T) e) ∙ h.says; leaves = cleared; size = long })

@@ -1,5 +1,6 @@
 -- A look along the slots of a record for the next type that is not done.
 -- Assumes nothing.
+use Rattle.std.specs.Prelude.{None}
 use Prim.Native.Nat.{ℕ, zero, suc, ◌+◌, ◌*◌, ◌≤◌, ◌<◌}
 use mathlib.Core.Path.{◌≡◌, refl, sym, ap, ◌∙◌, subst}
 use mathlib.Core.Bool.{Bool, true, false, not, cond, ◌&&◌, false≢true}
@@ -20,7 +21,6 @@ use Rattle.paper.specs.rules.Table.{Record, kind_in}
 use Rattle.paper.specs.declared.Order.{Order}
 use Rattle.paper.specs.rules.Word.{word_at}
 use Rattle.links.specs.Holding.{slots_of, slot_count, types_in, held_from, is_open, NextOpen, HeldIs}
-use Rattle.links.specs.declared.held.Held.TheVariants.{Nothing}
 use Rattle.recall.specs.Recall.{first_telling}
 use Rattle.links.proofs.Holds.{length-slots, slots-few, held_from-step, held_from-end}
 
@@ -113,6 +113,6 @@ module _ {order : Order} {s work : List ℕ} {place end from i : ℕ} (look : Lo
             inside = omega (arith, end-here, length-slots order s);
           }
 
-  pub looking-done : end ≤ i → HeldIs r work from Nothing
+  pub looking-done : end ≤ i → HeldIs r work from None
   looking-done h x m =
       ⊎_elim (λ d. d) (λ l. absurd (Memᴰ.not-nil (subst (Memᴰ x) (held_from-end order s i (omega (arith, end-here))) l))) (look.passed x m)

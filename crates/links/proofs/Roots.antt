@@ -1,5 +1,6 @@
 -- The roots of phase 5 in order: those passed have no endless walk, so what is said from here on is what is said at all. Over walks of either sort.
 -- Assumes nothing.
+use Rattle.std.specs.Prelude.{None, Some}
 use Prim.Native.Nat.{ℕ, zero, suc, ◌+◌, ◌-◌, ◌≤◌, ◌<◌}
 use mathlib.Core.Path.{◌≡◌, refl, sym, ap, ◌∙◌, subst}
 use mathlib.Core.Bool.{Bool, true, false, cond, ◌&&◌}
@@ -18,7 +19,6 @@ use Rattle.paper.specs.rules.Gate.{naming_at, first_of, over_types, zeros}
 use Rattle.paper.specs.rules.Table.{Table, count}
 use Rattle.paper.specs.rules.Walk.{place_at}
 use Rattle.links.proofs.Following.{done-tells}
-use Rattle.links.specs.declared.chains.Ring.TheVariants.{Nowhere, From}
 use Rattle.links.specs.Search.{done, mark_at, Followable, Unsearched, AtRoot, Clean, Followed, ChainsOf, rings_by}
 use Rattle.paper.specs.declared.TypeNo.{TypeNo}
 
@@ -143,11 +143,11 @@ module _ {T : Table} {work : List ℕ} {n size t : ℕ} (r : Rooting T n size wo
       go true e false f = r.clean.outside x (inr (leb-false x n f))
       go false e b f = r.clean.outside x (inl (let k = leb-false 1 x e in let none : x ≡ 0 = omega arith in none))
 
-  pub rooting-done : n ≤ t → ChainsOf T n Nowhere work
+  pub rooting-done : n ≤ t → ChainsOf T n None work
   rooting-done h = record { says = left-done held_by T r.left h; leaves = rooting-marks h }
 
   module _ (more : t < n) where
-    pub rooting-ring : {work' : List ℕ} {u : TypeNo} → u.0 ≡ t + 1 → walks (held_by T) n (t + 1) ≡ true → ChainsOf T n (From u) work'
+    pub rooting-ring : {work' : List ℕ} {u : TypeNo} → u.0 ≡ t + 1 → walks (held_by T) n (t + 1) ≡ true → ChainsOf T n (Some u) work'
     rooting-ring {u = u} same e =
         record { says = ap (λ (v : ℕ). some (report_at 14 v (place_at T v))) same ∙ left-ring held_by T r.left more e refl; leaves = tt }
 

@@ -1,8 +1,7 @@
 -- What a record holds by value from one of its slots on. Its slots are the words that are by-value references, void or not, numbered from 0 in their order.
-use Rattle.std.specs.Prelude.{ℕ, ◌<◌, ◌≤◌, ◌≡◌, Bool, not, cond, ◌&&◌, ◌⊎◌, eqb, ltb, length, get_or, drop}
+use Rattle.paper.specs.declared.TypeNo.{TypeNo}
+use Rattle.std.specs.Prelude.{ℕ, ◌<◌, ◌≤◌, ◌≡◌, Bool, not, cond, ◌&&◌, ◌⊎◌, eqb, ltb, length, get_or, drop, None, Option as RustOption, Some}
 use mathlib.Core.List.{List, [], ◌∷◌, Memᴰ}
-use Rattle.links.specs.declared.held.Held.{Held}
-use Rattle.links.specs.declared.held.Held.TheVariants.{Found, Nothing}
 use Rattle.kindrows.specs.Codes.{is_held}
 use Rattle.paper.specs.rules.Chain.{step_to}
 use Rattle.paper.specs.rules.Kind.{Role}
@@ -43,6 +42,6 @@ pub record NextOpen (r : Record) (work : List ℕ) (j u k : ℕ) : Type 0 where
   pub inside : k ≤ length (slots_of r)
 
 -- what is answered of the types held from slot j on
-abbrev pub HeldIs : Record → List ℕ → ℕ → Held → Type 0
-HeldIs r work j Nothing = (x : ℕ) → Memᴰ x (held_from r j) → first_telling ≤ get_or work x 0
-HeldIs r work j (Found u k) = NextOpen r work j u.0 k
+abbrev pub HeldIs : Record → List ℕ → ℕ → RustOption (TypeNo × ℕ) → Type 0
+HeldIs r work j None = (x : ℕ) → Memᴰ x (held_from r j) → first_telling ≤ get_or work x 0
+HeldIs r work j (Some (u, k)) = NextOpen r work j u.0 k

@@ -1,9 +1,9 @@
 -- What phases 4 and 5 answer together.
-use Rattle.std.specs.Prelude.{ℕ, ◌≡◌, Bool, cond, ◌&&◌, List, leb, ltb, length, get_or}
+use Rattle.links.specs.declared.whole.Unlinked.TheVariants.{Endless, Reference}
+use Rattle.links.specs.declared.whole.Unlinked.{Unlinked}
+use Rattle.std.specs.Prelude.{ℕ, ◌≡◌, Bool, cond, ◌&&◌, List, leb, ltb, length, get_or, Err, Ok, Result}
 use Rattle.std.proofs.Math.Option.{Option, none, some}
 use Rattle.links.specs.Search.{mark_at}
-use Rattle.links.specs.declared.whole.Linked.{Linked}
-use Rattle.links.specs.declared.whole.Linked.TheVariants.{Good, Reference, Endless}
 use Rattle.paper.specs.rules.Answer.{Answer, report_at}
 use Rattle.paper.specs.rules.Choice.{or_else}
 use Rattle.paper.specs.rules.Gate.{over_types, phase4, phase5, zeros}
@@ -11,10 +11,10 @@ use Rattle.paper.specs.rules.Limits.{type_limit}
 use Rattle.paper.specs.rules.Table.{Table}
 use Rattle.paper.specs.rules.Walk.{place_at}
 
-abbrev pub linked_as_paper : Table → Linked → Option Answer
-linked_as_paper T Good = none
-linked_as_paper T (Reference t) = some (report_at 13 t.0 (place_at T t.0))
-linked_as_paper T (Endless t) = some (report_at 14 t.0 (place_at T t.0))
+abbrev pub linked_as_paper : Table → Result (Unit {0}) Unlinked → Option Answer
+linked_as_paper T (Ok _) = none
+linked_as_paper T (Err (Reference t)) = some (report_at 13 t.0 (place_at T t.0))
+linked_as_paper T (Err (Endless t)) = some (report_at 14 t.0 (place_at T t.0))
 
 -- of n types, no more than the limit, and a work slice with a place for each; nothing is said of others
 abbrev pub searched : ℕ → ℕ → Bool
@@ -28,17 +28,16 @@ abbrev pub remains_at : Table → ℕ → ℕ → ℕ → ℕ
 remains_at T n room x = cond (searched n room) (mark_at T n x) 0
 
 -- and else what is said of it then
-abbrev pub Leaves : Table → ℕ → ℕ → Type 0 → Linked → List ℕ → Type 0
-Leaves T n room refused Good work = (x : ℕ) → get_or work x 0 ≡ remains_at T n room x
-Leaves T n room refused (Reference t) work = refused
-Leaves T n room refused (Endless t) work = refused
+abbrev pub Leaves : Table → ℕ → ℕ → Type 0 → Result (Unit {0}) Unlinked → List ℕ → Type 0
+Leaves T n room refused (Ok _) work = (x : ℕ) → get_or work x 0 ≡ remains_at T n room x
+Leaves T n room refused (Err _) work = refused
 
-pub record LinksOf (T : Table) (n room : ℕ) (r : Linked) (work : List ℕ) : Type 0 where
+pub record LinksOf (T : Table) (n room : ℕ) (r : Result (Unit {0}) Unlinked) (work : List ℕ) : Type 0 where
   pub says : linked_as_paper T r ≡ links_say T n room
   pub leaves : Leaves T n room (work ≡ zeros room) r work
   pub size : length work ≡ room
 
 -- the same, with a work slice that may hold anything where something is wrong
-pub record BothOf (T : Table) (n room : ℕ) (r : Linked) (work : List ℕ) : Type 0 where
+pub record BothOf (T : Table) (n room : ℕ) (r : Result (Unit {0}) Unlinked) (work : List ℕ) : Type 0 where
   pub says : linked_as_paper T r ≡ links_say T n room
   pub leaves : Leaves T n room (Unit {0}) r work

@@ -1,13 +1,11 @@
 -- Phase 5 in the work slice: what a type's mark says, what one step of the search does, and what is known between two roots.
-use Rattle.std.specs.Prelude.{ℕ, ◌+◌, ◌-◌, ◌*◌, ◌/◌, ◌%◌, ◌≤◌, ◌<◌, ◌≡◌, Bool, true, false, cond, ◌&&◌, ◌⊎◌, leb, ltb, length, get_or, set}
+use Rattle.paper.specs.declared.TypeNo.{TypeNo}
+use Rattle.std.specs.Prelude.{ℕ, ◌+◌, ◌-◌, ◌*◌, ◌/◌, ◌%◌, ◌≤◌, ◌<◌, ◌≡◌, Bool, true, false, cond, ◌&&◌, ◌⊎◌, leb, ltb, length, get_or, set, None, Option as RustOption, Some}
 use mathlib.Core.List.{List, [], ◌∷◌, Memᴰ}
 use Rattle.std.proofs.Math.Option.{Option, none, some}
-use Rattle.links.specs.declared.chains.Ring.{Ring}
-use Rattle.links.specs.declared.chains.Ring.TheVariants.{Nowhere, From}
 use Rattle.links.specs.declared.chains.Move.{Move}
 use Rattle.links.specs.declared.chains.Move.TheVariants.{On, Met, Finished}
 use Rattle.links.specs.Holding.{slots_of, HeldIs, NextOpen}
-use Rattle.links.specs.declared.held.Held.TheVariants.{Nothing}
 use Rattle.paper.specs.rules.Answer.{Answer, report_at}
 use Rattle.paper.specs.rules.Chain.{held_by, walks}
 use Rattle.paper.specs.rules.Choice.{Rule, ◌when◌}
@@ -67,7 +65,7 @@ pub data Moved (r : Record) (work : List ℕ) (t j mark : ℕ) (work' : List ℕ
   -- the next type that is not done was not seen yet
   into : {k : ℕ} → NextOpen r work j v k → get_or work v 0 ≡ 0 → i ≡ 0 → work' ≡ set work v (mark_of t k) → Moved r work t j mark work' v i
   -- there is none: back to where t was entered from
-  back : HeldIs r work j Nothing → (get_or work t 0 ≡ as_root → ⊥) → v ≡ (get_or work t 0 - 1) / many_slots → i ≡ (get_or work t 0 - 1) % many_slots
+  back : HeldIs r work j None → (get_or work t 0 ≡ as_root → ⊥) → v ≡ (get_or work t 0 - 1) / many_slots → i ≡ (get_or work t 0 - 1) % many_slots
       → work' ≡ set work t mark → Moved r work t j mark work' v i
 
 -- the next type that is not done is on the way itself
@@ -79,7 +77,7 @@ pub record RingMet (r : Record) (work : List ℕ) (j : ℕ) : Type 0 where
 
 -- all that the root holds is done
 pub record RootDone (r : Record) (work : List ℕ) (t j mark : ℕ) (work' : List ℕ) : Type 0 where
-  pub spent : HeldIs r work j Nothing
+  pub spent : HeldIs r work j None
   pub outer : get_or work t 0 ≡ as_root
   pub marked : work' ≡ set work t mark
 
@@ -118,14 +116,14 @@ abbrev pub rings_by : (Table → ℕ → List ℕ) → Table → ℕ → List Ru
 rings_by step T t = 14 when walks (step T) (count T) t ∷ []
 
 -- the smaller of two types, where there are two
-abbrev pub smaller_of : Ring → Ring → Ring
-smaller_of Nowhere b = b
-smaller_of (From t) Nowhere = From t
-smaller_of (From t) (From u) = cond (ltb u.0 t.0) (From u) (From t)
+abbrev pub smaller_of : RustOption TypeNo → RustOption TypeNo → RustOption TypeNo
+smaller_of None b = b
+smaller_of (Some t) None = Some t
+smaller_of (Some t) (Some u) = cond (ltb u.0 t.0) (Some u) (Some t)
 
-abbrev pub ring_as_paper : Table → Ring → Option Answer
-ring_as_paper T Nowhere = none
-ring_as_paper T (From t) = some (report_at 14 t.0 (place_at T t.0))
+abbrev pub ring_as_paper : Table → RustOption TypeNo → Option Answer
+ring_as_paper T None = none
+ring_as_paper T (Some t) = some (report_at 14 t.0 (place_at T t.0))
 
 -- ── what is left ──
 
@@ -134,16 +132,16 @@ abbrev pub mark_at : Table → ℕ → ℕ → ℕ
 mark_at T n x = cond (leb 1 x && leb x n) (done T x) 0
 
 -- where no ring is found; else the marks may be any
-abbrev pub RingLeaves : Table → ℕ → Ring → List ℕ → Type 0
-RingLeaves T n Nowhere work = (x : ℕ) → get_or work x 0 ≡ mark_at T n x
-RingLeaves T n (From t) work = Unit {0}
+abbrev pub RingLeaves : Table → ℕ → RustOption TypeNo → List ℕ → Type 0
+RingLeaves T n None work = (x : ℕ) → get_or work x 0 ≡ mark_at T n x
+RingLeaves T n (Some t) work = Unit {0}
 
 -- the answer by the first sort of walk, and what it leaves
-pub record ChainsOf (T : Table) (n : ℕ) (r : Ring) (work : List ℕ) : Type 0 where
+pub record ChainsOf (T : Table) (n : ℕ) (r : RustOption TypeNo) (work : List ℕ) : Type 0 where
   pub says : ring_as_paper T r ≡ over_types (rings_by held_by) T
   pub leaves : RingLeaves T n r work
 
 -- and by both
-pub record RingsOf (T : Table) (n : ℕ) (r : Ring) (work : List ℕ) : Type 0 where
+pub record RingsOf (T : Table) (n : ℕ) (r : RustOption TypeNo) (work : List ℕ) : Type 0 where
   pub says : ring_as_paper T r ≡ over_types phase5 T
   pub leaves : RingLeaves T n r work

@@ -6,19 +6,13 @@ ghost use Rattle.paper.specs.rules.Table.{record_at};
 ghost use Rattle.recall.specs.Recall.{mark_told};
 ghost use Rattle.views.specs.Shown.{table_by};
 
-use crate::held::{Held, next_open};
+use crate::held::next_open;
 use paper::TypeNo;
 use recall::mark_of;
 use views::{View, record_of};
 
-// The smallest type that leads to a ring of some sort, if there is one.
-#[derive(Clone, Copy)]
-pub(crate) enum Ring {
-    Nowhere,
-    From(TypeNo),
-}
-
-// How the search goes on: at a slot of a type; or a reference leads back into the way; or the root is finished.
+// How the search goes on: at a slot of a type; or a reference leads back into the way; or the root is finished. An enum of its own: the three
+// are steps of one walk, and none refuses.
 #[derive(Clone, Copy)]
 enum Move {
     On(TypeNo, u32),
@@ -47,7 +41,7 @@ fn move_from<'a>(
     let order = view.order;
     let bytes = record_of(base, b, index, view, t);
     match next_open(order, bytes, work, j) {
-        Held::Nothing => {
+        None => {
             let mark = work[from];
             work[from] = mark_of(base, b, index, view, work, bytes);
             if mark == 1 {
@@ -56,7 +50,7 @@ fn move_from<'a>(
             let way = mark - 1;
             Move::On(TypeNo(way / SLOTS), way % SLOTS)
         }
-        Held::Found(u, k) => {
+        Some((u, k)) => {
             let to = u.0 as usize;
             let mark = work[to];
             if mark != 0 {
@@ -83,6 +77,7 @@ fn follow<'a>(
     let mut t = root.0;
     let mut j: u32 = 0;
     work[t as usize] = 1;
+    // A loop: a step goes on, goes back or ends the search, and no count says how many there are.
     loop {
         match move_from(base, b, index, view, TypeNo(t), j, work) {
             Move::On(u, k) => {
@@ -121,17 +116,16 @@ pub(crate) fn chains<'a>(
     index: &[u32],
     view: View,
     work: &mut [u32],
-) -> Ring
+) -> Option<TypeNo>
     requires { Unsearched (table_by base.now b.now index.now view) view.n work.old }
     ensures { ChainsOf (table_by base.now b.now index.now view) view.n result work.new }
 {
     let n = view.n;
-    let mut t: u32 = 0;
-    while t < n {
-        t += 1;
-        if visit(base, b, index, view, TypeNo(t), work) {
-            return Ring::From(TypeNo(t));
+    for k in 0..n {
+        let t = TypeNo(k + 1);
+        if visit(base, b, index, view, t, work) {
+            return Some(t);
         }
     }
-    Ring::Nowhere
+    None
 }

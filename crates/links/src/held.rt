@@ -7,13 +7,6 @@ use paper::{Order, Place, TypeNo};
 use recall::FIRST_TELLING;
 use rows::{held_place, kind_of, vlen_of};
 
-// A type that is held, with the number of the slot behind the reference, or that all others are done.
-#[derive(Clone, Copy)]
-pub(crate) enum Held {
-    Found(TypeNo, u32),
-    Nothing,
-}
-
 // How many slots a record has, by where the first stands.
 fn slot_count(place: u32, info: u32) -> u32
     ensures { result ≡ slot_count place info }
@@ -42,20 +35,23 @@ fn is_open(work: &[u32], u: u32) -> bool
 }
 
 // The first type that a record holds from a slot on and that is not done. A member has three words, so slots stand twelve bytes apart.
-pub(crate) fn next_open(order: Order, bytes: &[u8], work: &[u32], from: u32) -> Held
+pub(crate) fn next_open(
+    order: Order,
+    bytes: &[u8],
+    work: &[u32],
+    from: u32,
+) -> Option<(TypeNo, u32)>
     ensures { HeldIs (record_in order bytes.now) work.now from result }
 {
     let info = words::read(order, bytes, Place(4));
     let place = held_place(kind_of(info));
     let end = slot_count(place, info);
-    let mut i = from;
-    while i < end {
+    for i in from..end {
         let at = place + 12 * i;
         let u = words::read(order, bytes, Place(at));
-        i += 1;
         if is_open(work, u) {
-            return Held::Found(TypeNo(u), i);
+            return Some((TypeNo(u), i + 1));
         }
     }
-    Held::Nothing
+    None
 }

@@ -7,4 +7,4 @@ mod pointers; // phase 5: walks over pointers, typedefs, qualifiers and tags
 mod rings; // phase 5: the first of both sorts
 mod whole; // both phases
 
-pub use whole::{Linked, links};
+pub use whole::{Unlinked, links};

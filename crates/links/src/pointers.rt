@@ -7,7 +7,6 @@ ghost use Rattle.paper.specs.rules.Chain.{is_link, pointed_by, step_to};
 ghost use Rattle.paper.specs.rules.Gate.{over_types};
 ghost use Rattle.views.specs.Shown.{table_by};
 
-use crate::chains::Ring;
 use kindrows::PTR;
 use paper::{Place, TypeNo};
 use rows::{is_alias, kind_of};
@@ -48,6 +47,7 @@ fn trail<'a>(
     ensures { Trailed (pointed_by (table_by base.now b.now index.now view)) view.n root.0 work.new result }
 {
     let mut t = root.0;
+    // A loop: each type says which is next, until one is marked or leads nowhere.
     loop {
         let at = t as usize;
         let mark = work[at];
@@ -70,17 +70,15 @@ pub(crate) fn pointers<'a>(
     index: &[u32],
     view: View,
     work: &mut [u32],
-) -> Ring
+) -> Option<TypeNo>
     requires { Unsearched (table_by base.now b.now index.now view) view.n work.old }
     ensures { ring_as_paper (table_by base.now b.now index.now view) result ≡ over_types (rings_by pointed_by) (table_by base.now b.now index.now view) }
 {
-    let n = view.n;
-    let mut t: u32 = 0;
-    while t < n {
-        t += 1;
-        if trail(base, b, index, view, TypeNo(t), work) {
-            return Ring::From(TypeNo(t));
+    for k in 0..view.n {
+        let t = TypeNo(k + 1);
+        if trail(base, b, index, view, t, work) {
+            return Some(t);
         }
     }
-    Ring::Nowhere
+    None
 }

@@ -3,21 +3,21 @@ ghost use Rattle.std.specs.Prelude.{◌≡◌};
 ghost use Rattle.links.specs.Search.{RingsOf, Unsearched, smaller_of};
 ghost use Rattle.views.specs.Shown.{table_by};
 
-use crate::chains::{Ring, chains};
+use crate::chains::chains;
 use crate::pointers::pointers;
 use paper::TypeNo;
 use scan::clear;
 use views::View;
 
 // The smaller of two, where there are two.
-fn smaller(a: Ring, b: Ring) -> Ring
+fn smaller(a: Option<TypeNo>, b: Option<TypeNo>) -> Option<TypeNo>
     ensures { result ≡ smaller_of a b }
 {
     match a {
-        Ring::Nowhere => b,
-        Ring::From(t) => match b {
-            Ring::Nowhere => a,
-            Ring::From(u) => {
+        None => b,
+        Some(t) => match b {
+            None => a,
+            Some(u) => {
                 if u.0 < t.0 {
                     return b;
                 }
@@ -34,7 +34,7 @@ pub(crate) fn rings<'a>(
     index: &[u32],
     view: View,
     work: &mut [u32],
-) -> Ring
+) -> Option<TypeNo>
     requires { Unsearched (table_by base.now b.now index.now view) view.n work.old }
     ensures { RingsOf (table_by base.now b.now index.now view) view.n result work.new }
 {

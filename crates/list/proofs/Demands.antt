@@ -1,5 +1,7 @@
 -- Order 10 of the code: what it means that `write` has answered, in the request's words. Each from the contract alone.
 -- Assumes nothing.
+use Rattle.std.specs.Prelude.{Result, ℕ}
+use Rattle.lists.specs.declared.WriteError.{WriteError}
 use Prim.Native.Nat.{ℕ, ◌≤◌}
 use mathlib.Core.Path.{◌≡◌, refl, sym, ap, ◌∙◌}
 use mathlib.Core.Bool.{Bool}
@@ -14,7 +16,6 @@ use Rattle.lists.proofs.Written.{read_list-list_of}
 use Rattle.lists.proofs.Wrotes.{wrote_one}
 use Rattle.lists.specs.Kept.{WriteOutcome, list_in, write_list, write_outcome, write_refusal, wrote_as_paper}
 use Rattle.lists.specs.List.{read_list, table}
-use Rattle.lists.specs.declared.Wrote.{Wrote}
 use Rattle.paper.proofs.gates.Acceptance.{accepted-fits}
 use Rattle.paper.specs.rules.Answer.{Answer, value}
 use Rattle.paper.specs.rules.Choice.{◌when◌, first_due, or_else}
@@ -24,7 +25,7 @@ use Rattle.paper.specs.rules.Join.{refused_inside}
 use Rattle.paper.specs.rules.Walk.{table_of}
 use Rattle.paper.specs.terms.Fit.{Bytes}
 
-module _ {r : Wrote} {b : List ℕ} {places work : ℕ} {out index left output : List ℕ} (h : WriteOf r b places work out index left output) where
+module _ {r : Result ℕ WriteError} {b : List ℕ} {places work : ℕ} {out index left output : List ℕ} (h : WriteOf r b places work out index left output) where
   abbrev ground : Option Answer
   ground = write_refusal b places work (length out)
 
@@ -72,7 +73,7 @@ module _ {r : Wrote} {b : List ℕ} {places work : ℕ} {out index left output :
         ∙ read_list-list_of (order_of b) (table_of b) f.whole f.words-fit
 
 -- any two results that the contract allows are the same, slice by slice
-pub write-one : {r r' : Wrote} {b : List ℕ} {places work : ℕ} {out index left output index' left' output' : List ℕ}
+pub write-one : {r r' : Result ℕ WriteError} {b : List ℕ} {places work : ℕ} {out index left output index' left' output' : List ℕ}
     → WriteOf r b places work out index left output → WriteOf r' b places work out index' left' output'
     → (r ≡ r') × (index ≡ index') × (left ≡ left') × (output ≡ output')
 write-one {r} {r'} h k = (

@@ -57,9 +57,10 @@ pub record Fielding (tag : ℕ) (body before : List ℕ) (at : ℕ) (out : List 
   pub enough : length (drop from body) ≤ fuel
   pub rest : done ++ fields_in fuel t (drop from body) ≡ body_fields tag body
 
-pub fielding-start : (tag : ℕ) (body before : List ℕ) (at : ℕ) → at + fields_length (length body) ≤ length before → Fielding tag body before at before tag 0 at
+pub fielding-start : (tag : ℕ) (body before : List ℕ) (at : ℕ) {p : ℕ} → at + fields_length (length body) ≤ length before → p ≡ at
+    → Fielding tag body before at before tag 0 p
 unfolding body_fields
-fielding-start tag body before at room =
+fielding-start tag body before at room e =
     record {
       inside = omega arith;
       kept = refl;

@@ -28,16 +28,16 @@ pub record Gathering (s : List ℕ) (at len : ℕ) (before : List ℕ) (to : ℕ
   pub there : p + fields_length (len - from) ≤ length s
   pub went : (tag : ℕ) (body rest : List ℕ) → drop at s ≡ body_fields tag body ++ rest → length body ≡ len → Went s body rest before to out from p
 
-pub gathering-start : (s : List ℕ) (at len : ℕ) (before : List ℕ) (to : ℕ) → at + fields_length len ≤ length s → to + len ≤ length before
-    → Gathering s at len before to before 0 at
+pub gathering-start : (s : List ℕ) (at len : ℕ) (before : List ℕ) (to : ℕ) {p : ℕ} → at + fields_length len ≤ length s → to + len ≤ length before → p ≡ at
+    → Gathering s at len before to before 0 p
 unfolding body_fields
-gathering-start s at len before to there room =
+gathering-start s at len before to there room same =
     record {
       inside = omega arith;
       kept = refl;
       room = room;
       there = omega arith;
-      went = λ tag body rest e long. record { tag = tag; fuel = length body; enough = omega arith; fields = e; puts = put-none before to };
+      went = λ tag body rest e long. record { tag = tag; fuel = length body; enough = omega arith; fields = ap (λ (q : ℕ). drop q s) same ∙ e; puts = put-none before to };
     }
 
 module _ {s : List ℕ} {at len : ℕ} {before : List ℕ} {to : ℕ} {out : List ℕ} {from p : ℕ} (c : Gathering s at len before to out from p) where

@@ -1,5 +1,8 @@
 -- Order 10 of the code, reading: what it means that `read` has answered, and that what one of the two writes the other gives back.
 -- Each from the contracts alone. Assumes nothing.
+use Rattle.std.specs.Prelude.{Result, ℕ}
+use Rattle.lists.specs.declared.WriteError.{WriteError}
+use Rattle.lists.specs.declared.MakeError.{MakeError}
 use Prim.Native.Nat.{ℕ, ◌≤◌, ◌<◌}
 use mathlib.Core.Path.{◌≡◌, refl, sym, ap, ap₂, ◌∙◌}
 use mathlib.Core.Bool.{Bool, true, false, ◌||◌}
@@ -19,8 +22,6 @@ use Rattle.lists.proofs.Keeping.{list-table, table-list}
 use Rattle.lists.proofs.Wrotes.{made_one}
 use Rattle.lists.specs.Kept.{ReadOutcome, list_in, looked, made_as_paper, made_outcome, read_into, read_outcome}
 use Rattle.lists.specs.List.{Listed, unread, table, read_list}
-use Rattle.lists.specs.declared.Made.{Made}
-use Rattle.lists.specs.declared.Wrote.{Wrote}
 use Rattle.paper.proofs.gates.Acceptance.{accepted-bytes, accepted-with}
 use Rattle.paper.specs.declared.Order.{Order}
 use Rattle.paper.specs.rules.Answer.{Answer, value}
@@ -70,7 +71,7 @@ module _ (s : List ℕ) (places work lent : ℕ) (out : List ℕ) where
 
 -- ── what `read` answers ──
 
-module _ {r : Made} {s : List ℕ} {places work lent : ℕ} {out index left bytes output : List ℕ} (h : ReadOf r s places work lent out index left bytes output) where
+module _ {r : Result ℕ MakeError} {s : List ℕ} {places work lent : ℕ} {out index left bytes output : List ℕ} (h : ReadOf r s places work lent out index left bytes output) where
   abbrev o : ReadOutcome
   o = read_into s places work lent out
 
@@ -119,7 +120,7 @@ module _ {r : Made} {s : List ℕ} {places work lent : ℕ} {out index left byte
           }
 
 -- any two results that the contract allows are the same, slice by slice
-pub read_one : {r r' : Made} {s : List ℕ} {places work lent : ℕ} {out index left bytes output index' left' bytes' output' : List ℕ}
+pub read_one : {r r' : Result ℕ MakeError} {s : List ℕ} {places work lent : ℕ} {out index left bytes output index' left' bytes' output' : List ℕ}
     → ReadOf r s places work lent out index left bytes output → ReadOf r' s places work lent out index' left' bytes' output'
     → (r ≡ r') × (index ≡ index') × (left ≡ left') × (bytes ≡ bytes') × (output ≡ output')
 read_one {r} {r'} h k = (
@@ -133,7 +134,7 @@ read_one {r} {r'} h k = (
 -- ── table to list to table ──
 
 -- an accepted table that `write` has written out, where there was room, `read` gives back byte for byte, in whatever slices have room for it
-pub written_back : {w : Wrote} {r : Made} {b : List ℕ} {places work : ℕ} {paper index left list : List ℕ} → WriteOf w b places work paper index left list
+pub written_back : {w : Result ℕ WriteError} {r : Result ℕ MakeError} {b : List ℕ} {places work : ℕ} {paper index left list : List ℕ} → WriteOf w b places work paper index left list
     → refusal b places work ≡ none → Bytes b → length (list_in b) ≤ length paper
     → {places' work' lent : ℕ} {out index' left' bytes' output : List ℕ} → ReadOf r (take (length (list_in b)) list) places' work' lent out index' left' bytes' output
     → count (table_of b) < places' → count (table_of b) < work' → length b ≤ length out → length b ≤ lent

@@ -11,7 +11,7 @@ use Rattle.list.specs.Making.{BodyPut, MakeAsk, blob_in, front_of}
 use Rattle.lists.proofs.Bodies.{info-bytes, info-in-field}
 use Rattle.lists.proofs.Lengths.{length-body_fields}
 use Rattle.lists.proofs.OneReading.{read_list-one}
-use Rattle.lists.specs.List.{body_fields, field, fields_length, list_of, read_list, record_field, record_fields, string_tag, table}
+use Rattle.lists.specs.List.{body_fields, fields_length, list_of, read_list, record_field, record_fields, string_tag, table}
 use Rattle.paper.proofs.bytes.Bytes.{below_left, below_right, bytes_of_words-append, length-bytes_of_words, part-rest}
 use Rattle.paper.proofs.bytes.Puts.{length-put, put_front, put-none, put-put}
 use Rattle.paper.proofs.bytes.Tables.{bytes_of-parts}

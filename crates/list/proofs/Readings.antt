@@ -1,5 +1,8 @@
 -- Laws of the answers: by what a list is read as, the lengths of the slices, and what the check says of its table.
 -- Assumes nothing.
+use Rattle.std.specs.Prelude.{Err, Ok, Result, ℕ}
+use Rattle.lists.specs.declared.MakeError.TheVariants.{Refused, Short, Unread}
+use Rattle.lists.specs.declared.MakeError.{MakeError}
 use Prim.Native.Nat.{ℕ, ◌+◌, ◌-◌, ◌≤◌, ◌<◌}
 use mathlib.Core.Path.{◌≡◌, refl, sym, ap, ap₂, ◌∙◌, subst}
 use mathlib.Core.Bool.{Bool, true, false, ◌||◌}
@@ -16,14 +19,10 @@ use Rattle.list.specs.Reading.{LaidOf, LookedOf, ReadOf}
 use Rattle.lists.specs.Kept.{ReadOutcome, fault_number, looked, made_as_paper, made_outcome, read_into, read_outcome, too_short}
 use Rattle.lists.specs.List.{Listed, unread, table, read_list}
 use Rattle.lists.specs.declared.Fault.{Fault}
-use Rattle.lists.specs.declared.Made.{Made}
-use Rattle.lists.specs.declared.Made.TheVariants.{Whole, Unread, Short, Refused}
 use Rattle.paper.proofs.Figures.{more_bytes}
 use Rattle.paper.proofs.bytes.Puts.{laid-fits, put_front}
 use Rattle.paper.proofs.bytes.Tables.{length-bytes_of}
 use Rattle.paper.proofs.gates.Answered.{checked-accepted, checked_refused}
-use Rattle.paper.specs.declared.Checked.{Checked}
-use Rattle.paper.specs.declared.Checked.TheVariants as checked
 use Rattle.paper.specs.declared.Report.{Report}
 use Rattle.paper.specs.declared.Report.TheVariants.{Length}
 use Rattle.paper.specs.rules.Answer.{Answer, checked_as_paper, report_as_paper, value}
@@ -46,7 +45,7 @@ holds-rest room sections h = go (leb sections (room - 24)) refl
     go false e = sym (lt-leb (24 + sections) room (omega (arith, leb-false sections (room - 24) e)))
 
 -- what is checked is what was laid
-pub laid-checked : {c : Checked} {s : List ℕ} {places work : ℕ} {index left bytes : List ℕ} → bytes ≡ blob_in (read_list s)
+pub laid-checked : {c : Result ℕ Report} {s : List ℕ} {places work : ℕ} {index left bytes : List ℕ} → bytes ≡ blob_in (read_list s)
     → CheckOf c bytes places work index left → LaidOf c s places work index left bytes
 laid-checked {c} {s} {places} {work} {index} {left} e k =
     record { checks = subst (λ (b : List ℕ). CheckOf c b places work index left) e k; lays = e }
@@ -79,7 +78,7 @@ module _ (s : List ℕ) (places work lent : ℕ) (out : List ℕ) where
   by-listed e = ap (λ (l : Listed). read_outcome l places work lent out) e
 
   -- whatever the outcome is, an answer and slices that are its own
-  told : (r : Made) {o : ReadOutcome} → read_into s places work lent out ≡ o → made_as_paper r ≡ o.answer → {index left output : List ℕ} → index ≡ o.index
+  told : (r : Result ℕ MakeError) {o : ReadOutcome} → read_into s places work lent out ≡ o → made_as_paper r ≡ o.answer → {index left output : List ℕ} → index ≡ o.index
       → left ≡ o.work → output ≡ o.output → LookedOf r s places work lent out index left output
   told r e a i w u =
       record {
@@ -109,9 +108,9 @@ module _ (s : List ℕ) (places work lent : ℕ) (out : List ℕ) where
   -- ── 50 to 52 ──
 
   pub look-unread : (f : Fault) → read_list s ≡ unread (fault_number f) → {index left : List ℕ} → index ≡ zeros places → left ≡ zeros work
-      → LookedOf (Unread f) s places work lent out index left out
+      → LookedOf (Err (Unread f)) s places work lent out index left out
   unfolding made_as_paper
-  look-unread f e i w = told (Unread f) (by-listed e) refl i w refl
+  look-unread f e i w = told (Err (Unread f)) (by-listed e) refl i w refl
 
   -- ── a table ──
 
@@ -129,14 +128,14 @@ module _ (s : List ℕ) (places work lent : ℕ) (out : List ℕ) where
 
     module _ {index left : List ℕ} (clear : index ≡ zeros places) (clear' : left ≡ zeros work) where
       -- 53: the output, then the lent bytes
-      pub look-output : length out < 24 + (x.strings + x.records.bytes) → LookedOf Short s places work lent out index left out
+      pub look-output : length out < 24 + (x.strings + x.records.bytes) → LookedOf (Err Short) s places work lent out index left out
       unfolding made_as_paper
-      look-output h = told Short (by-room (lt-ltb (length out) (length blob) (omega (arith, blob-long))) refl) refl clear clear' refl
+      look-output h = told (Err Short) (by-room (lt-ltb (length out) (length blob) (omega (arith, blob-long))) refl) refl clear clear' refl
 
       module _ (room : 24 + (x.strings + x.records.bytes) ≤ length out) where
-        pub look-lent : lent < 24 + (x.strings + x.records.bytes) → LookedOf Short s places work lent out index left out
+        pub look-lent : lent < 24 + (x.strings + x.records.bytes) → LookedOf (Err Short) s places work lent out index left out
         unfolding made_as_paper
-        look-lent h = told Short (by-room (le-ltb (length out) (length blob) (omega (arith, blob-long))) (lt-ltb lent (length blob) (omega (arith, blob-long)))) refl clear clear' refl
+        look-lent h = told (Err Short) (by-room (le-ltb (length out) (length blob) (omega (arith, blob-long))) (lt-ltb lent (length blob) (omega (arith, blob-long)))) refl clear clear' refl
 
     module _ (room : 24 + (x.strings + x.records.bytes) ≤ length out) (room' : 24 + (x.strings + x.records.bytes) ≤ lent) where
       by-look : {o : Option Answer} → refusal blob places work ≡ o
@@ -147,12 +146,12 @@ module _ (s : List ℕ) (places work lent : ℕ) (out : List ℕ) where
 
       -- 54 with 1: no table of this length is accepted, so it is not laid
       pub look-long : byte_limit < 24 + (x.strings + x.records.bytes) → {index left : List ℕ} → index ≡ zeros places → left ≡ zeros work
-          → LookedOf (Refused Length) s places work lent out index left out
+          → LookedOf (Err (Refused Length)) s places work lent out index left out
       unfolding made_as_paper report_as_paper gate
       look-long h i w =
           let e = more_bytes blob places work (omega (arith, blob-long)) in
           let o = ap (outcome (table_of blob) places work) e in
-          told (Refused Length) (by-look e) refl (i ∙ sym (ap (λ (x : Outcome). x.index) o)) (w ∙ sym (ap (λ (x : Outcome). x.work) o)) refl
+          told (Err (Refused Length)) (by-look e) refl (i ∙ sym (ap (λ (x : Outcome). x.index) o)) (w ∙ sym (ap (λ (x : Outcome). x.work) o)) refl
 
       -- what is asked of it where it is laid
       pub look-ask : Bytes s → 24 + (x.strings + x.records.bytes) ≤ byte_limit → {len : ℕ} → len ≡ 24 + (x.strings + x.records.bytes)
@@ -171,36 +170,36 @@ module _ (s : List ℕ) (places work lent : ℕ) (out : List ℕ) where
       blob-is : blob_in (read_list s) ≡ blob
       blob-is = ap blob_in t.reads
 
-      module _ {c : Checked} {index left bytes : List ℕ} (h : LaidOf c s places work index left bytes) where
+      module _ {c : Result ℕ Report} {index left bytes : List ℕ} (h : LaidOf c s places work index left bytes) where
         checks : CheckOf c blob places work index left
         checks = subst (λ (b : List ℕ). CheckOf c b places work index left) blob-is h.checks
 
         pub laid-long : length bytes ≡ 24 + (x.strings + x.records.bytes)
         laid-long = ap length (h.lays ∙ blob-is) ∙ blob-long
 
-        pub look-refused : (r : Report) → c ≡ checked.Refused r → LookedOf (Refused r) s places work lent out index left out
+        pub look-refused : (r : Report) → c ≡ Err r → LookedOf (Err (Refused r)) s places work lent out index left out
         unfolding made_as_paper
         look-refused r p =
             let e = checked_refused blob places work r (ap checked_as_paper (sym p) ∙ checks.told.answers) in
-            told (Refused r) (by-look e) refl checks.told.indexes checks.cleared refl
+            told (Err (Refused r)) (by-look e) refl checks.told.indexes checks.cleared refl
 
-        pub look-made : {m : ℕ} → c ≡ checked.Accepted m → {n : ℕ} → n ≡ 24 + (x.strings + x.records.bytes) → {output : List ℕ}
-            → output ≡ bytes ++ drop n out → LookedOf (Whole n) s places work lent out index left output
+        pub look-made : {m : ℕ} → c ≡ Ok m → {n : ℕ} → n ≡ 24 + (x.strings + x.records.bytes) → {output : List ℕ}
+            → output ≡ bytes ++ drop n out → LookedOf (Ok n) s places work lent out index left output
         unfolding made_as_paper
         look-made p {n} long e =
             let a = (checked-accepted blob places work (ap checked_as_paper (sym p) ∙ checks.told.answers)).0 in
             let same : n ≡ length blob = long ∙ sym blob-long in
-            told (Whole n) (by-look a) (ap value same) checks.told.indexes checks.cleared
+            told (Ok n) (by-look a) (ap value same) checks.told.indexes checks.cleared
             (e ∙ ap₂ (λ (b : List ℕ) (k : ℕ). b ++ drop k out) (h.lays ∙ blob-is) same)
 
 -- ── the whole ──
 
-pub read_whole : {r : Made} {s : List ℕ} {places work lent : ℕ} {out index left output : List ℕ} → LookedOf r s places work lent out index left output
+pub read_whole : {r : Result ℕ MakeError} {s : List ℕ} {places work lent : ℕ} {out index left output : List ℕ} → LookedOf r s places work lent out index left output
     → {n : ℕ} → n ≡ lent → {bytes : List ℕ} → bytes ≡ zeros n → ReadOf r s places work lent out index left bytes output
 read_whole {s = s} {places} {work} {lent} {out} h same e = record { told = h; blanks = e ∙ ap zeros same ∙ read-blank s places work lent out }
 
 -- slices that were cleared have the lengths that they had
-pub look-lengths : {r : Made} {s : List ℕ} {places places' work work' lent : ℕ} {out index left output : List ℕ} → places ≡ places' → work ≡ work'
+pub look-lengths : {r : Result ℕ MakeError} {s : List ℕ} {places places' work work' lent : ℕ} {out index left output : List ℕ} → places ≡ places' → work ≡ work'
     → LookedOf r s places work lent out index left output → LookedOf r s places' work' lent out index left output
 look-lengths {r} {s} {places} {places'} {work} {work'} {lent} {out} {index} {left} {output} p w h =
     subst (λ (k : ℕ). LookedOf r s places' k lent out index left output) w (subst (λ (k : ℕ). LookedOf r s k work lent out index left output) p h)

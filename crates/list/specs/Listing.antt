@@ -1,8 +1,8 @@
 -- What writing a list asks of its parts, answers and leaves, in the paper's terms.
-use Rattle.std.specs.Prelude.{ℕ, ◌≡◌, List, [], length, ltb, ◌∷◌}
+use Rattle.lists.specs.declared.WriteError.{WriteError}
+use Rattle.std.specs.Prelude.{ℕ, ◌≡◌, List, [], length, ltb, ◌∷◌, Result}
 use Rattle.std.proofs.Math.Option.{none}
 use Rattle.lists.specs.Kept.{WriteOutcome, list_in, write_list, write_outcome, wrote_as_paper}
-use Rattle.lists.specs.declared.Wrote.{Wrote}
 use Rattle.paper.specs.rules.Answer.{accepted}
 use Rattle.paper.specs.rules.Choice.{◌when◌, first_due}
 use Rattle.paper.specs.rules.Gate.{naming, refusal}
@@ -20,12 +20,12 @@ unfoldable pub listed_outcome : List ℕ → List ℕ → WriteOutcome
 listed_outcome b out =
     write_outcome b (record { answer = accepted 0; index = []; work = [] }) out (naming 0 (first_due (53 when ltb (length out) (length (list_in b)) ∷ [])))
 
-pub record ListedOf (r : Wrote) (b out output : List ℕ) : Type 0 where
+pub record ListedOf (r : Result ℕ WriteError) (b out output : List ℕ) : Type 0 where
   pub answers : wrote_as_paper r ≡ (listed_outcome b out).answer
   pub outputs : output ≡ (listed_outcome b out).output
 
 -- the answer and all three slices afterwards
-pub record WriteOf (r : Wrote) (b : List ℕ) (places work_places : ℕ) (out index work output : List ℕ) : Type 0 where
+pub record WriteOf (r : Result ℕ WriteError) (b : List ℕ) (places work_places : ℕ) (out index work output : List ℕ) : Type 0 where
   pub answers : wrote_as_paper r ≡ (write_list b places work_places out).answer
   pub indexes : index ≡ (write_list b places work_places out).index
   pub works : work ≡ (write_list b places work_places out).work

@@ -34,18 +34,16 @@ pub(crate) fn put_body(tag: u8, body: &[u8], out: &mut [u8], at: usize)
     requires { (length body.now ≤ 1000000) × (at + fields_length (length body.now) ≤ length out.old) }
     ensures { out.new ≡ put out.old at (body_fields tag body.now) }
 {
-    let len = body.len();
+    let full = body.len() / MOST;
     let mut t = tag;
-    let mut from = 0;
-    let mut p = at;
-    while MOST <= len - from {
+    for k in 0..full {
+        let from = MOST * k;
         let to = from + MOST;
-        put_field(t, &body[from..to], out, p);
-        p = p + 3 + MOST;
-        from = to;
+        put_field(t, &body[from..to], out, at + (3 + MOST) * k);
         t = CARRY;
     }
-    put_field(t, &body[from..], out, p);
+    let last = MOST * full;
+    put_field(t, &body[last..], out, at + (3 + MOST) * full);
 }
 
 // A body's bytes, out of its fields, which begin at a place: laid at a place of an output.
@@ -53,18 +51,13 @@ pub(crate) fn gather_body(s: &[u8], at: usize, len: usize, out: &mut [u8], to: u
     requires { (len ≤ 1000000) × (at + fields_length len ≤ length s.now) × (to + len ≤ length out.old) }
     ensures { BodyPut s.now at len out.old to out.new }
 {
-    let mut from = 0;
-    let mut p = at;
-    while len - from >= MOST {
-        let start = p + 3;
+    let full = len / MOST;
+    for k in 0..full {
+        let start = at + (3 + MOST) * k + 3;
         let end = start + MOST;
-        let place = to + from;
-        words::lay(out, place, &s[start..end]);
-        p = end;
-        from += MOST;
+        words::lay(out, to + MOST * k, &s[start..end]);
     }
-    let start = p + 3;
-    let end = start + (len - from);
-    let place = to + from;
-    words::lay(out, place, &s[start..end]);
+    let start = at + (3 + MOST) * full + 3;
+    let end = start + len % MOST;
+    words::lay(out, to + MOST * full, &s[start..end]);
 }

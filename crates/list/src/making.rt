@@ -42,6 +42,7 @@ pub(crate) fn put_table(s: &[u8], order: Order, types: u32, strings: u32, out: &
     gather_body(s, 0, strings as usize, out, behind);
     let mut p = fields_len(strings as usize);
     let mut q = 24;
+    // A while: each record says where the next begins, so there is no count to go over.
     while p < s.len() {
         let from = p + 3;
         let info = words::read(order, &s[from..], Place(4));

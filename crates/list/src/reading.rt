@@ -6,10 +6,10 @@ ghost use Rattle.paper.specs.rules.Gate.{zeros};
 
 use crate::making::put_table;
 use gate::check;
-use lists::Made;
-use paper::{BYTE_LIMIT, Checked, Report};
+use lists::MakeError;
+use paper::{BYTE_LIMIT, Report};
 use scan::clear;
-use taking::{Measured, Sections, measure};
+use taking::{Sections, measure};
 
 const HEADER: usize = 24;
 
@@ -26,11 +26,7 @@ fn holds(room: usize, sections: usize) -> bool
 fn blank(s: &mut [u8])
     ensures { s.new ≡ zeros (length s.old) }
 {
-    let mut i = 0;
-    while i < s.len() {
-        s[i] = 0;
-        i += 1;
-    }
+    s.fill(0);
 }
 
 // The table is laid into bytes of just its length, and checked there.
@@ -40,7 +36,7 @@ fn lay_checked(
     index: &mut [u32],
     work: &mut [u32],
     bytes: &mut [u8],
-) -> Checked
+) -> Result<u32, Report>
     requires { MakeAsk s.now x.order x.records.bytes x.strings (length bytes.old) }
     ensures { LaidOf result s.now (length index.old) (length work.old) index.new work.new bytes.new }
 {
@@ -60,47 +56,56 @@ fn look(
     work: &mut [u32],
     bytes: &mut [u8],
     out: &mut [u8],
-) -> Made
+) -> Result<u32, MakeError>
     requires { LookAsk s.now x index.old work.old }
     ensures { LookedOf result s.now (length index.old) (length work.old) (length bytes.old) out.old index.new work.new out.new }
 {
     let records = x.records;
     let sections = x.strings + records.bytes;
     if !holds(out.len(), sections) {
-        return Made::Short; // the output
+        return Err(MakeError::Short); // the output
     }
     if !holds(bytes.len(), sections) {
-        return Made::Short; // the lent bytes
+        return Err(MakeError::Short); // the lent bytes
     }
     if !holds(BYTE_LIMIT, sections) {
-        return Made::Refused(Report::Length);
+        return Err(MakeError::Refused(Report::Length));
     }
     let len = HEADER + sections;
-    match lay_checked(s, x, index, work, &mut bytes[..len]) {
-        Checked::Refused(r) => Made::Refused(r),
-        Checked::Accepted(_) => {
-            words::lay(out, 0, &bytes[..len]);
-            Made::Whole(len as u32)
-        }
-    }
+    lay_checked(s, x, index, work, &mut bytes[..len]).map_err(MakeError::Refused)?;
+    words::lay(out, 0, &bytes[..len]);
+    Ok(len as u32)
+}
+
+// Any list, with both u32 slices clear: 50 to 52, or what is looked at of its table.
+fn read_cleared(
+    s: &[u8],
+    index: &mut [u32],
+    work: &mut [u32],
+    bytes: &mut [u8],
+    out: &mut [u8],
+) -> Result<u32, MakeError>
+    requires { (index.old ≡ zeros (length index.old)) × (work.old ≡ zeros (length work.old)) }
+    ensures { LookedOf result s.now (length index.old) (length work.old) (length bytes.old) out.old index.new work.new out.new }
+{
+    let x = measure(s).map_err(MakeError::Unread)?;
+    look(s, x, index, work, bytes, out)
 }
 
 // The length of the table, which is then in the output; else the first ground of refusal, with the output as it was. Both u32 slices end as
 // the check of the table leaves them, all 0 where none is looked at; the lent bytes end all 0.
-pub fn read(s: &[u8], index: &mut [u32], work: &mut [u32], bytes: &mut [u8], out: &mut [u8]) -> Made
+pub fn read(
+    s: &[u8],
+    index: &mut [u32],
+    work: &mut [u32],
+    bytes: &mut [u8],
+    out: &mut [u8],
+) -> Result<u32, MakeError>
     ensures { ReadOf result s.now (length index.old) (length work.old) (length bytes.old) out.old index.new work.new bytes.new out.new }
 {
     clear(index);
     clear(work);
-    match measure(s) {
-        Measured::Unread(f) => {
-            blank(bytes);
-            Made::Unread(f)
-        }
-        Measured::Table(x) => {
-            let r = look(s, x, index, work, bytes, out);
-            blank(bytes);
-            r
-        }
-    }
+    let r = read_cleared(s, index, work, bytes, out);
+    blank(bytes);
+    r
 }

@@ -17,6 +17,7 @@ pub(crate) fn list_len(b: &[u8]) -> usize
     let end = 24 + words::blob_word(b, Place(12)) as usize;
     let mut total = fields_len(b.len() - end);
     let mut p = 24;
+    // A while: each record says where the next begins, so there is no count to go over.
     while p < end {
         let info = words::read(order, &b[p..], Place(4));
         let size = 12 + 4 * tail_words(info) as usize;
@@ -46,6 +47,7 @@ pub(crate) fn put_list(b: &[u8], out: &mut [u8])
     put_body(string_tag(order), &b[end..], out, 0);
     let mut q = fields_len(b.len() - end);
     let mut p = 24;
+    // A while: each record says where the next begins, so there is no count to go over.
     while p < end {
         let info = words::read(order, &b[p..], Place(4));
         let size = 12 + 4 * tail_words(info) as usize;

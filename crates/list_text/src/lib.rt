@@ -17,6 +17,6 @@ mod whole_out; // a text is written
 
 pub use labels::LABELS;
 pub use spots::{Spot, spot_of};
-pub use takes::{Eye, LABEL, TYPE};
-pub use whole_in::{Taken, take_text};
-pub use whole_out::{Held, hold_text, put_text};
+pub use takes::{Missed, Wanted};
+pub use whole_in::take_text;
+pub use whole_out::{hold_text, put_text};

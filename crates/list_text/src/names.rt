@@ -12,14 +12,10 @@ pub(crate) fn string_end(strings: &[u8], from: usize) -> usize
     requires { from ≤ length strings.now }
     ensures { (from ≤ result) × (result ≤ length strings.now) }
 {
-    let mut at = from;
-    while at < strings.len() {
-        if strings[at] == 0 {
-            return at;
-        }
-        at += 1;
+    match strings[from..].iter().position(|c| *c == 0) {
+        Some(n) => from + n,
+        None => strings.len(),
     }
-    at
 }
 
 // The name at an offset; no bytes where there is none.
@@ -44,19 +40,15 @@ fn begins(strings: &[u8], name: &[u8]) -> bool {
     strings[n] == 0
 }
 
-// The first offset at which a whole string is the name; 0 where none behind the first byte is.
-pub(crate) fn find(strings: &[u8], name: &[u8]) -> u32 {
+// The first offset behind the first byte at which a whole string is the name.
+pub(crate) fn find(strings: &[u8], name: &[u8]) -> Option<u32> {
     if BYTE_LIMIT < strings.len() {
-        return 0;
+        return None;
     }
-    let mut i = 1;
-    while i < strings.len() {
-        if strings[i - 1] == 0 {
-            if begins(&strings[i..], name) {
-                return i as u32;
-            }
+    for i in 1..strings.len() {
+        if strings[i - 1] == 0 && begins(&strings[i..], name) {
+            return Some(i as u32);
         }
-        i += 1;
     }
-    0
+    None
 }

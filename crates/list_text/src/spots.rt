@@ -1,5 +1,6 @@
 // Where a place of a text stands, as people count.
 use std::num::wrapping_add_u32;
+use texts::first_of;
 
 // Lines, and the bytes of a line, are counted from 1.
 #[derive(Clone, Copy)]
@@ -25,13 +26,8 @@ fn behind(s: Spot, c: u8) -> Spot {
 // The line that a place stands in, and which byte of it.
 pub fn spot_of(text: &[u8], at: usize) -> Spot {
     let mut s = Spot { line: 1, byte: 1 };
-    let mut i = 0;
-    while i < text.len() {
-        if at <= i {
-            return s;
-        }
-        s = behind(s, text[i]);
-        i += 1;
+    for c in first_of(text, at) {
+        s = behind(s, *c);
     }
     s
 }

@@ -1,38 +1,29 @@
 // A text is read as a table.
 use crate::records_in::{Kept, take_record};
 use crate::strings_in::{take_order, take_strings};
-use crate::takes::{Eye, SHORTER, missed};
+use crate::takes::{Missed, Wanted, unread};
 use paper::{BYTE_LIMIT, Order, Place, TYPE_LIMIT};
 use texts::first_of;
 use words::lay;
 
 const HEADER: usize = 24;
 
-// The length of the table; or where the text cannot be read, and what is expected there.
-#[derive(Clone, Copy)]
-pub enum Taken {
-    Table(usize),
-    Fault(Eye),
-}
-
 // The types' lines, to the end of the text or one past the limit.
-fn take_records(text: &[u8], e: Eye, strings: &[u8], order: Order, types: &mut [u8]) -> Kept {
-    let mut k = Kept {
-        eye: e,
-        end: HEADER,
-    };
-    let mut t = 1;
-    while t <= TYPE_LIMIT + 1 {
-        if text.len() <= k.eye.at {
-            return k;
+fn take_records(
+    text: &[u8],
+    at: usize,
+    strings: &[u8],
+    order: Order,
+    types: &mut [u8],
+) -> Result<Kept, Missed> {
+    let mut k = Kept { at, end: HEADER };
+    for t in 1..=TYPE_LIMIT + 1 {
+        if text.len() <= k.at {
+            return Ok(k);
         }
-        k = take_record(text, k, strings, order, t, types);
-        if k.eye.what != 0 {
-            return k;
-        }
-        t += 1;
+        k = take_record(text, k, strings, order, t, types)?;
     }
-    k
+    Ok(k)
 }
 
 // A table's first four bytes, as the word that they are in its order.
@@ -52,54 +43,34 @@ fn put_front(order: Order, types: u32, strings: u32, out: &mut [u8]) {
     words::write(order, out, Place(20), strings);
 }
 
-// The strings behind records that end at a place, and the header before both.
-fn put_sections(order: Order, end: usize, strings: &[u8], table: &mut [u8]) -> usize {
+// The strings behind records that end at a place, and the header before both; how long the table is, if it has room and is within the limit.
+fn put_sections(order: Order, end: usize, strings: &[u8], table: &mut [u8]) -> Option<usize> {
     let n = strings.len();
     if end < HEADER {
-        return 0;
+        return None;
     }
     if table.len() < end {
-        return 0;
+        return None;
     }
     if table.len() - end < n {
-        return 0;
+        return None;
     }
     if BYTE_LIMIT < end + n {
-        return 0;
+        return None;
     }
     let types = end - HEADER;
     lay(table, end, strings);
     put_front(order, types as u32, n as u32, table);
-    end + n
+    Some(end + n)
 }
 
-// The records behind the line of strings, which were put into lent bytes.
-fn take_rest(text: &[u8], e: Eye, order: Order, strings: &[u8], table: &mut [u8]) -> Taken {
-    let k = take_records(text, e, strings, order, table);
-    let end = k.eye;
-    if end.what != 0 {
-        return Taken::Fault(end);
-    }
-    let n = put_sections(order, k.end, strings, table);
-    if n == 0 {
-        return Taken::Fault(missed(end, SHORTER));
-    }
-    Taken::Table(n)
-}
-
-// The table of a text is put at the start of lent bytes; others are lent for its strings.
-pub fn take_text(text: &[u8], strings: &mut [u8], table: &mut [u8]) -> Taken {
-    let start = Eye { at: 0, what: 0 };
-    let o = take_order(text, start);
-    let e = o.eye;
-    if e.what != 0 {
-        return Taken::Fault(e);
-    }
+// The table of a text is put at the start of lent bytes; others are lent for its strings. How long it is is answered; or where the text cannot
+// be read, and what is expected there.
+pub fn take_text(text: &[u8], strings: &mut [u8], table: &mut [u8]) -> Result<usize, Missed> {
+    let o = take_order(text, 0)?;
     let order = o.order;
-    let s = take_strings(text, e, strings);
-    let behind = s.eye;
-    if behind.what != 0 {
-        return Taken::Fault(behind);
-    }
-    take_rest(text, behind, order, first_of(strings, s.n), table)
+    let s = take_strings(text, o.at, strings)?;
+    let strings = first_of(strings, s.n);
+    let k = take_records(text, s.at, strings, order, table)?;
+    put_sections(order, k.end, strings, table).ok_or(unread(k.at, Wanted::Shorter))
 }

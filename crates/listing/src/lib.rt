@@ -7,4 +7,4 @@ mod tables; // which types, and how much
 
 pub use faults::show_before;
 pub use show::put_title;
-pub use tables::{NESTED, Named, is_named, show_all, show_named, show_one};
+pub use tables::{NESTED, is_named, show_all, show_named, show_one};

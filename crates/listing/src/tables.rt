@@ -3,61 +3,41 @@
 use crate::show::put_whole_type;
 use bases::record_of;
 use entries::Listed;
-use lines::{Out, ROOM, put, put_start};
+use lines::Out;
 use rows::name_of;
 use titles::put_many;
 
 // How many lines members without a name get in one call.
 pub const NESTED: u32 = 4096;
 
-// What is written so far, how many lines are left, how many types' were cut, and how many types were shown.
+// How many lines are left, how many types' were cut, and how many types were shown.
 #[derive(Clone, Copy)]
 struct Call {
-    o: Out,
     left: u32,
     cut: u32,
     shown: u32,
 }
 
-// What a listing by name has written, and whether a type has that name.
-#[derive(Clone, Copy)]
-pub struct Named {
-    pub o: Out,
-    pub is_found: bool,
-}
-
-fn started(o: Out) -> Call {
-    Call {
-        o,
-        left: NESTED,
-        cut: 0,
-        shown: 0,
-    }
-}
+// Nothing is shown yet.
+const STARTED: Call = Call {
+    left: NESTED,
+    cut: 0,
+    shown: 0,
+};
 
 // A count that stops at the largest number; the types of a table stay far below it.
 fn one_more(n: u32, is_more: bool) -> u32 {
-    if !is_more {
-        return n;
-    }
-    if n == 4294967295 {
-        return n;
-    }
-    n + 1
+    n.saturating_add(u32::from(is_more))
 }
 
 // One type more.
-fn shown(buf: &mut [u8; ROOM], c: Call, blob: &[u8], index: &[u32], t: u32) -> Call {
-    let o = c.o;
+fn shown(out: &mut Out, c: Call, blob: &[u8], index: &[u32], t: u32) -> Call {
     let first = Listed {
-        o,
         left: c.left,
         is_cut: false,
     };
-    let l = put_whole_type(buf, first, blob, index, t);
-    let o = l.o;
+    let l = put_whole_type(out, first, blob, index, t);
     Call {
-        o,
         left: l.left,
         cut: one_more(c.cut, l.is_cut),
         shown: one_more(c.shown, true),
@@ -65,38 +45,28 @@ fn shown(buf: &mut [u8; ROOM], c: Call, blob: &[u8], index: &[u32], t: u32) -> C
 }
 
 // What was left out, if anything was.
-fn ended(buf: &mut [u8; ROOM], c: Call) -> Out {
-    let o = c.o;
+fn ended(out: &mut Out, c: Call) {
     if c.cut == 0 {
-        return o;
+        return;
     }
-    let o = put_start(buf, o);
-    let o = put(buf, o, b"left out: members below those without a name, of ");
-    put_many(buf, o, c.cut as u64, b" type\n", b" types\n")
+    out.put_start();
+    out.put(b"left out: members below those without a name, of ");
+    put_many(out, c.cut as u64, b" type\n", b" types\n");
 }
 
 // A type, with its entries.
-pub fn show_one(buf: &mut [u8; ROOM], o: Out, blob: &[u8], index: &[u32], t: u32) -> Out {
-    let c = shown(buf, started(o), blob, index, t);
-    ended(buf, c)
+pub fn show_one(out: &mut Out, blob: &[u8], index: &[u32], t: u32) {
+    let c = shown(out, STARTED, blob, index, t);
+    ended(out, c);
 }
 
 // Every type of a table of so many behind the first ones, which are a base's.
-pub fn show_all(
-    buf: &mut [u8; ROOM],
-    o: Out,
-    blob: &[u8],
-    index: &[u32],
-    first: u32,
-    n: u32,
-) -> Out {
-    let mut c = started(o);
-    let mut t = first;
-    while t < n {
-        t += 1;
-        c = shown(buf, c, blob, index, t);
+pub fn show_all(out: &mut Out, blob: &[u8], index: &[u32], first: u32, n: u32) {
+    let mut c = STARTED;
+    for t in first..n {
+        c = shown(out, c, blob, index, t + 1);
     }
-    ended(buf, c)
+    ended(out, c);
 }
 
 // A type has this name, byte for byte.
@@ -105,24 +75,14 @@ pub fn is_named(blob: &[u8], index: &[u32], t: u32, name: &[u8]) -> bool {
     check::same(header::name(blob, name_of(words::order_of(blob), r)), name)
 }
 
-// Every type of a table of so many that has this name.
-pub fn show_named(
-    buf: &mut [u8; ROOM],
-    o: Out,
-    blob: &[u8],
-    index: &[u32],
-    n: u32,
-    name: &[u8],
-) -> Named {
-    let mut c = started(o);
-    let mut t: u32 = 0;
-    while t < n {
-        t += 1;
+// Every type of a table of so many that has this name, and whether there is one.
+pub fn show_named(out: &mut Out, blob: &[u8], index: &[u32], n: u32, name: &[u8]) -> bool {
+    let mut c = STARTED;
+    for t in 1..=n {
         if is_named(blob, index, t, name) {
-            c = shown(buf, c, blob, index, t);
+            c = shown(out, c, blob, index, t);
         }
     }
-    let is_found = 0 < c.shown;
-    let o = ended(buf, c);
-    Named { o, is_found }
+    ended(out, c);
+    0 < c.shown
 }

@@ -1,35 +1,37 @@
 -- Two answers of writing or of reading a list that have the same numbers are one.
 -- Assumes nothing.
+use Rattle.paper.specs.declared.Report.{Report}
+use Rattle.lists.specs.declared.MakeError.TheVariants as made
+use Rattle.std.specs.Prelude.{Err, Ok, Result, ℕ}
+use Rattle.lists.specs.declared.WriteError.TheVariants.{OutputShort, Refused}
+use Rattle.paper.specs.declared.JoinError.TheVariants.{FirstRefused}
+use Rattle.lists.specs.declared.WriteError.{WriteError}
+use Rattle.lists.specs.declared.MakeError.{MakeError}
 use Prim.Native.Nat.{ℕ, ◌≤◌}
 use mathlib.Core.Path.{◌≡◌, refl, ap}
 use native.Mathlib.Omega.{arith}
 use Rattle.lists.specs.Kept.{fault_number, made_as_paper, wrote_as_paper}
 use Rattle.lists.specs.declared.Fault.{Fault}
 use Rattle.lists.specs.declared.Fault.TheVariants.{UnknownTag, CutShort, OutOfPlace}
-use Rattle.lists.specs.declared.Made.{Made}
-use Rattle.lists.specs.declared.Made.TheVariants as made
-use Rattle.lists.specs.declared.Wrote.{Wrote}
-use Rattle.lists.specs.declared.Wrote.TheVariants.{Whole, OutputShort, Refused}
 use Rattle.paper.proofs.basics.Answers.{joined-one}
-use Rattle.paper.specs.declared.Joined.TheVariants.{FirstRefused}
 use Rattle.paper.specs.rules.Answer.{Answer, joined_as_paper}
 
-pub wrote_one : (a b : Wrote) → wrote_as_paper a ≡ wrote_as_paper b → a ≡ b
+pub wrote_one : (a b : Result ℕ WriteError) → wrote_as_paper a ≡ wrote_as_paper b → a ≡ b
 unfolding wrote_as_paper joined_as_paper
-wrote_one (Whole n) (Whole m) e = let x : n ≡ m = ap (λ (a : Answer). a.p) e in ap Whole x
-wrote_one (Whole n) OutputShort e = absurd (let z : ◌≡◌ {A = ℕ} 0 53 = ap (λ (a : Answer). a.number) e in omega arith)
-wrote_one (Whole n) (Refused r) e = absurd (let z : ◌≡◌ {A = ℕ} 0 54 = ap (λ (a : Answer). a.number) e in omega arith)
-wrote_one OutputShort (Whole n) e = absurd (let z : ◌≡◌ {A = ℕ} 53 0 = ap (λ (a : Answer). a.number) e in omega arith)
-wrote_one OutputShort OutputShort e = refl
-wrote_one OutputShort (Refused r) e = absurd (let z : ◌≡◌ {A = ℕ} 53 54 = ap (λ (a : Answer). a.number) e in omega arith)
-wrote_one (Refused r) (Whole n) e = absurd (let z : ◌≡◌ {A = ℕ} 54 0 = ap (λ (a : Answer). a.number) e in omega arith)
-wrote_one (Refused r) OutputShort e = absurd (let z : ◌≡◌ {A = ℕ} 54 53 = ap (λ (a : Answer). a.number) e in omega arith)
+wrote_one (Ok n) (Ok m) e = let x : n ≡ m = ap (λ (a : Answer). a.p) e in ap Ok x
+wrote_one (Ok n) (Err OutputShort) e = absurd (let z : ◌≡◌ {A = ℕ} 0 53 = ap (λ (a : Answer). a.number) e in omega arith)
+wrote_one (Ok n) (Err (Refused r)) e = absurd (let z : ◌≡◌ {A = ℕ} 0 54 = ap (λ (a : Answer). a.number) e in omega arith)
+wrote_one (Err OutputShort) (Ok n) e = absurd (let z : ◌≡◌ {A = ℕ} 53 0 = ap (λ (a : Answer). a.number) e in omega arith)
+wrote_one (Err OutputShort) (Err OutputShort) e = refl
+wrote_one (Err OutputShort) (Err (Refused r)) e = absurd (let z : ◌≡◌ {A = ℕ} 53 54 = ap (λ (a : Answer). a.number) e in omega arith)
+wrote_one (Err (Refused r)) (Ok n) e = absurd (let z : ◌≡◌ {A = ℕ} 54 0 = ap (λ (a : Answer). a.number) e in omega arith)
+wrote_one (Err (Refused r)) (Err OutputShort) e = absurd (let z : ◌≡◌ {A = ℕ} 54 53 = ap (λ (a : Answer). a.number) e in omega arith)
 -- the report inside is told as that of a join's first table is
-wrote_one (Refused r) (Refused q) e =
-    let same : FirstRefused r ≡ FirstRefused q =
-    joined-one (FirstRefused r) (FirstRefused q) (ap (λ (a : Answer). record { number = 16; inner = a.inner; t = a.t; p = a.p }) e) in
+wrote_one (Err (Refused r)) (Err (Refused q)) e =
+    let same : (Err (FirstRefused r)) ≡ (Err (FirstRefused q)) =
+    joined-one (Err (FirstRefused r)) (Err (FirstRefused q)) (ap (λ (a : Answer). record { number = 16; inner = a.inner; t = a.t; p = a.p }) e) in
     let x : r ≡ q = cc in
-    ap Refused x
+    ap (λ (y : Report). Err (Refused y)) x
 
 -- ── reading ──
 
@@ -52,26 +54,26 @@ fault-range CutShort = (omega arith, omega arith)
 fault-range OutOfPlace = (omega arith, omega arith)
 
 -- what reading answers where the list is not at fault is told as what writing answers
-abbrev told : Wrote → Made
-told (Whole n) = made.Whole n
-told OutputShort = made.Short
-told (Refused r) = made.Refused r
+abbrev told : Result ℕ WriteError → Result ℕ MakeError
+told (Ok n) = Ok n
+told (Err OutputShort) = Err made.Short
+told (Err (Refused r)) = Err (made.Refused r)
 
-pub made_one : (a b : Made) → made_as_paper a ≡ made_as_paper b → a ≡ b
+pub made_one : (a b : Result ℕ MakeError) → made_as_paper a ≡ made_as_paper b → a ≡ b
 unfolding made_as_paper wrote_as_paper
-made_one (made.Unread f) (made.Unread g) e = ap made.Unread (fault-one f g (ap (λ (a : Answer). a.number) e))
-made_one (made.Unread f) (made.Whole n) e = absurd (let z : fault_number f ≡ 0 = ap (λ (a : Answer). a.number) e in omega (arith, (fault-range f).0))
-made_one (made.Unread f) made.Short e = absurd (let z : fault_number f ≡ 53 = ap (λ (a : Answer). a.number) e in omega (arith, (fault-range f).1))
-made_one (made.Unread f) (made.Refused r) e = absurd (let z : fault_number f ≡ 54 = ap (λ (a : Answer). a.number) e in omega (arith, (fault-range f).1))
-made_one (made.Whole n) (made.Unread g) e = absurd (let z : 0 ≡ fault_number g = ap (λ (a : Answer). a.number) e in omega (arith, (fault-range g).0))
-made_one made.Short (made.Unread g) e = absurd (let z : 53 ≡ fault_number g = ap (λ (a : Answer). a.number) e in omega (arith, (fault-range g).1))
-made_one (made.Refused r) (made.Unread g) e = absurd (let z : 54 ≡ fault_number g = ap (λ (a : Answer). a.number) e in omega (arith, (fault-range g).1))
-made_one (made.Whole n) (made.Whole m) e = ap told (wrote_one (Whole n) (Whole m) e)
-made_one (made.Whole n) made.Short e = ap told (wrote_one (Whole n) OutputShort e)
-made_one (made.Whole n) (made.Refused q) e = ap told (wrote_one (Whole n) (Refused q) e)
-made_one made.Short (made.Whole m) e = ap told (wrote_one OutputShort (Whole m) e)
-made_one made.Short made.Short e = refl
-made_one made.Short (made.Refused q) e = ap told (wrote_one OutputShort (Refused q) e)
-made_one (made.Refused r) (made.Whole m) e = ap told (wrote_one (Refused r) (Whole m) e)
-made_one (made.Refused r) made.Short e = ap told (wrote_one (Refused r) OutputShort e)
-made_one (made.Refused r) (made.Refused q) e = ap told (wrote_one (Refused r) (Refused q) e)
+made_one (Err (made.Unread f)) (Err (made.Unread g)) e = ap (λ (x : Fault). Err (made.Unread x)) (fault-one f g (ap (λ (a : Answer). a.number) e))
+made_one (Err (made.Unread f)) (Ok n) e = absurd (let z : fault_number f ≡ 0 = ap (λ (a : Answer). a.number) e in omega (arith, (fault-range f).0))
+made_one (Err (made.Unread f)) (Err made.Short) e = absurd (let z : fault_number f ≡ 53 = ap (λ (a : Answer). a.number) e in omega (arith, (fault-range f).1))
+made_one (Err (made.Unread f)) (Err (made.Refused r)) e = absurd (let z : fault_number f ≡ 54 = ap (λ (a : Answer). a.number) e in omega (arith, (fault-range f).1))
+made_one (Ok n) (Err (made.Unread g)) e = absurd (let z : 0 ≡ fault_number g = ap (λ (a : Answer). a.number) e in omega (arith, (fault-range g).0))
+made_one (Err made.Short) (Err (made.Unread g)) e = absurd (let z : 53 ≡ fault_number g = ap (λ (a : Answer). a.number) e in omega (arith, (fault-range g).1))
+made_one (Err (made.Refused r)) (Err (made.Unread g)) e = absurd (let z : 54 ≡ fault_number g = ap (λ (a : Answer). a.number) e in omega (arith, (fault-range g).1))
+made_one (Ok n) (Ok m) e = ap told (wrote_one (Ok n) (Ok m) e)
+made_one (Ok n) (Err made.Short) e = ap told (wrote_one (Ok n) (Err OutputShort) e)
+made_one (Ok n) (Err (made.Refused q)) e = ap told (wrote_one (Ok n) (Err (Refused q)) e)
+made_one (Err made.Short) (Ok m) e = ap told (wrote_one (Err OutputShort) (Ok m) e)
+made_one (Err made.Short) (Err made.Short) e = refl
+made_one (Err made.Short) (Err (made.Refused q)) e = ap told (wrote_one (Err OutputShort) (Err (Refused q)) e)
+made_one (Err (made.Refused r)) (Ok m) e = ap told (wrote_one (Err (Refused r)) (Ok m) e)
+made_one (Err (made.Refused r)) (Err made.Short) e = ap told (wrote_one (Err (Refused r)) (Err OutputShort) e)
+made_one (Err (made.Refused r)) (Err (made.Refused q)) e = ap told (wrote_one (Err (Refused r)) (Err (Refused q)) e)

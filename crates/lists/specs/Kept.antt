@@ -1,13 +1,13 @@
 -- Order 10 of blobs and lent slices: a table written out into an output, and a list read back into one.
-use Rattle.std.specs.Prelude.{ℕ, ◌||◌, List, [], ◌∷◌, ◌++◌, ltb, length, drop}
+use Rattle.lists.specs.declared.MakeError.TheVariants as made
+use Rattle.lists.specs.declared.WriteError.TheVariants.{OutputShort, Refused}
+use Rattle.lists.specs.declared.WriteError.{WriteError}
+use Rattle.lists.specs.declared.MakeError.{MakeError}
+use Rattle.std.specs.Prelude.{ℕ, ◌||◌, List, [], ◌∷◌, ◌++◌, ltb, length, drop, Err, Ok, Result}
 use Rattle.std.proofs.Math.Option.{Option, none, some}
 use Rattle.lists.specs.List.{Listed, unread, table, list_of, read_list}
 use Rattle.lists.specs.declared.Fault.{Fault}
 use Rattle.lists.specs.declared.Fault.TheVariants.{UnknownTag, CutShort, OutOfPlace}
-use Rattle.lists.specs.declared.Made.{Made}
-use Rattle.lists.specs.declared.Made.TheVariants as made
-use Rattle.lists.specs.declared.Wrote.{Wrote}
-use Rattle.lists.specs.declared.Wrote.TheVariants.{Whole, OutputShort, Refused}
 use Rattle.paper.specs.rules.Answer.{Answer, inside, report, report_as_paper, value}
 use Rattle.paper.specs.rules.Choice.{◌when◌, first_due, or_else}
 use Rattle.paper.specs.rules.Gate.{Outcome, gate, naming, refusal, zeros}
@@ -41,10 +41,10 @@ write_outcome b checked out (some a) = record { answer = a; output = out; index 
 unfoldable pub write_list : List ℕ → ℕ → ℕ → List ℕ → WriteOutcome
 write_list b places work_places out = write_outcome b (gate b places work_places) out (write_refusal b places work_places (length out))
 
-unfoldable pub wrote_as_paper : Wrote → Answer
-wrote_as_paper (Whole n) = value n
-wrote_as_paper OutputShort = report 53 0
-wrote_as_paper (Refused r) = inside 54 (report_as_paper r)
+unfoldable pub wrote_as_paper : Result ℕ WriteError → Answer
+wrote_as_paper (Ok n) = value n
+wrote_as_paper (Err OutputShort) = report 53 0
+wrote_as_paper (Err (Refused r)) = inside 54 (report_as_paper r)
 
 -- ── reading ──
 
@@ -88,8 +88,8 @@ fault_number UnknownTag = 50
 fault_number CutShort = 51
 fault_number OutOfPlace = 52
 
-unfoldable pub made_as_paper : Made → Answer
-made_as_paper (made.Whole n) = value n
-made_as_paper (made.Unread f) = report (fault_number f) 0
-made_as_paper made.Short = report 53 0
-made_as_paper (made.Refused r) = inside 54 (report_as_paper r)
+unfoldable pub made_as_paper : Result ℕ MakeError → Answer
+made_as_paper (Ok n) = value n
+made_as_paper (Err (made.Unread f)) = report (fault_number f) 0
+made_as_paper (Err made.Short) = report 53 0
+made_as_paper (Err (made.Refused r)) = inside 54 (report_as_paper r)

@@ -1,10 +1,9 @@
 // A table written out as the house list, and read back: definitions (specs/List.antt) and their laws. There is no code here but the answers' cases.
 use paper::Report;
 
-// What writing a list answers: its length, 53, or 54 with the table's report.
+// Why a table is not written out as a list: 53, or 54 with the table's report.
 #[derive(Clone, Copy)]
-pub enum Wrote {
-    Whole(u32),
+pub enum WriteError {
     OutputShort,
     Refused(Report),
 }
@@ -17,10 +16,9 @@ pub enum Fault {
     OutOfPlace,
 }
 
-// What reading a list answers: the table's length, 50 to 52, 53, or 54 with the table's report.
+// Why no table is made of a list: 50 to 52, 53, or 54 with the table's report.
 #[derive(Clone, Copy)]
-pub enum Made {
-    Whole(u32),
+pub enum MakeError {
     Unread(Fault),
     Short,
     Refused(Report),

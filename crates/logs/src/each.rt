@@ -1,15 +1,14 @@
 // As many records as a file holds, one behind the other. As many bytes as are whole records are read at a time, so that a file of any
 // length is read.
-use crate::said::{Asked, RECORD_LIMIT, put_cut, put_record, put_short, started};
-use entries::{Listed, plus, with};
-use files::{Opened, Read, Status, close_input, end, open_input, read_input};
-use lines::{Out, ROOM, STDERR_FILENO, STDOUT_FILENO, flush, put, put_with};
+use crate::said::{Asked, RECORD_LIMIT, STARTED, put_cut, put_record, put_short};
+use entries::{Listed, plus};
+use files::{Opened, Status, close_input, end, open_input, read_input};
+use lines::{Out, STDERR_FILENO, STDOUT_FILENO};
 use listing::put_title;
 use texts::first_of;
 use titles::{put_many, put_type};
-use words::rest_from;
 
-// What is written so far, how many records, and how many bytes they have.
+// What was left out of the lines so far, how many records there were, and how many bytes they have.
 #[derive(Clone, Copy)]
 struct Told {
     l: Listed,
@@ -17,28 +16,34 @@ struct Told {
     at: u64,
 }
 
-// The same behind some bytes: how many of them are no whole record, whether more can follow, and whether they could be read.
+// What follows some bytes: more of them, none, or some that cannot be read. An enum of its own: what was shown before bytes that cannot be
+// read is answered with them, so they are no error alone.
+#[derive(Clone, Copy, PartialEq, Eq)]
+enum Then {
+    More,
+    End,
+    Unread,
+}
+
+// What is written behind some bytes, how many of them are no whole record, and what follows them.
 #[derive(Clone, Copy)]
 struct Turn {
     c: Told,
     left: usize,
-    is_more: bool,
-    is_read: bool,
+    then: Then,
 }
 
 // A record's number, from 1, and its place.
-fn put_number_at(buf: &mut [u8; ROOM], o: Out, count: u64, at: u64) -> Out {
-    let o = put_with(buf, o, b"record ", plus(count, 1));
-    put_with(buf, o, b", at byte ", at)
+fn put_number_at(out: &mut Out, count: u64, at: u64) {
+    out.put_with(b"record ", plus(count, 1));
+    out.put_with(b", at byte ", at);
 }
 
 // One record more, under its number.
-fn put_next(buf: &mut [u8; ROOM], c: Told, blob: &[u8], index: &[u32], a: Asked, s: &[u8]) -> Told {
-    let l = c.l;
-    let o = l.o;
-    let o = put_number_at(buf, o, c.count, c.at);
-    let o = put(buf, o, b"\n");
-    let l = put_record(buf, with(l, o), blob, index, a, s);
+fn put_next(out: &mut Out, c: Told, blob: &[u8], index: &[u32], a: Asked, s: &[u8]) -> Told {
+    put_number_at(out, c.count, c.at);
+    out.put(b"\n");
+    let l = put_record(out, c.l, blob, index, a, s);
     Told {
         l,
         count: plus(c.count, 1),
@@ -46,30 +51,24 @@ fn put_next(buf: &mut [u8; ROOM], c: Told, blob: &[u8], index: &[u32], a: Asked,
     }
 }
 
-// Every whole record of some bytes.
-fn put_all(buf: &mut [u8; ROOM], c: Told, blob: &[u8], index: &[u32], a: Asked, s: &[u8]) -> Turn {
+// Every whole record of some bytes, and how many of them are none.
+fn put_all(
+    out: &mut Out,
+    c: Told,
+    blob: &[u8],
+    index: &[u32],
+    a: Asked,
+    s: &[u8],
+) -> (Told, usize) {
     let size = a.size;
-    let mut c = c;
-    let mut left = s.len();
     if size == 0 {
-        return Turn {
-            c,
-            left,
-            is_more: false,
-            is_read: true,
-        };
+        return (c, s.len());
     }
-    while size <= left {
-        let at = s.len() - left;
-        c = put_next(buf, c, blob, index, a, first_of(rest_from(s, at), size));
-        left -= size;
+    let mut c = c;
+    for record in s.chunks_exact(size) {
+        c = put_next(out, c, blob, index, a, record);
     }
-    Turn {
-        c,
-        left,
-        is_more: true,
-        is_read: true,
-    }
+    (c, s.len() % size)
 }
 
 // How many bytes whole records fill of those that are lent.
@@ -85,23 +84,16 @@ fn whole_records(size: usize) -> usize {
 }
 
 // The next bytes, so many at most.
-fn read_part(name: &[u8], from: &mut Opened, s: &mut [u8], n: usize) -> Read {
+fn read_part(name: &[u8], from: &mut Opened, s: &mut [u8], n: usize) -> Option<usize> {
     if s.len() < n {
         return read_input(name, from, s);
     }
     read_input(name, from, &mut s[..n])
 }
 
-// Nothing waits to be written that could not be.
-fn is_writing(c: Told) -> bool {
-    let l = c.l;
-    let o = l.o;
-    o.is_whole
-}
-
 // The records of the next bytes of what is open.
 fn put_turn(
-    buf: &mut [u8; ROOM],
+    out: &mut Out,
     c: Told,
     blob: &[u8],
     index: &[u32],
@@ -111,28 +103,26 @@ fn put_turn(
     s: &mut [u8; RECORD_LIMIT],
 ) -> Turn {
     let most = whole_records(a.size);
-    let read = read_part(name, from, s, most);
-    if !read.is_read {
+    let Some(n) = read_part(name, from, s, most) else {
         return Turn {
             c,
             left: 0,
-            is_more: false,
-            is_read: false,
+            then: Then::Unread,
         };
-    }
-    let turn = put_all(buf, c, blob, index, a, first_of(s, read.n));
-    let c = turn.c;
-    Turn {
-        c,
-        left: turn.left,
-        is_more: read.n == most && is_writing(c),
-        is_read: true,
-    }
+    };
+    let (c, left) = put_all(out, c, blob, index, a, first_of(s, n));
+    let then = if n == most && out.is_whole {
+        Then::More
+    } else {
+        Then::End
+    };
+    Turn { c, left, then }
 }
 
-// The records of what is open, to its end.
+// The records of what is open, to its end. No input has more turns than 64 bits count: a for with that bound, since nothing proves that an
+// input ends.
 fn put_turns(
-    buf: &mut [u8; ROOM],
+    out: &mut Out,
     c: Told,
     blob: &[u8],
     index: &[u32],
@@ -144,76 +134,62 @@ fn put_turns(
     let mut turn = Turn {
         c,
         left: 0,
-        is_more: true,
-        is_read: true,
+        then: Then::More,
     };
-    let mut turns: u64 = 18446744073709551615;
-    while 0 < turns {
-        let c = turn.c;
-        turn = put_turn(buf, c, blob, index, a, name, from, s);
-        turns -= 1;
-        if !turn.is_more {
-            turns = 0;
+    for _ in 0..u64::MAX {
+        turn = put_turn(out, turn.c, blob, index, a, name, from, s);
+        if turn.then != Then::More {
+            return turn;
         }
     }
     turn
 }
 
 // A rest that is no whole record, under the number that it would have.
-fn put_left(
-    buf: &mut [u8; ROOM],
-    c: Told,
-    blob: &[u8],
-    index: &[u32],
-    a: Asked,
-    left: usize,
-) -> Out {
-    let l = c.l;
-    let o = l.o;
+fn put_left(out: &mut Out, c: Told, blob: &[u8], index: &[u32], a: Asked, left: usize) {
     if left == 0 {
-        return o;
+        return;
     }
-    let o = put_number_at(buf, o, c.count, c.at);
-    put_short(buf, o, blob, index, a, left)
+    put_number_at(out, c.count, c.at);
+    put_short(out, blob, index, a, left);
 }
 
 // How the records end: with a rest or without, and how many there were.
-fn ended(buf: &mut [u8; ROOM], turn: Turn, blob: &[u8], index: &[u32], a: Asked) -> Status {
+fn ended(out: &mut Out, turn: Turn, blob: &[u8], index: &[u32], a: Asked) -> Status {
     let c = turn.c;
-    let l = c.l;
-    let o = put_left(buf, c, blob, index, a, turn.left);
-    let o = put_cut(buf, with(l, o));
-    if !turn.is_read {
-        return end(buf, o, Status::Failed);
+    put_left(out, c, blob, index, a, turn.left);
+    put_cut(out, c.l);
+    if turn.then == Then::Unread {
+        return end(out, Status::Failed);
     }
-    let o = put_many(buf, o, c.count, b" record\n", b" records\n");
+    put_many(out, c.count, b" record\n", b" records\n");
     if turn.left != 0 {
-        return end(buf, o, Status::Refused);
+        return end(out, Status::Refused);
     }
-    end(buf, o, Status::Done)
+    end(out, Status::Done)
 }
 
 // The records of what is open, below the line of their type.
 fn show_open(name: &[u8], from: &mut Opened, blob: &[u8], index: &[u32], a: Asked) -> Status {
-    let mut buf = [0u8; ROOM];
+    let mut out = Out::to(STDOUT_FILENO);
     let mut s = [0u8; RECORD_LIMIT];
-    let o = put_title(&mut buf, lines::to(STDOUT_FILENO), blob, index, a.t);
+    put_title(&mut out, blob, index, a.t);
     let c = Told {
-        l: started(o),
+        l: STARTED,
         count: 0,
         at: 0,
     };
-    let turn = put_turns(&mut buf, c, blob, index, a, name, from, &mut s);
-    ended(&mut buf, turn, blob, index, a)
+    let turn = put_turns(&mut out, c, blob, index, a, name, from, &mut s);
+    ended(&mut out, turn, blob, index, a)
 }
 
 // Records of no bytes have no end: a wrong call.
 fn no_bytes(blob: &[u8], index: &[u32], a: Asked) -> Status {
-    let mut buf = [0u8; ROOM];
-    let o = put(&mut buf, lines::to(STDERR_FILENO), b"scrieve: --each: ");
-    let o = put_type(&mut buf, o, blob, index, a.t);
-    let o = put(&mut buf, o, b" has 0 bytes\n");
-    flush(&mut buf, o);
+    let mut out = Out::to(STDERR_FILENO);
+    out.put(b"scrieve: --each: ");
+    put_type(&mut out, blob, index, a.t);
+    out.put(b" has 0 bytes\n");
+    out.flush();
     Status::Failed
 }
 

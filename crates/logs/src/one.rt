@@ -1,51 +1,43 @@
 // One record: of bytes, or of a file, whose further bytes are counted.
-use crate::said::{Asked, RECORD_LIMIT, put_cut, put_record, put_short, started};
+use crate::said::{Asked, RECORD_LIMIT, STARTED, put_cut, put_record, put_short};
 use entries::plus;
 use files::{Opened, Status, close_input, end, open_input, read_input};
-use lines::{Out, ROOM, STDOUT_FILENO, put, put_file};
+use lines::{Out, STDOUT_FILENO};
 use listing::put_title;
 use texts::first_of;
 use titles::put_many;
 
-// How many bytes were counted, and whether all could be read.
-#[derive(Clone, Copy)]
-struct Counted {
-    n: u64,
-    is_read: bool,
-}
-
 // Bytes behind the record.
-fn put_rest(buf: &mut [u8; ROOM], o: Out, n: u64) -> Out {
+fn put_rest(out: &mut Out, n: u64) {
     if n == 0 {
-        return o;
+        return;
     }
-    let o = put(buf, o, b"left over: ");
+    out.put(b"left over: ");
     put_many(
-        buf,
-        o,
+        out,
         n,
         b" byte behind the record\n",
         b" bytes behind the record\n",
-    )
+    );
 }
 
 // A record that is too short, under the name of what has it.
 fn short(name: &[u8], blob: &[u8], index: &[u32], a: Asked, len: usize) -> Status {
-    let mut buf = [0u8; ROOM];
-    let o = put_file(&mut buf, lines::to(STDOUT_FILENO), name);
-    let o = put_short(&mut buf, o, blob, index, a, len);
-    end(&mut buf, o, Status::Refused)
+    let mut out = Out::to(STDOUT_FILENO);
+    out.put_file(name);
+    put_short(&mut out, blob, index, a, len);
+    end(&mut out, Status::Refused)
 }
 
 // The record that some bytes begin with; so many more were not kept.
 fn show(blob: &[u8], index: &[u32], a: Asked, s: &[u8], more: u64) -> Status {
-    let mut buf = [0u8; ROOM];
-    let o = put_title(&mut buf, lines::to(STDOUT_FILENO), blob, index, a.t);
-    let l = put_record(&mut buf, started(o), blob, index, a, first_of(s, a.size));
-    let o = put_cut(&mut buf, l);
+    let mut out = Out::to(STDOUT_FILENO);
+    put_title(&mut out, blob, index, a.t);
+    let l = put_record(&mut out, STARTED, blob, index, a, first_of(s, a.size));
+    put_cut(&mut out, l);
     let rest = std::num::wrapping_sub_u64(s.len() as u64, a.size as u64);
-    let o = put_rest(&mut buf, o, plus(rest, more));
-    end(&mut buf, o, Status::Done)
+    put_rest(&mut out, plus(rest, more));
+    end(&mut out, Status::Done)
 }
 
 // Bytes, under the name of what has them.
@@ -56,21 +48,18 @@ pub fn show_bytes(name: &[u8], blob: &[u8], index: &[u32], a: Asked, s: &[u8]) -
     show(blob, index, a, s, 0)
 }
 
-// How many bytes are left to read.
-fn count_rest(name: &[u8], from: &mut Opened, s: &mut [u8; RECORD_LIMIT]) -> Counted {
+// How many bytes are left to read, if they can be read. No input has more turns than 64 bits count: a for with that
+// bound, since nothing proves that an input ends.
+fn count_rest(name: &[u8], from: &mut Opened, s: &mut [u8; RECORD_LIMIT]) -> Option<u64> {
     let mut n: u64 = 0;
-    let mut turns: u64 = 18446744073709551615;
-    let mut is_read = true;
-    while 0 < turns {
-        turns -= 1;
-        let read = read_input(name, from, s);
-        n = plus(n, read.n as u64);
-        is_read = read.is_read;
-        if read.n == 0 {
-            turns = 0;
+    for _ in 0..u64::MAX {
+        let more = read_input(name, from, s)?;
+        if more == 0 {
+            return Some(n);
         }
+        n = plus(n, more as u64);
     }
-    Counted { n, is_read }
+    Some(n)
 }
 
 // What was read of a file that is open.
@@ -86,21 +75,19 @@ fn show_read(
         return short(name, blob, index, a, s.len());
     }
     let mut more = [0u8; RECORD_LIMIT];
-    let counted = count_rest(name, from, &mut more);
-    if !counted.is_read {
-        return Status::Failed;
+    match count_rest(name, from, &mut more) {
+        Some(n) => show(blob, index, a, s, n),
+        None => Status::Failed,
     }
-    show(blob, index, a, s, counted.n)
 }
 
 // The first record of what is open.
 fn show_first(name: &[u8], from: &mut Opened, blob: &[u8], index: &[u32], a: Asked) -> Status {
     let mut s = [0u8; RECORD_LIMIT];
-    let read = read_input(name, from, &mut s);
-    if !read.is_read {
+    let Some(n) = read_input(name, from, &mut s) else {
         return Status::Failed;
-    }
-    show_read(name, from, blob, index, a, first_of(&s, read.n))
+    };
+    show_read(name, from, blob, index, a, first_of(&s, n))
 }
 
 // The record that a file begins with.

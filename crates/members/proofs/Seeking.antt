@@ -1,5 +1,6 @@
 -- Laws of members as code looks for them: each test that fails decides, and what is left is where the bits lie.
 -- Assumes nothing.
+use Rattle.std.specs.Prelude.{None, Option as RustOption, Some, ℕ}
 use Prim.Native.Nat.{ℕ, zero, suc, ◌-◌, ◌/◌, ◌%◌, ◌≤◌, ◌<◌}
 use mathlib.Core.Path.{◌≡◌, refl, sym, ap, ap₂, ◌∙◌}
 use mathlib.Core.Bool.{Bool, true, false, not, cond, ◌&&◌, ◌||◌}
@@ -15,8 +16,6 @@ use Rattle.paper.specs.rules.Table.{Record, Table, kind_of, vlen_of, flag_of}
 use Rattle.paper.specs.rules.Tails.{int_word}
 use Rattle.spans.proofs.SpanTests.{span-typed}
 use Rattle.spans.specs.Spanned.{typed, span_as_paper}
-use Rattle.spans.specs.declared.Lies.{Lies}
-use Rattle.spans.specs.declared.Lies.TheVariants.{Nowhere, From}
 use Rattle.values.specs.Given.{Finding}
 use Rattle.values.specs.Sought.{no_span, span_found, sought_in}
 use Rattle.values.specs.Value.{is_numeric, is_signed, member_of}
@@ -50,17 +49,17 @@ module _ (r : Record) {k : ℕ} (kind : k ≡ kind_of r) where
 -- ── the bits of a number ──
 
 module _ (size : ℕ) (signed : Bool) where
-  pub found_nowhere : {f : Finding} → f ≡ no_span 33 size → {l : Lies} → l ≡ Nowhere → f ≡ span_found size signed (span_as_paper l)
-  found_nowhere d is = d ∙ sym (ap (λ (l : Lies). span_found size signed (span_as_paper l)) is)
+  pub found_nowhere : {f : Finding} → f ≡ no_span 33 size → {l : RustOption (ℕ × ℕ)} → l ≡ None → f ≡ span_found size signed (span_as_paper l)
+  found_nowhere d is = d ∙ sym (ap (λ (l : RustOption (ℕ × ℕ)). span_found size signed (span_as_paper l)) is)
 
-  module _ {l : Lies} {from bits : ℕ} (is : l ≡ From from bits) where
+  module _ {l : RustOption (ℕ × ℕ)} {from bits : ℕ} (is : l ≡ Some (from, bits)) where
     -- by the test of its bits
     abbrev tested : Bool → Finding
     tested few = cond few (record { number = cond signed 1 0; size = size; from = from; bits = bits }) (no_span 33 size)
 
     by-test : (low high : Bool) → leb 1 bits ≡ low → leb bits 128 ≡ high → span_found size signed (span_as_paper l) ≡ tested (low && high)
     by-test low high e d =
-        ap (λ (l : Lies). span_found size signed (span_as_paper l)) is ∙ ap₂ (λ (a b : Bool). tested (a && b)) e d
+        ap (λ (l : RustOption (ℕ × ℕ)). span_found size signed (span_as_paper l)) is ∙ ap₂ (λ (a b : Bool). tested (a && b)) e d
 
     pub found_none : {f : Finding} → f ≡ no_span 33 size → bits ≡ 0 → f ≡ span_found size signed (span_as_paper l)
     found_none d e = d ∙ sym (by-test false (leb bits 128) (lt-leb 1 bits (omega arith)) refl)
@@ -94,7 +93,7 @@ module _ (T : Table) (flag size t o : ℕ) (base : Record) (is : base ≡ base_o
   pub numbered-none : {f : Finding} → not n ≡ true → f ≡ no_span 33 size → f ≡ chosen (is_numeric (base_of T t)) (base_of T t)
   numbered-none e d = d ∙ sym (ap (λ (b : Bool). chosen b (base_of T t)) (sym numeric ∙ not-true n e))
 
-  pub numbered-some : {f : Finding} → not n ≡ false → {signed : Bool} → signed ≡ is_signed base → (l : Lies) → span_as_paper l ≡ span_of T flag (typed t o)
+  pub numbered-some : {f : Finding} → not n ≡ false → {signed : Bool} → signed ≡ is_signed base → (l : RustOption (ℕ × ℕ)) → span_as_paper l ≡ span_of T flag (typed t o)
       → f ≡ span_found size signed (span_as_paper l) → f ≡ chosen (is_numeric (base_of T t)) (base_of T t)
   numbered-some e sign l lies d =
       d

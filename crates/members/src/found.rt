@@ -14,7 +14,7 @@ ghost use Rattle.views.specs.Shown.{table_by};
 use kindrows::{INT, STRUCT, UNION};
 use paper::{Order, Place, TypeNo};
 use rows::{flag_of, kind_of, vlen_of};
-use spans::{Lies, base_record, is_number, member_span};
+use spans::{base_record, is_number, member_span};
 use values::{MemberSpan, Sort};
 use views::{View, record_of};
 
@@ -52,12 +52,12 @@ fn is_signed(order: Order, s: &[u8]) -> bool
 }
 
 // Where the bits of a number lie. No number has none, or more than 128.
-fn found(size: u32, signed: bool, span: Lies) -> MemberSpan
+fn found(size: u32, signed: bool, span: Option<(u64, u64)>) -> MemberSpan
     ensures { found_as_paper result ≡ span_found size signed (span_as_paper span) }
 {
     match span {
-        Lies::Nowhere => no_span(Sort::NoNumber, size),
-        Lies::From(from, bits) => {
+        None => no_span(Sort::NoNumber, size),
+        Some((from, bits)) => {
             if bits == 0 {
                 return no_span(Sort::NoNumber, size);
             }

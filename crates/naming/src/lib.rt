@@ -16,7 +16,7 @@ ghost use Rattle.kindrows.specs.Codes.{is_name_code, role_of};
 ghost use Rattle.naming.specs.RuleOf.{name_rule_of};
 ghost use Rattle.naming.specs.Sections.{place_in, section_of};
 
-use idents::{Spelt, identifier, section_name};
+use idents::{identifier, section_name};
 pub use optional::optional_ok;
 use paper::{NameOff, Order, Place};
 use rows::{
@@ -29,8 +29,8 @@ fn is_identifier(strings: &[u8], at: NameOff) -> bool
     ensures { result ≡ is_identifier (name_in strings.now at.0) }
 {
     match identifier(strings, at) {
-        Spelt::Bytes(_) => true,
-        Spelt::Not => false,
+        Some(_) => true,
+        None => false,
     }
 }
 
@@ -165,14 +165,11 @@ fn entries_ok<'a>(
     let r0 = entry_role(kind, 0);
     let r1 = entry_role(kind, 1);
     let r2 = entry_role(kind, 2);
-    let mut p = at.0;
-    let mut left = n;
-    while 0 < left {
+    for i in 0..n {
+        let p = at.0 + step * i;
         if !three_ok(order, bytes, base, strings, Place(p), r0, r1, r2) {
             return false;
         }
-        p += step;
-        left -= 1;
     }
     true
 }

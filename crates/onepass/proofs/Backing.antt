@@ -66,8 +66,8 @@ pub record Backing (T : Table) (size t : ℕ) (work : List ℕ) : Type 0 where
   pub high : t ≤ count T
   pub passed : (x : ℕ) → t < x → x ≤ count T → Open (state_of work x) → ⊥
 
-pub backing-start : {T : Table} {n : ℕ} {work : List ℕ} → n ≡ count T → Glancing T n work → Backing T (length work) n work
-backing-start {T} {n} {work} e g =
+pub backing-start : {T : Table} {n t : ℕ} {work : List ℕ} → t ≡ n → n ≡ count T → Glancing T n work → Backing T (length work) t work
+backing-start {T} {n} {t} {work} same e g =
     record {
       size-kept = refl;
       now = subst (λ (m : ℕ). Glancing T m work) e g;

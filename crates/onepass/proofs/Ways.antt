@@ -1,5 +1,7 @@
 -- Laws of both ways together: what the pass forth begins with, and what it has told.
 -- Assumes nothing.
+use Rattle.std.specs.Prelude.{Ok, Result}
+use Rattle.paper.specs.declared.Report.{Report}
 use Prim.Native.Nat.{ℕ, ◌+◌, ◌≤◌}
 use native.Mathlib.Omega.{arith}
 use mathlib.Core.Path.{◌≡◌, refl, sym, ap, subst, ◌∙◌}
@@ -7,8 +9,6 @@ use mathlib.Core.List.{List, []}
 use lib.ListN.{length, length-replicate}
 use Rattle.glance.specs.Glance.{All}
 use Rattle.header.specs.Header.{HeaderOf, SectionsOf}
-use Rattle.header.specs.declared.first.Header.{Header}
-use Rattle.header.specs.declared.first.Header.TheVariants.{Good}
 use Rattle.header.specs.declared.first.Sections.{Sections}
 use Rattle.onepass.specs.Forth.{Begins, RanOf, Through}
 use Rattle.onepass.specs.Pass.{SureOf}
@@ -30,9 +30,9 @@ zeros-length n e = ap length e ∙ length-replicate {A = ℕ} n 0
 zeros-own : {s : List ℕ} (n : ℕ) → s ≡ zeros n → s ≡ zeros (length s)
 zeros-own n e = e ∙ ap zeros (sym (zeros-length n e))
 
-module _ (b : List ℕ) {h : Header} {s : Sections} (header : HeaderOf h b) (good : h ≡ Good s) where
+module _ (b : List ℕ) {h : Result Sections Report} {s : Sections} (header : HeaderOf h b) (good : h ≡ Ok s) where
   sections : SectionsOf s b
-  sections = subst (λ (x : Header). HeaderOf x b) good header
+  sections = subst (λ (x : Result Sections Report). HeaderOf x b) good header
 
   -- the type section ends within the byte limit
   pub section-small : 24 + s.types ≤ byte_limit

@@ -37,12 +37,10 @@ pub(crate) fn back(order: Order, b: &[u8], index: &[u32], n: u32, work: &mut [u3
     requires { Through n b.now (length index.now) (length work.old) index.now work.old × (order ≡ order_of b.now) }
     ensures { result ≡ true → SurelyGood (table_of b.now) n }
 {
-    let mut t = n;
-    while 0 < t {
-        if settle(order, b, index, t, work) != 2 {
+    for k in 0..n {
+        if settle(order, b, index, n - k, work) != 2 {
             return false;
         }
-        t -= 1;
     }
     true
 }

@@ -9,7 +9,7 @@ use glance::{STRANGE, is_open};
 use paper::{Order, Place, TYPE_LIMIT};
 use rows::{is_known, kind_of, tail_words, vlen_of};
 
-// How the pass went: a record was not told; or every type is settled, or some are open.
+// How the pass went: a record was not told; or every type is settled, or some are open. An enum of its own: each of the three goes on another way.
 #[derive(Clone, Copy)]
 pub(crate) enum Ran {
     Untold,
@@ -154,6 +154,7 @@ pub(crate) fn forth<'a>(
     let mut at: u32 = 24;
     let mut k: u32 = 0;
     let mut unsettled = false;
+    // A while: each record says where the next begins, so there is no count to go over.
     while at < end {
         if most <= (k as usize) + 1 {
             return Ran::Untold;

@@ -112,11 +112,10 @@ fn members<'a>(
     ensures { MembersTold order base.now strings.now work.now bytes.now info result }
 {
     let union = kind_of(info) == UNION;
-    let mut p: u32 = 12;
-    let mut left = vlen_of(info);
     let mut before: u32 = 0;
     let mut all = true;
-    while 0 < left {
+    for i in 0..vlen_of(info) {
+        let p = 12 + 12 * i;
         let third = p + 8;
         let offset = words::read(order, bytes, Place(third));
         let second = p + 4;
@@ -126,8 +125,6 @@ fn members<'a>(
         }
         all = all & fits(state_of(work, u), offset, size) & follows(union, before, offset);
         before = offset;
-        p += 12;
-        left -= 1;
     }
     if !all {
         return AWAITING;
@@ -175,9 +172,9 @@ pub(crate) fn other<'a>(
     ensures { Tells order base.now strings.now work.now bytes.now result }
 {
     match phase3(order, bytes, base, strings) {
-        Due::Nothing => told_or_open(look(order, bytes, work)),
-        Due::Head => STRANGE,
-        Due::Named => STRANGE,
-        Due::Tail => STRANGE,
+        None => told_or_open(look(order, bytes, work)),
+        Some(Due::Head) => STRANGE,
+        Some(Due::Named) => STRANGE,
+        Some(Due::Tail) => STRANGE,
     }
 }

@@ -7,12 +7,12 @@ ghost use Rattle.paper.specs.rules.Header.{strings_in};
 
 use crate::back::back;
 use crate::forth::{Ran, forth};
-use header::Header;
 use paper::Order;
 use scan::clear;
 use views::strings_in;
 
-// A table that is good for sure, or one of which phases 1 to 3 have nothing to say, with its count of types; or nothing is told.
+// A table that is good for sure, or one of which phases 1 to 3 have nothing to say, with its count of types; or nothing is told. An enum of its
+// own: Unsure is no refusal, it leaves the table to the general way.
 #[derive(Clone, Copy)]
 pub enum Sure {
     Good(u32),
@@ -45,8 +45,8 @@ pub fn pass(b: &[u8], index: &mut [u32], work: &mut [u32]) -> Sure
     match words::order_of(b) {
         Order::HighFirst => Sure::Unsure,
         Order::LowFirst => match header::read(b) {
-            Header::Bad(_) => Sure::Unsure,
-            Header::Good(s) => {
+            Err(_) => Sure::Unsure,
+            Ok(s) => {
                 clear(index);
                 clear(work);
                 both_ways(b, 24 + s.types, index, work)

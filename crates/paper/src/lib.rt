@@ -28,7 +28,7 @@ pub struct Part {
 }
 
 // How the four bytes of a word stand: the low byte first, or the high.
-#[derive(Clone, Copy)]
+#[derive(Clone, Copy, PartialEq, Eq)]
 pub enum Order {
     LowFirst,
     HighFirst,
@@ -54,14 +54,7 @@ pub enum Report {
     Layout(TypeNo, Place),
 }
 
-// What a check answers: the count of types, or a report.
-#[derive(Clone, Copy)]
-pub enum Checked {
-    Accepted(u32),
-    Refused(Report),
-}
-
-// What the size question answers: the exact size, no size, overflow, 21 and 22.
+// What the size question answers: the exact size, no size, overflow, 21 and 22. An enum of its own: no size and overflow are answers and refuse nothing.
 #[derive(Clone, Copy)]
 pub enum Sized {
     Exact(u32),
@@ -71,10 +64,9 @@ pub enum Sized {
     TooFar,
 }
 
-// What a join answers: the joined length, 16, 17, 24, 18, 19 and 20.
+// Why two tables are not joined: 16, 17, 24, 18, 19 and 20.
 #[derive(Clone, Copy)]
-pub enum Joined {
-    Whole(u32),
+pub enum JoinError {
     FirstRefused(Report),
     SecondRefused(Report),
     OrdersDiffer,
@@ -83,10 +75,9 @@ pub enum Joined {
     OutputShort,
 }
 
-// What the check of a table that leans on a base answers: the count of both tables' types, 25 with the base's report, 26, or a report of the leaning table.
+// Why a table that leans on a base is refused: 25 with the base's report, 26, or a report of its own.
 #[derive(Clone, Copy)]
-pub enum Leaned {
-    Accepted(u32),
+pub enum LeanError {
     BaseRefused(Report),
     OrdersDiffer,
     Refused(Report),

@@ -1,5 +1,8 @@
 -- Which number a cut is refused with, in the order of the grounds, and that two answers with the same numbers are one.
 -- Assumes nothing.
+use Rattle.std.specs.Prelude.{Err, Ok, Result, ℕ}
+use Rattle.parts.specs.declared.SplitError.TheVariants.{NoCut, OutputShort, Refused}
+use Rattle.parts.specs.declared.SplitError.{SplitError}
 use Prim.Native.Nat.{ℕ, ◌≤◌, ◌<◌}
 use mathlib.Core.Path.{◌≡◌, refl, sym, ap, ◌∙◌, subst}
 use mathlib.Core.Bool.{Bool, true, false, not, ◌||◌}
@@ -11,8 +14,6 @@ use borrow.Author.Tests.{ltb-false, le-ltb, lt-ltb, not-false}
 use lib.Dec.{ltb}
 use lib.ListN.{length}
 use Rattle.parts.specs.Cut.{cut_ok, first_bytes, second_bytes, cut_rules, cut_refusal, parted_as_paper}
-use Rattle.parts.specs.declared.Parted.{Parted}
-use Rattle.parts.specs.declared.Parted.TheVariants.{Apart, Refused, NoCut, OutputShort}
 use Rattle.paper.proofs.basics.Answers.{report-one}
 use Rattle.paper.proofs.basics.Choices.{first_due-none, or_left, or_right, or-false, false-or}
 use Rattle.paper.proofs.gates.Gates.{or_else-none, naming-none}
@@ -113,21 +114,21 @@ apart-report : (r : Report) {k : ℕ} → (report_as_paper r).number ≡ k → (
 apart-report r e (inl h) = omega (arith, report-range r)
 apart-report r e (inr h) = omega (arith, report-range r)
 
-pub parted-one : (a b : Parted) → parted_as_paper a ≡ parted_as_paper b → a ≡ b
+pub parted-one : (a b : Result (ℕ × ℕ) SplitError) → parted_as_paper a ≡ parted_as_paper b → a ≡ b
 unfolding parted_as_paper
-parted-one (Apart m k) (Apart m' k') e = let x : m ≡ m' = ap (λ (a : Answer). a.t) e in let y : k ≡ k' = ap (λ (a : Answer). a.p) e in cc
-parted-one (Apart m k) (Refused r) e = absurd (apart-report r (ap (λ (a : Answer). a.number) (sym e)) (inl refl))
-parted-one (Apart m k) NoCut e = absurd (let z : ◌≡◌ {A = ℕ} 0 60 = ap (λ (a : Answer). a.number) e in omega arith)
-parted-one (Apart m k) OutputShort e = absurd (let z : ◌≡◌ {A = ℕ} 0 61 = ap (λ (a : Answer). a.number) e in omega arith)
-parted-one (Refused r) (Apart m k) e = absurd (apart-report r (ap (λ (a : Answer). a.number) e) (inl refl))
-parted-one (Refused r) (Refused q) e = ap Refused (report-one r q e)
-parted-one (Refused r) NoCut e = absurd (apart-report r (ap (λ (a : Answer). a.number) e) (inr (omega arith)))
-parted-one (Refused r) OutputShort e = absurd (apart-report r (ap (λ (a : Answer). a.number) e) (inr (omega arith)))
-parted-one NoCut (Apart m k) e = absurd (let z : ◌≡◌ {A = ℕ} 60 0 = ap (λ (a : Answer). a.number) e in omega arith)
-parted-one NoCut (Refused r) e = absurd (apart-report r (ap (λ (a : Answer). a.number) (sym e)) (inr (omega arith)))
-parted-one NoCut NoCut e = refl
-parted-one NoCut OutputShort e = absurd (let z : ◌≡◌ {A = ℕ} 60 61 = ap (λ (a : Answer). a.number) e in omega arith)
-parted-one OutputShort (Apart m k) e = absurd (let z : ◌≡◌ {A = ℕ} 61 0 = ap (λ (a : Answer). a.number) e in omega arith)
-parted-one OutputShort (Refused r) e = absurd (apart-report r (ap (λ (a : Answer). a.number) (sym e)) (inr (omega arith)))
-parted-one OutputShort NoCut e = absurd (let z : ◌≡◌ {A = ℕ} 61 60 = ap (λ (a : Answer). a.number) e in omega arith)
-parted-one OutputShort OutputShort e = refl
+parted-one (Ok (m, k)) (Ok (m', k')) e = let x : m ≡ m' = ap (λ (a : Answer). a.t) e in let y : k ≡ k' = ap (λ (a : Answer). a.p) e in cc
+parted-one (Ok (m, k)) (Err (Refused r)) e = absurd (apart-report r (ap (λ (a : Answer). a.number) (sym e)) (inl refl))
+parted-one (Ok (m, k)) (Err NoCut) e = absurd (let z : ◌≡◌ {A = ℕ} 0 60 = ap (λ (a : Answer). a.number) e in omega arith)
+parted-one (Ok (m, k)) (Err OutputShort) e = absurd (let z : ◌≡◌ {A = ℕ} 0 61 = ap (λ (a : Answer). a.number) e in omega arith)
+parted-one (Err (Refused r)) (Ok (m, k)) e = absurd (apart-report r (ap (λ (a : Answer). a.number) e) (inl refl))
+parted-one (Err (Refused r)) (Err (Refused q)) e = ap (λ (x : Report). Err (Refused x)) (report-one r q e)
+parted-one (Err (Refused r)) (Err NoCut) e = absurd (apart-report r (ap (λ (a : Answer). a.number) e) (inr (omega arith)))
+parted-one (Err (Refused r)) (Err OutputShort) e = absurd (apart-report r (ap (λ (a : Answer). a.number) e) (inr (omega arith)))
+parted-one (Err NoCut) (Ok (m, k)) e = absurd (let z : ◌≡◌ {A = ℕ} 60 0 = ap (λ (a : Answer). a.number) e in omega arith)
+parted-one (Err NoCut) (Err (Refused r)) e = absurd (apart-report r (ap (λ (a : Answer). a.number) (sym e)) (inr (omega arith)))
+parted-one (Err NoCut) (Err NoCut) e = refl
+parted-one (Err NoCut) (Err OutputShort) e = absurd (let z : ◌≡◌ {A = ℕ} 60 61 = ap (λ (a : Answer). a.number) e in omega arith)
+parted-one (Err OutputShort) (Ok (m, k)) e = absurd (let z : ◌≡◌ {A = ℕ} 61 0 = ap (λ (a : Answer). a.number) e in omega arith)
+parted-one (Err OutputShort) (Err (Refused r)) e = absurd (apart-report r (ap (λ (a : Answer). a.number) (sym e)) (inr (omega arith)))
+parted-one (Err OutputShort) (Err NoCut) e = absurd (let z : ◌≡◌ {A = ℕ} 61 60 = ap (λ (a : Answer). a.number) e in omega arith)
+parted-one (Err OutputShort) (Err OutputShort) e = refl

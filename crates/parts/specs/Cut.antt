@@ -1,8 +1,8 @@
 -- Order 14: "Given a joined table, a type count and a string length, give back the two tables." Of tables, then of any blob and any slices.
-use Rattle.std.specs.Prelude.{ℕ, ◌-◌, Bool, true, not, cond, ◌||◌, List, [], ◌∷◌, ◌++◌, map, eqb, leb, ltb, length, get_or, take, drop}
+use Rattle.parts.specs.declared.SplitError.TheVariants.{NoCut, OutputShort, Refused}
+use Rattle.parts.specs.declared.SplitError.{SplitError}
+use Rattle.std.specs.Prelude.{ℕ, ◌-◌, Bool, true, not, cond, ◌||◌, List, [], ◌∷◌, ◌++◌, map, eqb, leb, ltb, length, get_or, take, drop, Err, Ok, Result}
 use Rattle.std.proofs.Math.Option.{Option, none, some}
-use Rattle.parts.specs.declared.Parted.{Parted}
-use Rattle.parts.specs.declared.Parted.TheVariants.{Apart, Refused, NoCut, OutputShort}
 use Rattle.paper.specs.rules.Answer.{Answer, report, report_as_paper}
 use Rattle.paper.specs.rules.Choice.{every, Rule, ◌when◌, first_due, or_else}
 use Rattle.paper.specs.rules.Gate.{Outcome, gate, naming, refusal}
@@ -116,8 +116,8 @@ cut b n s places work_places out out' =
 
 -- ── the answer in the paper's numbers ──
 
-unfoldable pub parted_as_paper : Parted → Answer
-parted_as_paper (Apart m k) = record { number = 0; inner = 0; t = m; p = k }
-parted_as_paper (Refused r) = report_as_paper r
-parted_as_paper NoCut = report 60 0
-parted_as_paper OutputShort = report 61 0
+unfoldable pub parted_as_paper : Result (ℕ × ℕ) SplitError → Answer
+parted_as_paper (Ok (m, k)) = record { number = 0; inner = 0; t = m; p = k }
+parted_as_paper (Err (Refused r)) = report_as_paper r
+parted_as_paper (Err NoCut) = report 60 0
+parted_as_paper (Err OutputShort) = report 61 0

@@ -1,5 +1,8 @@
 -- Laws of phases 3 to 6 one after the other, over the table that an index shows.
 -- Assumes nothing.
+use Rattle.std.specs.Prelude.{Err, Ok, Result}
+use Rattle.links.specs.declared.whole.Unlinked.TheVariants.{Endless, Reference}
+use Rattle.links.specs.declared.whole.Unlinked.{Unlinked}
 use Prim.Native.Nat.{ℕ, ◌-◌, ◌≤◌, ◌<◌}
 use mathlib.Core.Path.{◌≡◌, refl, sym, ap, ap₂, ◌∙◌, subst}
 use mathlib.Core.Bool.{Bool, true, false, not, cond, ◌&&◌}
@@ -9,8 +12,6 @@ use borrow.Author.Tests.{le-leb, lt-leb, le-ltb, lt-ltb}
 use lib.Dec.{leb, ltb}
 use lib.ListN.{length, get_or}
 use Rattle.links.specs.Links.{linked_as_paper, links_say, LinksOf}
-use Rattle.links.specs.declared.whole.Linked.{Linked}
-use Rattle.links.specs.declared.whole.Linked.TheVariants.{Good, Reference, Endless}
 use Rattle.paper.proofs.basics.Answers.{report-one}
 use Rattle.paper.proofs.gates.Gates.{some≢none, some_one}
 use Rattle.paper.specs.rules.Answer.{Answer, report_at}
@@ -29,8 +30,6 @@ use Rattle.paper.specs.declared.Report.{Report}
 use Rattle.paper.specs.declared.TypeNo.{TypeNo}
 use Rattle.phases.specs.Said.{said_as_paper, phase3_by, phase6_told, over_shown, behind_third, later_says, judged, LaterOf, JudgeOf}
 use Rattle.phases.proofs.Recalls.{sixth-same}
-use Rattle.phases.specs.declared.types.Said.{Said}
-use Rattle.phases.specs.declared.types.Said.TheVariants.{Nothing, Says}
 use Rattle.paper.specs.terms.Fit.{Bytes}
 use Rattle.views.proofs.Shows.{table_by-count}
 use Rattle.views.specs.Shown.{place_by, table_by}
@@ -79,7 +78,7 @@ module _ (base b index : List ℕ) (v : View) (room : ℕ) where
   asked : v.n ≤ type_limit → v.n < room → leb v.n type_limit && ltb v.n room ≡ true
   asked few enough = ap₂ (λ (x y : Bool). x && y) (le-leb v.n type_limit few) (lt-ltb v.n room enough)
 
-  module _ (few : v.n ≤ type_limit) (enough : v.n < room) (w : Linked) {memo : List ℕ} (linked : LinksOf T v.n room w memo) where
+  module _ (few : v.n ≤ type_limit) (enough : v.n < room) (w : Result (Unit {0}) Unlinked) {memo : List ℕ} (linked : LinksOf T v.n room w memo) where
     -- what phases 4 and 5 say, at the index's places
     links-shown : replaced (place_by index v) (linked_as_paper T w) ≡ or_else (over_shown base b index v phase4) (over_shown base b index v phase5)
     unfolding links_say
@@ -94,23 +93,23 @@ module _ (base b index : List ℕ) (v : View) (room : ℕ) where
     grouped none y z = refl
     grouped (some a) y z = refl
 
-    behind-links : {x : Linked} → w ≡ x
+    behind-links : {x : Result (Unit {0}) Unlinked} → w ≡ x
         → or_else (replaced (place_by index v) (linked_as_paper T x)) (over_shown base b index v phase6) ≡ behind_third base b index v
     unfolding behind_third
     behind-links {x} q =
         ap (λ (o : Option Answer). or_else o (over_shown base b index v phase6))
-        (ap (λ (y : Linked). replaced (place_by index v) (linked_as_paper T y)) (sym q) ∙ links-shown)
+        (ap (λ (y : Result (Unit {0}) Unlinked). replaced (place_by index v) (linked_as_paper T y)) (sym q) ∙ links-shown)
         ∙ grouped (over_shown base b index v phase4) (over_shown base b index v phase5) (over_shown base b index v phase6)
 
-    pub behind-reference : {t : TypeNo} {p : ℕ} → w ≡ Reference t → p ≡ place_by index v t.0 → some (report_at 13 t.0 p) ≡ behind_third base b index v
+    pub behind-reference : {t : TypeNo} {p : ℕ} → w ≡ (Err (Reference t)) → p ≡ place_by index v t.0 → some (report_at 13 t.0 p) ≡ behind_third base b index v
     behind-reference {t} q at = ap (λ (p : ℕ). some (report_at 13 t.0 p)) at ∙ behind-links q
 
-    pub behind-endless : {t : TypeNo} {p : ℕ} → w ≡ Endless t → p ≡ place_by index v t.0 → some (report_at 14 t.0 p) ≡ behind_third base b index v
+    pub behind-endless : {t : TypeNo} {p : ℕ} → w ≡ (Err (Endless t)) → p ≡ place_by index v t.0 → some (report_at 14 t.0 p) ≡ behind_third base b index v
     behind-endless {t} q at = ap (λ (p : ℕ). some (report_at 14 t.0 p)) at ∙ behind-links q
 
-    pub behind-sixth : Bytes base → Bytes b → w ≡ Good → {o : Option Answer} → o ≡ over_shown base b index v (phase6_told memo) → o ≡ behind_third base b index v
+    pub behind-sixth : Bytes base → Bytes b → w ≡ (Ok (record {})) → {o : Option Answer} → o ≡ over_shown base b index v (phase6_told memo) → o ≡ behind_third base b index v
     behind-sixth low high q e =
-        e ∙ sixth-same base b index v low high few enough (subst (λ (y : Linked). LinksOf T v.n room y memo) q linked) ∙ behind-links q
+        e ∙ sixth-same base b index v low high few enough (subst (λ (y : Result (Unit {0}) Unlinked). LinksOf T v.n room y memo) q linked) ∙ behind-links q
 
   -- ── phases 4 to 6, of so many types and places ──
 
@@ -137,19 +136,19 @@ module _ (base b index : List ℕ) (v : View) (room : ℕ) where
 
   -- ── all of them ──
 
-  module _ (s₃ : Said) (e₃ : said_as_paper s₃ ≡ over_shown base b index v (phase3_by (strings_in base) (strings_in b))) where
+  module _ (s₃ : Result (Unit {0}) Report) (e₃ : said_as_paper s₃ ≡ over_shown base b index v (phase3_by (strings_in base) (strings_in b))) where
     by-third : {o : Option Answer} → said_as_paper s₃ ≡ o → or_else o (later_says base b index v room) ≡ judged base b index v room
     unfolding judged
     by-third {o} e = ap (λ (x : Option Answer). or_else x (later_says base b index v room)) (sym e ∙ e₃)
 
-    pub judge-third : {r : Report} → s₃ ≡ Says r → said_as_paper s₃ ≡ judged base b index v room
+    pub judge-third : {r : Report} → s₃ ≡ Err r → said_as_paper s₃ ≡ judged base b index v room
     judge-third p = ap said_as_paper p ∙ by-third (ap said_as_paper p)
 
-    module _ (n₃ : s₃ ≡ Nothing) where
+    module _ (n₃ : s₃ ≡ (Ok (record {}))) where
       pub judge-glance : none ≡ behind_third base b index v → none ≡ judged base b index v room
       judge-glance e = later-none e ∙ by-third (ap said_as_paper n₃)
 
-      pub judge-later : {r : Said} {places : ℕ} {work : List ℕ} → places ≡ room → LaterOf base b index v places r work → JudgeOf base b index v room r work
+      pub judge-later : {r : Result (Unit {0}) Report} {places : ℕ} {work : List ℕ} → places ≡ room → LaterOf base b index v places r work → JudgeOf base b index v room r work
       judge-later {r} same h =
           record {
             says = h.says ∙ ap (later_says base b index v) same ∙ by-third (ap said_as_paper n₃);
@@ -158,16 +157,16 @@ module _ (base b index : List ℕ) (v : View) (room : ℕ) where
 
 -- ── any two results that the contract allows are the same ──
 
-said-one : (a b : Said) → said_as_paper a ≡ said_as_paper b → a ≡ b
-said-one Nothing Nothing e = refl
-said-one Nothing (Says r) e = absurd (some≢none (sym e))
-said-one (Says r) Nothing e = absurd (some≢none e)
-said-one (Says r) (Says q) e = ap Says (report-one r q (some_one e))
+said-one : (a b : Result (Unit {0}) Report) → said_as_paper a ≡ said_as_paper b → a ≡ b
+said-one (Ok _) (Ok _) e = refl
+said-one (Ok _) (Err r) e = absurd (some≢none (sym e))
+said-one (Err r) (Ok _) e = absurd (some≢none e)
+said-one (Err r) (Err q) e = ap Err (report-one r q (some_one e))
 
-pub later-one : {base b index : List ℕ} {v : View} {room : ℕ} {r r' : Said} {work work' : List ℕ} → LaterOf base b index v room r work
+pub later-one : {base b index : List ℕ} {v : View} {room : ℕ} {r r' : Result (Unit {0}) Report} {work work' : List ℕ} → LaterOf base b index v room r work
     → LaterOf base b index v room r' work' → (r ≡ r') × (work ≡ work')
 later-one {r = r} {r' = r'} h k = (said-one r r' (h.says ∙ sym k.says), h.cleared ∙ sym k.cleared)
 
-pub judge-one : {base b index : List ℕ} {v : View} {room : ℕ} {r r' : Said} {work work' : List ℕ} → JudgeOf base b index v room r work
+pub judge-one : {base b index : List ℕ} {v : View} {room : ℕ} {r r' : Result (Unit {0}) Report} {work work' : List ℕ} → JudgeOf base b index v room r work
     → JudgeOf base b index v room r' work' → (r ≡ r') × (work ≡ work')
 judge-one {r = r} {r' = r'} h k = (said-one r r' (h.says ∙ sym k.says), h.cleared ∙ sym k.cleared)

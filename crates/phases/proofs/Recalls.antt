@@ -1,5 +1,6 @@
 -- Where phases 4 and 5 say nothing, phase 6 by what they have left says what the paper's phase 6 says.
 -- Assumes nothing.
+use Rattle.std.specs.Prelude.{Ok}
 use Prim.Native.Nat.{ℕ, zero, suc, ◌+◌, ◌≤◌, ◌<◌}
 use mathlib.Core.Path.{◌≡◌, refl, sym, ap, ap₂, ◌∙◌, subst}
 use mathlib.Core.Bool.{Bool, true, false, not, cond, ◌&&◌}
@@ -13,7 +14,6 @@ use lib.ListN.{drop}
 use Rattle.layout.proofs.Telling.{Right, layout-same}
 use Rattle.links.specs.Links.{searched, links_say, LinksOf}
 use Rattle.links.specs.Search.{done, mark_at}
-use Rattle.links.specs.declared.whole.Linked.TheVariants.{Good}
 use Rattle.paper.proofs.bytes.Bytes.{below-drop}
 use Rattle.paper.proofs.bytes.Words.{word_of-bound}
 use Rattle.paper.proofs.gates.Gates.{over_types-silent}
@@ -77,7 +77,7 @@ module _ (base b index : List ℕ) (v : View) (low : Bytes base) (high : Bytes b
 
   -- ── what phases 4 and 5 have left is right ──
 
-  module _ (few : v.n ≤ type_limit) {room : ℕ} (enough : v.n < room) {memo : List ℕ} (linked : LinksOf T v.n room Good memo) where
+  module _ (few : v.n ≤ type_limit) {room : ℕ} (enough : v.n < room) {memo : List ℕ} (linked : LinksOf T v.n room (Ok (record {})) memo) where
     on : searched v.n room ≡ true
     on = ap₂ (λ (x y : Bool). x && y) (le-leb v.n type_limit few) (lt-ltb v.n room enough)
 

@@ -1,8 +1,7 @@
 -- What phases 3 to 6 say of the table that an index shows, of any bytes, in the paper's numbers.
-use Rattle.std.specs.Prelude.{ℕ, ◌≡◌, not, cond, ◌&&◌, List, [], ◌∷◌, leb, ltb}
+use Rattle.paper.specs.declared.Report.{Report}
+use Rattle.std.specs.Prelude.{ℕ, ◌≡◌, not, cond, ◌&&◌, List, [], ◌∷◌, leb, ltb, Err, Ok, Result}
 use Rattle.std.proofs.Math.Option.{Option, none, some}
-use Rattle.phases.specs.declared.types.Said.{Said}
-use Rattle.phases.specs.declared.types.Said.TheVariants.{Nothing, Says}
 use Rattle.paper.specs.rules.Answer.{Answer, report_as_paper}
 use Rattle.layout.specs.Told.{layout_told}
 use Rattle.paper.specs.rules.Choice.{Rule, ◌when◌, or_else}
@@ -14,9 +13,9 @@ use Rattle.rules.specs.Phase.{rules_of}
 use Rattle.views.specs.Shown.{place_by, table_by}
 use Rattle.views.specs.declared.View.{View}
 
-abbrev pub said_as_paper : Said → Option Answer
-said_as_paper Nothing = none
-said_as_paper (Says r) = some (report_as_paper r)
+abbrev pub said_as_paper : Result (Unit {0}) Report → Option Answer
+said_as_paper (Ok _) = none
+said_as_paper (Err r) = some (report_as_paper r)
 
 -- phase 3, with the names of two string sections
 unfoldable pub phase3_by : List ℕ → List ℕ → Table → ℕ → List Rule
@@ -44,11 +43,11 @@ module _ (base b index : List ℕ) (v : View) where
   judged room = or_else (over_shown (phase3_by (strings_in base) (strings_in b))) (later_says room)
 
 -- phases 4 to 6, and a work slice that is all 0
-pub record LaterOf (base b index : List ℕ) (v : View) (room : ℕ) (r : Said) (work : List ℕ) : Type 0 where
+pub record LaterOf (base b index : List ℕ) (v : View) (room : ℕ) (r : Result (Unit {0}) Report) (work : List ℕ) : Type 0 where
   pub says : said_as_paper r ≡ later_says base b index v room
   pub cleared : work ≡ zeros room
 
 -- phases 3 to 6, and a work slice that is all 0
-pub record JudgeOf (base b index : List ℕ) (v : View) (room : ℕ) (r : Said) (work : List ℕ) : Type 0 where
+pub record JudgeOf (base b index : List ℕ) (v : View) (room : ℕ) (r : Result (Unit {0}) Report) (work : List ℕ) : Type 0 where
   pub says : said_as_paper r ≡ judged base b index v room
   pub cleared : work ≡ zeros room

@@ -6,4 +6,3 @@ mod judged; // phases 4 to 6, and all four: the earliest speaks
 mod types; // phases 3 and 6 over the types: reports 10 to 12 and 15
 
 pub use judged::{judge, later};
-pub use types::Said;

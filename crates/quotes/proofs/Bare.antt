@@ -1,21 +1,19 @@
 -- Laws of what stands bare: all of some bytes are an identifier, and every byte is one of a file's name.
 -- Assumes nothing.
-use Prim.Native.Nat.{ℕ, suc, ◌+◌, ◌<◌, ◌≤◌}
+use Rattle.std.specs.Prelude.{None, Option as RustOption, Some, ℕ}
+use Prim.Native.Nat.{ℕ, suc, ◌+◌, ◌<◌, ◌≤◌, zero}
+use mathlib.Core.Logic.{◌↔◌}
 use mathlib.Core.Path.{◌≡◌, refl, sym, ap, ◌∙◌}
 use mathlib.Core.Bool.{Bool, true, false, cond, ◌&&◌, ◌||◌, false≢true}
 use mathlib.Core.List.{List, [], ◌∷◌}
 use mathlib.Core.Option.{none, some}
-use native.Mathlib.Numerals.{add-one}
 use native.Mathlib.Omega.{arith}
 use borrow.Author.Tests.{ne_eqb, eqb-true, eqb-false}
 use lib.Dec.{eqb, leb}
-use lib.ListN.{length, get_or, drop, drop_of_length-le}
-use lib.Seq.{drop-cons}
+use lib.ListN.{length, get_or}
 use Rattle.paper.proofs.basics.Choices.{and_left, and_right}
 use Rattle.paper.specs.rules.Choice.{every, is_empty, is_some}
 use Rattle.paper.specs.rules.Name.{until_zero, name_in, between, is_digit, is_letter, identifier_length, is_identifier}
-use Rattle.idents.specs.declared.Spelt.{Spelt}
-use Rattle.idents.specs.declared.Spelt.TheVariants.{Bytes, Not}
 use Rattle.idents.specs.Spelling.{spelt_as_paper}
 use Rattle.quotes.specs.Quote.{is_path, is_path_byte}
 
@@ -107,7 +105,7 @@ module _ (s : List ℕ) where
       go true h = ap is_some e ∙ ap is_identifier (identifier-whole s h) ∙ h
 
 -- by what is told of the bytes up to the first zero byte
-pub spelt-whole : (s : List ℕ) {x : Spelt} {n : ℕ} → x ≡ Bytes n → spelt_as_paper x ≡ identifier_length (name_in s 0) → eqb n (length s) ≡ is_identifier s
+pub spelt-whole : (s : List ℕ) {x : RustOption ℕ} {n : ℕ} → x ≡ Some n → spelt_as_paper x ≡ identifier_length (name_in s 0) → eqb n (length s) ≡ is_identifier s
 unfolding name_in
 spelt-whole s {x} {n} e h = go (eqb n (length s)) refl
   where
@@ -118,7 +116,7 @@ spelt-whole s {x} {n} e h = go (eqb n (length s)) refl
     go true l = bare-whole s told (eqb-true n (length s) l)
     go false l = bare-cut s told (eqb-false n (length s) l)
 
-pub spelt-none : (s : List ℕ) {x : Spelt} → x ≡ Not → spelt_as_paper x ≡ identifier_length (name_in s 0) → false ≡ is_identifier s
+pub spelt-none : (s : List ℕ) {x : RustOption ℕ} → x ≡ None → spelt_as_paper x ≡ identifier_length (name_in s 0) → false ≡ is_identifier s
 unfolding name_in
 spelt-none s e h = bare-none s (ap spelt_as_paper (sym e) ∙ h)
 
@@ -143,12 +141,6 @@ module _ (c : ℕ) {t : Bool} (first : t ≡ between 45 57 c) where
       unfolding is_path_byte
       byte_last g = sym (rw (sym first ∙ e, sym second ∙ f, sym third ∙ g) refl)
 
--- every byte so far is one of a file's name
-pub record Walking (s : List ℕ) (i : ℕ) : Type 0 where
-  pub inside : i ≤ length s
-  pub filled : is_empty s ≡ false
-  pub rest : every is_path_byte s ≡ every is_path_byte (drop i s)
-
 filled-from : (s : List ℕ) → (length s ≡ 0 → ⊥) → is_empty s ≡ false
 filled-from [] h = absurd (h refl)
 filled-from (c ∷ s) h = refl
@@ -158,26 +150,23 @@ unfolding is_path
 path_empty [] e = refl
 path_empty (c ∷ s) e = absurd (omega (arith, e))
 
-pub walking_start : (s : List ℕ) → (length s ≡ 0 → ⊥) → Walking s 0
-walking_start s h = record { inside = omega arith; filled = filled-from s h; rest = refl }
+all-every : (f : ℕ → Bool) (s : List ℕ) → ((k : ℕ) → k < length s → f (get_or s k 0) ≡ true) → every f s ≡ true
+all-every f [] h = refl
+all-every f (c ∷ s) h = rw (h zero (omega arith)) (all-every f s (λ k l. h (suc k) (omega arith)))
 
-module _ {s : List ℕ} {i : ℕ} (g : Walking s i) where
-  module _ (h : i < length s) {t : Bool} (e : t ≡ is_path_byte (get_or s i 0)) where
-    here : every is_path_byte (drop i s) ≡ t && every is_path_byte (drop (suc i) s)
-    here = ap (every is_path_byte) (drop-cons s i 0 h) ∙ ap (λ (u : Bool). u && every is_path_byte (drop (suc i) s)) (sym e)
+every-at : (f : ℕ → Bool) (s : List ℕ) → every f s ≡ true → (k : ℕ) → k < length s → f (get_or s k 0) ≡ true
+every-at f [] h k l = absurd (omega arith)
+every-at f (c ∷ s) h zero l = and_left (f c) (every f s) h
+every-at f (c ∷ s) h (suc k) l = every-at f s (and_right (f c) (every f s) h) k (omega arith)
 
-    pub walking-bad : t ≡ false → false ≡ is_path s
-    unfolding is_path
-    walking-bad b = sym (rw (g.filled, g.rest ∙ here, b) refl)
+same_by : (t u : Bool) → (t ≡ true → u ≡ true) → (u ≡ true → t ≡ true) → t ≡ u
+same_by true u f g = sym (f refl)
+same_by false true f g = g refl
+same_by false false f g = refl
 
-    pub walking-next : t ≡ true → Walking s (i + 1)
-    walking-next b =
-        record {
-          inside = omega arith;
-          filled = g.filled;
-          rest = g.rest ∙ here ∙ ap (λ (u : Bool). u && every is_path_byte (drop (suc i) s)) b ∙ ap (λ (j : ℕ). every is_path_byte (drop j s)) (sym (add-one i));
-        }
-
-  pub walking-done : length s ≤ i → true ≡ is_path s
-  unfolding is_path
-  walking-done h = sym (rw (g.filled, g.rest ∙ ap (every is_path_byte) (drop_of_length-le s h)) refl)
+-- a test that passes where every byte is one of a file's name
+pub path-by : {t : Bool} (s : List ℕ) → (length s ≡ 0 → ⊥) → ((t ≡ true) ↔ ((k : ℕ) → k < length s → is_path_byte (get_or s k 0) ≡ true)) → t ≡ is_path s
+unfolding is_path
+path-by {t} s h e =
+    rw (filled-from s h)
+    (same_by t (every is_path_byte s) (λ p. all-every is_path_byte s (e.0 p)) (λ p. e.1 (every-at is_path_byte s p)))

@@ -55,10 +55,8 @@ pub(crate) fn quote(s: &[u8], out: &mut [u8]) -> usize
 {
     out[0] = 34;
     let mut at = 1;
-    let mut i = 0;
-    while i < s.len() {
-        at = escape_byte(s[i], out, at);
-        i += 1;
+    for b in s {
+        at = escape_byte(*b, out, at);
     }
     out[at] = 34;
     at + 1

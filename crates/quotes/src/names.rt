@@ -1,11 +1,11 @@
 // A name and a file's name, as they stand in a line: bare where they are of plain bytes, else between quotes. So no name can
 // speak for the tool, nor end its own quotes.
-ghost use Rattle.std.specs.Prelude.{false, ◌≡◌};
+ghost use Rattle.std.specs.Prelude.{false, true, ◌≡◌, ◌↔◌, EachIndex, IsTrue, slice_index};
 ghost use Rattle.paper.specs.rules.Name.{between, is_identifier};
 ghost use Rattle.quotes.specs.Quote.{TextIn, is_path, is_path_byte};
 
 use crate::escapes::quote;
-use idents::{Spelt, identifier};
+use idents::identifier;
 use paper::NameOff;
 use words::lay;
 
@@ -14,8 +14,8 @@ fn is_identifier(s: &[u8]) -> bool
     ensures { result ≡ is_identifier s.now }
 {
     match identifier(s, NameOff(0)) {
-        Spelt::Bytes(n) => n as usize == s.len(),
-        Spelt::Not => false,
+        Some(n) => n as usize == s.len(),
+        None => false,
     }
 }
 
@@ -41,6 +41,13 @@ fn is_path_byte(c: u8) -> bool
     c == 95
 }
 
+// Every byte is one of a file's name.
+fn are_path_bytes(s: &[u8]) -> bool
+    ensures { IsTrue result ↔ EachIndex s.now (λ k. is_path_byte (slice_index s.now k) ≡ true) }
+{
+    s.iter().all(|c| is_path_byte(*c))
+}
+
 // The bytes are a file's name that needs no quotes.
 fn is_path(s: &[u8]) -> bool
     ensures { result ≡ is_path s.now }
@@ -48,14 +55,7 @@ fn is_path(s: &[u8]) -> bool
     if s.len() == 0 {
         return false;
     }
-    let mut i = 0;
-    while i < s.len() {
-        if !is_path_byte(s[i]) {
-            return false;
-        }
-        i += 1;
-    }
-    true
+    are_path_bytes(s)
 }
 
 // The bytes, bare or between quotes, are put at the start of the output; how many they are is answered. Nothing is put, and 0

@@ -6,7 +6,7 @@ use kindrows::{ARRAY, STRUCT, UNION};
 use members::{numbered, span_of};
 use paper::{Place, Sized, TypeNo};
 use rows::{flag_of, info_of, kind_of, vlen_of};
-use spans::{Lies, member_span};
+use spans::member_span;
 use values::MemberSpan;
 use views::View;
 
@@ -20,15 +20,15 @@ pub(crate) struct Part {
 }
 
 // With the bits that it takes; a member of an accepted table takes some.
-fn lying(t: u32, lies: Lies, span: MemberSpan) -> Part {
+fn lying(t: u32, lies: Option<(u64, u64)>, span: MemberSpan) -> Part {
     match lies {
-        Lies::Nowhere => Part {
+        None => Part {
             t,
             from: 0,
             bits: 0,
             span,
         },
-        Lies::From(from, bits) => Part {
+        Some((from, bits)) => Part {
             t,
             from,
             bits,
@@ -114,12 +114,14 @@ pub(crate) fn next_start(blob: &[u8], index: &[u32], held: u32, start: u64) -> u
     plus(start, whole_bits(sizes::size(blob, index, TypeNo(t))))
 }
 
-// The struct, union or array that a type is by value; 0 where it is none.
-pub(crate) fn held_by(blob: &[u8], index: &[u32], t: u32) -> u32 {
+// The struct, union or array that a type is by value, where it is one.
+pub(crate) fn held_by(blob: &[u8], index: &[u32], t: u32) -> Option<u32> {
     let base = base_of(blob, index, t);
-    let kind = kind_of(info_of(words::order_of(blob), record_of(blob, index, base)));
-    match kind {
-        ARRAY | STRUCT | UNION => base,
-        _ => 0,
+    if base == 0 {
+        return None;
+    }
+    match kind_of(info_of(words::order_of(blob), record_of(blob, index, base))) {
+        ARRAY | STRUCT | UNION => Some(base),
+        _ => None,
     }
 }

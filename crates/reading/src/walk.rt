@@ -2,10 +2,8 @@
 use crate::contents::{Part, count_of, held_by, is_array, next_start, part_of};
 use crate::numbers::put_value;
 use bases::{long_entry, record_of};
-use entries::{
-    LEVELS, LINES, Listed, Span, least, less, plus, put_indent, put_more, put_taken, with,
-};
-use lines::{Out, ROOM, put, put_hex, put_with};
+use entries::{LEVELS, LINES, Listed, Span, plus, put_indent, put_more, put_taken};
+use lines::Out;
 use texts::first_of;
 use titles::put_entry_name;
 use values::value_of;
@@ -15,21 +13,14 @@ use words::rest_from;
 const SHOWN: usize = 24;
 
 // What a line begins with: a member's name or an element's number, so many levels below the record that is shown.
-fn put_label(
-    buf: &mut [u8; ROOM],
-    o: Out,
-    blob: &[u8],
-    index: &[u32],
-    held: u32,
-    i: u32,
-    depth: usize,
-) -> Out {
-    let o = put_indent(buf, o, depth);
+fn put_label(out: &mut Out, blob: &[u8], index: &[u32], held: u32, i: u32, depth: usize) {
+    put_indent(out, depth);
     if is_array(blob, index, held) {
-        let o = put_with(buf, o, b"    [", i as u64);
-        return put(buf, o, b"]");
+        out.put_with(b"    [", i as u64);
+        out.put(b"]");
+        return;
     }
-    put_entry_name(buf, o, blob, long_entry(record_of(blob, index, held), i))
+    put_entry_name(out, blob, long_entry(record_of(blob, index, held), i));
 }
 
 // The bytes that some bits lie in.
@@ -40,53 +31,43 @@ fn bytes_in(s: &[u8], from: u64, width: u64) -> &[u8] {
 }
 
 // Bytes behind a colon, and how many there are where not all stand there; nothing where there are none.
-fn put_bytes(buf: &mut [u8; ROOM], o: Out, s: &[u8]) -> Out {
+fn put_bytes(out: &mut Out, s: &[u8]) {
     if s.len() == 0 {
-        return o;
+        return;
     }
-    let o = put(buf, o, b":");
-    let o = put_hex(buf, o, first_of(s, SHOWN));
+    out.put(b":");
+    out.put_hex(first_of(s, SHOWN));
     if s.len() <= SHOWN {
-        return o;
+        return;
     }
-    let o = put_with(buf, o, b" ... (", s.len() as u64);
-    put(buf, o, b" bytes)")
+    out.put_with(b" ... (", s.len() as u64);
+    out.put(b" bytes)");
 }
 
 // A member's or an element's line: name or number, type, bits, bytes and value. What holds it begins at a bit of the record.
-fn put_part(
-    buf: &mut [u8; ROOM],
-    o: Out,
-    blob: &[u8],
-    index: &[u32],
-    s: &[u8],
-    part: Part,
-    start: u64,
-) -> Out {
+fn put_part(out: &mut Out, blob: &[u8], index: &[u32], s: &[u8], part: Part, start: u64) {
     let t = part.t;
     let width = part.bits;
     let from = plus(start, part.from);
     let span = part.span;
-    let o = put_taken(buf, o, blob, index, t, Span { from, width });
-    let o = put_bytes(buf, o, bytes_in(s, from, width));
+    put_taken(out, blob, index, t, Span { from, width });
+    put_bytes(out, bytes_in(s, from, width));
     let byte = start / 8;
     let v = value_of(span, rest_from(s, byte as usize));
-    let o = put_value(buf, o, blob, index, t, v);
-    put(buf, o, b"\n")
+    put_value(out, blob, index, t, v);
+    out.put(b"\n");
 }
 
-// What a line leaves: what is written, the struct, union or array that it is of, 0 where it is of none, and the bit where that begins.
+// What a line is of: a struct, a union or an array, if it is of one, and the bit where that begins.
 #[derive(Clone, Copy)]
 struct Step {
-    o: Out,
-    inner: u32,
+    inner: Option<u32>,
     from: u64,
 }
 
 // The line of what lies at a number in a struct, a union or an array that begins at a bit of the record.
 fn put_next(
-    buf: &mut [u8; ROOM],
-    o: Out,
+    out: &mut Out,
     blob: &[u8],
     index: &[u32],
     n: u32,
@@ -99,15 +80,15 @@ fn put_next(
     let part = part_of(blob, index, n, held, i);
     let inner = held_by(blob, index, part.t);
     let from = plus(start, part.from);
-    let o = put_label(buf, o, blob, index, held, i, depth);
-    let o = put_part(buf, o, blob, index, s, part, start);
-    Step { o, inner, from }
+    put_label(out, blob, index, held, i, depth);
+    put_part(out, blob, index, s, part, start);
+    Step { inner, from }
 }
 
 // What lies in a struct, a union or an array that begins at a bit of the record, and in what that holds, each right below it. For
 // each that is open: its number, what is next in it, and where that begins.
 fn put_below(
-    buf: &mut [u8; ROOM],
+    out: &mut Out,
     l: Listed,
     blob: &[u8],
     index: &[u32],
@@ -120,10 +101,10 @@ fn put_below(
     let mut nexts = [0u32; LEVELS];
     let mut starts = [start; LEVELS];
     let mut depth: usize = 1;
-    let most = least(LINES, l.left);
+    let most = LINES.min(l.left);
     let mut left = most;
     let mut is_cut = l.is_cut;
-    let mut o = l.o;
+    // A while: what is open grows and shrinks as it is shown, so there is no count to go over.
     while 0 < depth {
         let d = depth - 1;
         let t = types[d];
@@ -132,38 +113,36 @@ fn put_below(
         if count_of(blob, index, t) <= i {
             depth = d;
         } else if left == 0 {
-            o = put_more(buf, o, depth);
+            put_more(out, depth);
             is_cut = true;
             depth = 0;
         } else {
             left -= 1;
             nexts[d] = i + 1;
             starts[d] = next_start(blob, index, t, at);
-            let step = put_next(buf, o, blob, index, n, s, t, i, at, depth);
-            o = step.o;
-            if step.inner != 0 {
+            let step = put_next(out, blob, index, n, s, t, i, at, depth);
+            if let Some(inner) = step.inner {
                 if depth < LEVELS {
-                    types[depth] = step.inner;
+                    types[depth] = inner;
                     nexts[depth] = 0;
                     starts[depth] = step.from;
                     depth += 1;
                 } else {
-                    o = put_more(buf, o, LEVELS + 1);
+                    put_more(out, LEVELS + 1);
                     is_cut = true;
                 }
             }
         }
     }
     Listed {
-        o,
-        left: less(l.left, less(most, left)),
+        left: l.left.saturating_sub(most.saturating_sub(left)),
         is_cut,
     }
 }
 
 // A member of the record, and what stands below it.
 fn put_member(
-    buf: &mut [u8; ROOM],
+    out: &mut Out,
     l: Listed,
     blob: &[u8],
     index: &[u32],
@@ -172,18 +151,16 @@ fn put_member(
     t: u32,
     i: u32,
 ) -> Listed {
-    let o = l.o;
-    let step = put_next(buf, o, blob, index, n, s, t, i, 0, 0);
-    let o = step.o;
-    if step.inner == 0 {
-        return with(l, o);
+    let step = put_next(out, blob, index, n, s, t, i, 0, 0);
+    match step.inner {
+        Some(inner) => put_below(out, l, blob, index, n, s, inner, step.from),
+        None => l,
     }
-    put_below(buf, with(l, o), blob, index, n, s, step.inner, step.from)
 }
 
 // Every member of a struct or union of a table of so many types, as a record's bytes have it.
 pub fn put_members(
-    buf: &mut [u8; ROOM],
+    out: &mut Out,
     l: Listed,
     blob: &[u8],
     index: &[u32],
@@ -193,10 +170,8 @@ pub fn put_members(
 ) -> Listed {
     let count = count_of(blob, index, t);
     let mut l = l;
-    let mut i: u32 = 0;
-    while i < count {
-        l = put_member(buf, l, blob, index, n, s, t, i);
-        i += 1;
+    for i in 0..count {
+        l = put_member(out, l, blob, index, n, s, t, i);
     }
     l
 }

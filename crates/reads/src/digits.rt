@@ -1,24 +1,20 @@
 // Bytes that are written as hexadecimal digits, two for each.
 use logs::RECORD_LIMIT;
 
-// So many bytes, a digit that has no second, or a byte that is no digit.
+// Why digits are no bytes: one has no second, or a byte is no digit.
 #[derive(Clone, Copy)]
-pub enum Decoded {
-    Bytes(usize),
+pub enum Undecoded {
     Odd,
     Stray,
 }
 
-// A digit that waits for its second; none does.
-const NONE: u8 = 16;
-
-// What a digit stands for; NONE where it is none.
-fn digit(c: u8) -> u8 {
+// What a digit stands for.
+fn digit(c: u8) -> Option<u8> {
     match c {
-        b'0'..=b'9' => c - b'0',
-        b'A'..=b'F' => c - b'A' + 10,
-        b'a'..=b'f' => c - b'a' + 10,
-        _ => NONE,
+        b'0'..=b'9' => Some(c - b'0'),
+        b'A'..=b'F' => Some(c - b'A' + 10),
+        b'a'..=b'f' => Some(c - b'a' + 10),
+        _ => None,
     }
 }
 
@@ -31,28 +27,24 @@ fn lay_byte(out: &mut [u8; RECORD_LIMIT], n: usize, high: u8, low: u8) -> usize 
     n + 1
 }
 
-// The bytes that the digits say. Blanks between them say nothing.
-pub fn decode(s: &[u8], out: &mut [u8; RECORD_LIMIT]) -> Decoded {
-    let mut high = NONE;
+// How many bytes the digits say. Blanks between them say nothing.
+pub fn decode(s: &[u8], out: &mut [u8; RECORD_LIMIT]) -> Result<usize, Undecoded> {
+    let mut waiting = None;
     let mut n: usize = 0;
-    let mut i: usize = 0;
-    while i < s.len() {
-        let d = digit(s[i]);
-        if s[i] != b' ' {
-            if d == NONE {
-                return Decoded::Stray;
-            }
-            if high == NONE {
-                high = d;
-            } else {
-                n = lay_byte(out, n, high, d);
-                high = NONE;
+    for c in s {
+        if *c != b' ' {
+            let d = digit(*c).ok_or(Undecoded::Stray)?;
+            match waiting {
+                None => waiting = Some(d),
+                Some(high) => {
+                    n = lay_byte(out, n, high, d);
+                    waiting = None;
+                }
             }
         }
-        i += 1;
     }
-    if high != NONE {
-        return Decoded::Odd;
+    match waiting {
+        None => Ok(n),
+        Some(_) => Err(Undecoded::Odd),
     }
-    Decoded::Bytes(n)
 }

@@ -5,5 +5,5 @@ mod digits; // bytes in hexadecimal
 mod types; // which type is asked for
 mod whole; // a table, a type of it, and records
 
-pub use digits::{Decoded, decode};
+pub use digits::{Undecoded, decode};
 pub use whole::{Source, read_records};

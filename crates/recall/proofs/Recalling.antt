@@ -4,12 +4,11 @@ use Prim.Native.Nat.{ℕ, ◌+◌, ◌≤◌}
 use mathlib.Core.Path.{◌≡◌, refl, sym, ap, ap₂, ◌∙◌, subst}
 use mathlib.Core.Bool.{Bool, true, false, cond, false≢true}
 use mathlib.Core.List.{List}
-use mathlib.Core.Logic.{◌⊎◌, ⊎_elim}
+use mathlib.Core.Logic.{⊎_elim}
 use mathlib.Core.Option.{Option}
 use native.Mathlib.Omega.{arith}
 use borrow.Author.Tests.{eqb-true, eqb-false, le-leb}
 use lib.Dec.{eqb, leb}
-use Rattle.paper.proofs.walks.Sizes as sizes
 use Rattle.paper.specs.rules.Chain.{held_by}
 use Rattle.paper.specs.rules.Size.{Step, is, many_of, sizeless, lost, step_in, exact_size}
 use Rattle.paper.specs.rules.Span.{base_from}

@@ -11,17 +11,15 @@ use rows::tail_words;
 pub fn all_named(order: Order, bytes: &[u8]) -> bool
     ensures { result ≡ all_named (parameters_of (record_in order bytes.now)) }
 {
-    let mut p: u32 = 12;
-    let mut left = tail_words(words::read(order, bytes, Place(4)));
-    while 2 <= left {
+    let n = tail_words(words::read(order, bytes, Place(4))) / 2;
+    for i in 0..n {
+        let p = 12 + 8 * i;
         if words::read(order, bytes, Place(p)) == 0 {
-            if 4 <= left {
+            if i + 1 < n {
                 return false;
             }
             return words::read(order, bytes, Place(p + 4)) == 0;
         }
-        p += 8;
-        left -= 2;
     }
     true
 }

@@ -1,5 +1,8 @@
 -- Order 3 of the code: what it means that `member` has answered, in the demands' words. Each from contracts alone.
 -- Assumes nothing.
+use Rattle.std.specs.Prelude.{Ok, Result, ℕ}
+use Rattle.paper.specs.declared.JoinError.{JoinError}
+use Rattle.paper.specs.declared.Report.{Report}
 use Prim.Native.Nat.{ℕ, ◌+◌, ◌≤◌, ◌<◌}
 use mathlib.Core.Path.{◌≡◌, refl, sym, ap, ap₂, ◌∙◌}
 use mathlib.Core.Bool.{true}
@@ -24,10 +27,6 @@ use Rattle.paper.specs.rules.Rename.{raise}
 use Rattle.paper.specs.rules.Span.{base_of}
 use Rattle.paper.specs.rules.Table.{count, record_at, kind_of, vlen_of}
 use Rattle.paper.specs.rules.Walk.{table_of}
-use Rattle.paper.specs.declared.Checked.{Checked}
-use Rattle.paper.specs.declared.Checked.TheVariants.{Accepted}
-use Rattle.paper.specs.declared.Joined.{Joined}
-use Rattle.paper.specs.declared.Joined.TheVariants.{Whole}
 use Rattle.paper.specs.declared.Order.{Order}
 use Rattle.paper.specs.declared.Order.TheVariants.{LowFirst}
 use Rattle.paper.specs.terms.Fit.{Bytes}
@@ -68,8 +67,8 @@ pub member-one : {r r' : MemberValue} {b : List ℕ} {places work t m : ℕ} {s 
 member-one {r} {r'} h k = (given-one r r' (h.answers ∙ sym k.answers), h.indexes ∙ sym k.indexes, h.works ∙ sym k.works)
 
 -- check once, read a million: with an accepted blob and the index that its check left, `span_of` and `value_of` give what `member` gives
-pub once-checked : {c : Checked} {b : List ℕ} {places work : ℕ} {index left : List ℕ} → CheckOf c b places work index left → Bytes b
-    → (n : ℕ) → c ≡ Accepted n → (t m : ℕ) (f : MemberSpan) → found_as_paper f ≡ sought_at b index t m
+pub once-checked : {c : Result ℕ Report} {b : List ℕ} {places work : ℕ} {index left : List ℕ} → CheckOf c b places work index left → Bytes b
+    → (n : ℕ) → c ≡ Ok n → (t m : ℕ) (f : MemberSpan) → found_as_paper f ≡ sought_at b index t m
     → (s : List ℕ) (v : MemberValue) → given_as_paper v ≡ given (read_found (found_as_paper f) s)
     → {r : MemberValue} {index' left' : List ℕ} → MemberOf r b places work t m s index' left' → v ≡ r
 once-checked h bytes n p t m f found s v gives {r} k =
@@ -81,8 +80,8 @@ joined-order : (a b : List ℕ) → order_of (joined_bytes a b) ≡ order_of a
 unfolding joined_bytes
 joined-order a b = order-bytes_of (order_of a) _
 
-module _ {j : Joined} {a b : List ℕ} {places work : ℕ} {out index left output : List ℕ} (h : JoinOf j a b places work out index left output)
-    (n : ℕ) (p : j ≡ Whole n) (x : Bytes a) (y : Bytes b) where
+module _ {j : Result ℕ JoinError} {a b : List ℕ} {places work : ℕ} {out index left output : List ℕ} (h : JoinOf j a b places work out index left output)
+    (n : ℕ) (p : j ≡ Ok n) (x : Bytes a) (y : Bytes b) where
   made : join_refusal a b places work (length out) ≡ none
   made = joinable-join_refusal a b places work (length out) (joined-joinable h n p)
 

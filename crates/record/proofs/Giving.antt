@@ -1,5 +1,6 @@
 -- Laws of `member_gives`, by what the check of the blob says.
 -- Assumes nothing.
+use Rattle.std.specs.Prelude.{Err, Ok, Result, ℕ}
 use Prim.Native.Nat.{ℕ}
 use mathlib.Core.Path.{◌≡◌, refl, sym, ap, ◌∙◌}
 use mathlib.Core.List.{List}
@@ -13,8 +14,6 @@ use Rattle.paper.specs.rules.Answer.{Answer, inside, report_as_paper, checked_as
 use Rattle.paper.specs.rules.Gate.{refusal, Outcome, gate}
 use Rattle.paper.specs.rules.Header.{order_of}
 use Rattle.paper.specs.rules.Walk.{table_of}
-use Rattle.paper.specs.declared.Checked.{Checked}
-use Rattle.paper.specs.declared.Checked.TheVariants.{Accepted, Refused}
 use Rattle.paper.specs.declared.Order.{Order}
 use Rattle.paper.specs.declared.Order.TheVariants.{LowFirst, HighFirst}
 use Rattle.paper.specs.declared.Report.{Report}
@@ -54,8 +53,8 @@ module _ (b : List ℕ) (places work t m : ℕ) (s : List ℕ) where
     unfolding member_gives
     gives_found = by_order (order_of b) refl ∙ sym (ap (λ (o : Option Answer). unless_refused o (order_of b) (read_member (table_of b) t m s)) e)
 
-module _ {c : Checked} {b : List ℕ} {places work : ℕ} {index left : List ℕ} (h : CheckOf c b places work index left) (t m : ℕ) (s : List ℕ) where
-  pub member-refused : (r : Report) → c ≡ Refused r
+module _ {c : Result ℕ Report} {b : List ℕ} {places work : ℕ} {index left : List ℕ} (h : CheckOf c b places work index left) (t m : ℕ) (s : List ℕ) where
+  pub member-refused : (r : Report) → c ≡ Err r
       → MemberOf (record { value = TableRefused r; from = 0; bits = 0; bytes = no_bytes }) b places work t m s index left
   unfolding valued_answer valued_number
   member-refused r p =
@@ -65,7 +64,7 @@ module _ {c : Checked} {b : List ℕ} {places work : ℕ} {index left : List ℕ
         works = h.cleared;
       }
 
-  pub member-accepted : Bytes b → (n : ℕ) → c ≡ Accepted n → (f : MemberSpan) → found_as_paper f ≡ sought_at b index t m
+  pub member-accepted : Bytes b → (n : ℕ) → c ≡ Ok n → (f : MemberSpan) → found_as_paper f ≡ sought_at b index t m
       → (v : MemberValue) → given_as_paper v ≡ given (read_found (found_as_paper f) s) → MemberOf v b places work t m s index left
   member-accepted bytes n p f found v gives =
       record {

@@ -6,7 +6,7 @@ ghost use Rattle.std.specs.Prelude.{length};
 ghost use Rattle.record.specs.Gives.{MemberOf};
 
 use members::span_of;
-use paper::{Checked, TypeNo};
+use paper::TypeNo;
 use values::{MemberValue, Valued, value_of};
 
 // Member `m`, counted from 0, of type `t` in a record's bytes: its span and its value, or a refusal. The slices end as the check leaves them.
@@ -21,12 +21,12 @@ pub fn member(
     ensures { MemberOf result b.now (length index.old) (length work.old) t.0 m s.now index.new work.new }
 {
     match gate::check(b, index, work) {
-        Checked::Refused(r) => MemberValue {
+        Err(r) => MemberValue {
             value: Valued::TableRefused(r),
             from: 0,
             bits: 0,
             bytes: [0u8; 16],
         },
-        Checked::Accepted(_) => value_of(span_of(b, index, t, m), s),
+        Ok(_) => value_of(span_of(b, index, t, m), s),
     }
 }

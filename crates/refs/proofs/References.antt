@@ -12,7 +12,7 @@ use Rattle.refs.specs.Refers.{ref_by, ref_rule_of}
 use Rattle.paper.specs.rules.Choice.{member}
 use Rattle.paper.specs.declared.Order.{Order}
 use Rattle.paper.specs.rules.Kind.{Role, row_of, taggable}
-use Rattle.paper.specs.rules.References.{is_plain, ref_ok, ref_word_ok, may_be_kind}
+use Rattle.paper.specs.rules.References.{is_plain, ref_ok, ref_word_ok}
 use Rattle.paper.specs.rules.Table.{Table, kind_at}
 use Rattle.paper.specs.rules.Walk.{known}
 use Rattle.paper.specs.rules.Word.{word_at}
@@ -43,22 +43,6 @@ module _ (k : ℕ) {r : Bool} (asked : r ≡ known k) where
     pub plain-plain : (k ≡ 14 → ⊥) → (OneOf (12 ∷ 15 ∷ 17 ∷ []) k → ⊥) → true ≡ is_plain k
     plain-plain p s =
         sym (known-here ∙ ap not (sym (member-no-key k 12 (14 ∷ 15 ∷ 17 ∷ []) (λ o. ⊎_elim (λ q. s (inl q)) (λ t. ⊎_elim p (λ u. s (inr u)) t) o))))
-
--- ── what a tag may have ──
-
-pub taggable-struct : (k : ℕ) → k ≡ 4 → true ≡ may_be_kind taggable k
-taggable-struct k e = member-key k 4 (5 ∷ 12 ∷ 14 ∷ 8 ∷ []) (inl e)
-
-pub taggable-other : (k : ℕ) → OneOf (5 ∷ 8 ∷ 12 ∷ 14 ∷ []) k → true ≡ may_be_kind taggable k
-taggable-other k s =
-    member-key k 4 (5 ∷ 12 ∷ 14 ∷ 8 ∷ [])
-    (inr (⊎_elim (λ p. inl p) (λ t. ⊎_elim (λ p. inr (inr (inr p))) (λ u. ⊎_elim (λ p. inr (inl p)) (λ p. inr (inr (inl p))) u) t) s))
-
-pub taggable-none : (k : ℕ) → (k ≡ 4 → ⊥) → (OneOf (5 ∷ 8 ∷ 12 ∷ 14 ∷ []) k → ⊥) → false ≡ may_be_kind taggable k
-taggable-none k p s =
-    member-no-key k 4 (5 ∷ 12 ∷ 14 ∷ 8 ∷ [])
-    (λ o. ⊎_elim p (λ t. ⊎_elim (λ q. s (inl q)) (λ u. ⊎_elim (λ q. s (inr (inr (inl q))))
-    (λ v. ⊎_elim (λ q. s (inr (inr (inr q)))) (λ q. s (inr (inl q))) v) u) t) o)
 
 -- ── rules ──
 

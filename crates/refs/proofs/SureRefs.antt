@@ -1,7 +1,6 @@
 -- Laws of records whose references are good, by their info word: what the row of a known kind asks is computed.
 -- Assumes nothing.
-use Prim.Native.Nat.{ℕ, ◌+◌, ◌-◌, ◌*◌, ◌/◌, ◌<◌}
-use native.Mathlib.Omega.{arith}
+use Prim.Native.Nat.{ℕ, ◌+◌, ◌*◌, ◌/◌, ◌<◌}
 use mathlib.Core.Path.{◌≡◌, refl, sym, ap, ◌∙◌}
 use mathlib.Core.Bool.{Bool, true, false, not, ◌&&◌}
 use mathlib.Core.List.{List, [], ◌∷◌}
@@ -40,14 +39,6 @@ third-refers order T s read kind d = ref_ok-void T read kind d
 -- ── members ──
 
 module _ (order : Order) (T : Table) (s : List ℕ) where
-  pub members-start : {v w : ℕ} → v ≡ w → Entering order (ref_word_ok T) s (row_of STRUCT).each 12 w 12 v
-  members-start e =
-      record {
-        few = omega arith;
-        near = omega arith;
-        rest = ap (λ (n : ℕ). roled order (ref_word_ok T) s 12 (times n (row_of STRUCT).each)) (sym e);
-      }
-
   module _ (p : ℕ) where
     -- of a member's words the second alone refers
     pub member-refers : {t k : ℕ} → t ≡ word_at order s (p + 4) → k ≡ kind_at T t → {r : Bool} → r ≡ ref_by plain t k
@@ -56,11 +47,11 @@ module _ (order : Order) (T : Table) (s : List ℕ) where
     member-refers read kind d = ref_ok-plain T read kind d ∙ sym (and-nothing (ref_ok T plain (word_at order s (p + 4))))
 
     -- and it has three words
-    pub member-next : {n left : ℕ} → Entering order (ref_word_ok T) s (row_of STRUCT).each 12 n p left → 0 < left → {t : Bool}
-        → t ≡ roled order (ref_word_ok T) s p (row_of STRUCT).each → not t ≡ false
-        → Entering order (ref_word_ok T) s (row_of STRUCT).each 12 n (p + 12) (left - 1)
+    pub member-next : {n i q : ℕ} → Entering order (ref_word_ok T) s (row_of STRUCT).each 12 n p i → i < n → {t : Bool}
+        → t ≡ roled order (ref_word_ok T) s p (row_of STRUCT).each → not t ≡ false → q ≡ p + 12
+        → Entering order (ref_word_ok T) s (row_of STRUCT).each 12 n q (i + 1)
     unfolding row_of rows
-    member-next here some entry e = entering-next here some entry e refl (omega arith)
+    member-next here some entry e next = entering-next here some entry e {w = 3} refl next
 
 -- ── the whole of a record ──
 

@@ -33,23 +33,14 @@ fn is_plain(kind: u32) -> bool
     if kind == VAR {
         return false;
     }
-    match kind {
-        FUNC | DATASEC | DECL_TAG => false,
-        _ => true,
-    }
+    !matches!(kind, FUNC | DATASEC | DECL_TAG)
 }
 
 // "DECL_TAG: STRUCT, UNION, FUNC, VAR, TYPEDEF".
 fn is_taggable(kind: u32) -> bool
     ensures { result ≡ may_be_kind taggable kind }
 {
-    if kind == STRUCT {
-        return true;
-    }
-    match kind {
-        UNION | TYPEDEF | FUNC | VAR => true,
-        _ => false,
-    }
+    matches!(kind, STRUCT | UNION | TYPEDEF | FUNC | VAR)
 }
 
 // What a reference's rule asks of a type and its kind.
@@ -147,14 +138,11 @@ fn entries_ok<'a>(
     let r0 = entry_role(kind, 0);
     let r1 = entry_role(kind, 1);
     let r2 = entry_role(kind, 2);
-    let mut p = at.0;
-    let mut left = v;
-    while 0 < left {
+    for i in 0..v {
+        let p = at.0 + step * i;
         if !three_ok(base, b, index, view, bytes, Place(p), r0, r1, r2) {
             return false;
         }
-        p += step;
-        left -= 1;
     }
     true
 }

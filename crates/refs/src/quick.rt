@@ -35,16 +35,12 @@ fn members_plain<'a>(
     ensures { result ≡ roled view.order (ref_word_ok (table_by base.now b.now index.now view)) bytes.now 12 (times (vlen_in info) (row_of STRUCT).each) }
 {
     let order = view.order;
-    let mut p: u32 = 12;
-    let mut left = vlen_of(info);
-    while 0 < left {
-        let second = p + 4;
-        let t = words::read(order, bytes, Place(second));
+    for i in 0..vlen_of(info) {
+        let p = 12 + 12 * i;
+        let t = words::read(order, bytes, Place(p + 4));
         if !by_rule(1, t, kind_at(base, b, index, view, TypeNo(t))) {
             return false;
         }
-        p += 12;
-        left -= 1;
     }
     true
 }

@@ -1,5 +1,7 @@
 -- Laws of `Apart`: what is seen of taking a table apart.
 -- Assumes nothing.
+use Rattle.std.specs.Prelude.{Result, ℕ}
+use Rattle.parts.specs.declared.SplitError.{SplitError}
 use Prim.Native.Nat.{ℕ}
 use mathlib.Core.Path.{◌≡◌, refl, ◌∙◌}
 use mathlib.Core.List.{List, ◌++◌}
@@ -7,7 +9,6 @@ use Rattle.paper.specs.declared.Order.TheVariants.{LowFirst}
 use Rattle.paper.specs.rules.Answer.{Answer}
 use Rattle.paper.specs.rules.Word.{bytes_of_words}
 use Rattle.parts.specs.Cut.{parted_as_paper}
-use Rattle.parts.specs.declared.Parted.{Parted}
 use Rattle.replay.specs.Apart.{apart_seen}
 use Rattle.replay.specs.Case.{seen_sums}
 use Rattle.replay.specs.declared.cases.Seen.{Seen}
@@ -19,7 +20,7 @@ module _ (n s : ℕ) (a : List ℕ) where
   pub apart-seen : (places work_places bytes others : ℕ) {seen : Seen} {r : Answer} {i w o o' : List ℕ} {x y z : ℕ} → seen ≡ seen_sums r x y z
       → x ≡ sum_of (bytes_of_words LowFirst i) → y ≡ sum_of (bytes_of_words LowFirst w) → z ≡ sum_of (o ++ o')
       → {p q : ℕ} {out out' : List ℕ} → p ≡ places → q ≡ work_places → out ≡ lent_bytes bytes → out' ≡ lent_bytes others
-      → (v : Parted) → r ≡ parted_as_paper v → SplitOf v a n s p q out out' i w o o' → seen ≡ apart_seen n s a places work_places bytes others
+      → (v : Result (ℕ × ℕ) SplitError) → r ≡ parted_as_paper v → SplitOf v a n s p q out out' i w o o' → seen ≡ apart_seen n s a places work_places bytes others
   apart-seen places work_places bytes others e ex ey ez ep eq eo eo' v er k =
       rw (e, ex, ey, ez, er, k.answers, k.indexes, k.works, k.firsts, k.seconds, ep, eq, eo, eo') refl
 

@@ -1,13 +1,14 @@
 -- Laws of `Kept`: what is seen of a list that is read and of one that is written.
 -- Assumes nothing.
+use Rattle.std.specs.Prelude.{Result, ℕ}
+use Rattle.lists.specs.declared.WriteError.{WriteError}
+use Rattle.lists.specs.declared.MakeError.{MakeError}
 use Prim.Native.Nat.{ℕ}
 use mathlib.Core.Path.{◌≡◌, refl, ◌∙◌}
 use mathlib.Core.List.{List, ◌++◌}
 use Rattle.list.specs.Listing.{WriteOf}
 use Rattle.list.specs.Reading.{ReadOf}
 use Rattle.lists.specs.Kept.{made_as_paper, wrote_as_paper}
-use Rattle.lists.specs.declared.Made.{Made}
-use Rattle.lists.specs.declared.Wrote.{Wrote}
 use Rattle.paper.specs.declared.Order.TheVariants.{LowFirst}
 use Rattle.paper.specs.rules.Answer.{Answer}
 use Rattle.paper.specs.rules.Word.{bytes_of_words}
@@ -21,7 +22,7 @@ module _ (a : List ℕ) where
   pub read-seen : (places work_places bytes lent : ℕ) {seen : Seen} {r : Answer} {i w o o' : List ℕ} {x y z : ℕ} → seen ≡ seen_sums r x y z
       → x ≡ sum_of (bytes_of_words LowFirst i) → y ≡ sum_of (bytes_of_words LowFirst w) → z ≡ sum_of (o ++ o')
       → {p q l : ℕ} {out : List ℕ} → p ≡ places → q ≡ work_places → l ≡ lent → out ≡ lent_bytes bytes
-      → (v : Made) → r ≡ made_as_paper v → ReadOf v a p q l out i w o' o → seen ≡ read_seen a places work_places bytes lent
+      → (v : Result ℕ MakeError) → r ≡ made_as_paper v → ReadOf v a p q l out i w o' o → seen ≡ read_seen a places work_places bytes lent
   read-seen places work_places bytes lent e ex ey ez ep eq el eo v er k =
       rw (e, ex, ey, ez, er, k.told.answers, k.told.indexes, k.told.works, k.told.outputs, k.blanks, ep, eq, el, eo) refl
 
@@ -29,7 +30,7 @@ module _ (a : List ℕ) where
   pub write-seen : (places work_places bytes : ℕ) {seen : Seen} {r : Answer} {i w o : List ℕ} {x y z : ℕ} → seen ≡ seen_sums r x y z
       → x ≡ sum_of (bytes_of_words LowFirst i) → y ≡ sum_of (bytes_of_words LowFirst w) → z ≡ sum_of o
       → {p q : ℕ} {out : List ℕ} → p ≡ places → q ≡ work_places → out ≡ lent_bytes bytes
-      → (v : Wrote) → r ≡ wrote_as_paper v → WriteOf v a p q out i w o → seen ≡ write_seen a places work_places bytes
+      → (v : Result ℕ WriteError) → r ≡ wrote_as_paper v → WriteOf v a p q out i w o → seen ≡ write_seen a places work_places bytes
   write-seen places work_places bytes e ex ey ez ep eq eo v er k =
       rw (e, ex, ey, ez, er, k.answers, k.indexes, k.works, k.outputs, ep, eq, eo) refl
 

@@ -13,9 +13,8 @@ use Rattle.paper.specs.rules.Word.{words, bytes_of_words}
 use Rattle.replay.proofs.Runs.{ran-as}
 use Rattle.replay.specs.Case.{plainly, seen_sums}
 use Rattle.replay.specs.Over.{lean_seen, size_over_seen, size_cut_seen, CutAt, name_over_seen}
-use Rattle.replay.specs.Run.{ran_of, RanAs}
+use Rattle.replay.specs.Run.{Ran, ran_of, RanAs}
 use Rattle.replay.specs.declared.cases.Seen.{Seen}
-use Rattle.replay.specs.declared.ops.Ran.{Ran}
 use Rattle.sums.specs.Sum.{sum_of, lent_bytes}
 
 -- op 9: the answer and both slices are those of the check

@@ -23,11 +23,11 @@ use Rattle.replay.specs.Apart.{apart_seen}
 use Rattle.replay.specs.Case.{check_seen, size_seen, name_seen, join_seen, member_seen, plainly, seen_sums}
 use Rattle.replay.specs.Kept.{read_seen, write_seen}
 use Rattle.replay.specs.Over.{lean_seen, size_cut_seen, name_over_seen}
-use Rattle.replay.specs.Run.{ran_of, RanAs, RunOf}
+use Rattle.replay.specs.Run.{Ran, ran_of, RanAs, RunOf}
 use Rattle.replay.specs.declared.cases.Head.{Head}
 use Rattle.replay.specs.declared.cases.Seen.{Seen}
-use Rattle.replay.specs.declared.ops.Ran.{Ran}
-use Rattle.replay.specs.declared.ops.Ran.TheVariants.{Saw, Unknown, Large}
+use Rattle.replay.specs.declared.ops.Unrun.TheVariants.{Unknown, Large}
+use Rattle.std.specs.Prelude.{Ok, Err}
 
 -- what is seen with the gate's answer and the sums of the gate's slices is what is seen of a check
 pub check-seen : (a : List ℕ) (places work_places bytes : ℕ) {seen : Seen} {r : Answer} {i w : List ℕ} {x y z : ℕ} → seen ≡ seen_sums r x y z
@@ -85,16 +85,16 @@ module _ (must : Seen) where
   ran-as false e = subst (λ (r : Ran). RanAs r must) (sym e) tt
 
   module _ {m n : ℕ} where
-    pub ran-large : n < m → Large ≡ ran_of (leb m n) must
+    pub ran-large : n < m → Err Large ≡ ran_of (leb m n) must
     unfolding ran_of
     ran-large h = ap (λ (t : Bool). ran_of t must) (sym (lt-leb m n h))
 
-    pub ran-whole : m ≤ n → {seen : Seen} → seen ≡ must → Saw seen ≡ ran_of (leb m n) must
+    pub ran-whole : m ≤ n → {seen : Seen} → seen ≡ must → Ok seen ≡ ran_of (leb m n) must
     unfolding ran_of
-    ran-whole h e = ap {B = Ran} Saw e ∙ ap (λ (t : Bool). ran_of t must) (sym (le-leb m n h))
+    ran-whole h e = ap {B = Ran} Ok e ∙ ap (λ (t : Bool). ran_of t must) (sym (le-leb m n h))
 
     -- one more thing that is lent
-    pub ran-large-and : (later : Bool) → n < m → Large ≡ ran_of (leb m n && later) must
+    pub ran-large-and : (later : Bool) → n < m → Err Large ≡ ran_of (leb m n && later) must
     unfolding ran_of
     ran-large-and later h = ap (λ (t : Bool). ran_of (t && later) must) (sym (lt-leb m n h))
 
@@ -104,7 +104,7 @@ module _ (must : Seen) where
 
 module _ (h : Head) (a b : List ℕ) where
   pub run-unknown : (h.op ≡ 1 → ⊥) → (h.op ≡ 2 → ⊥) → (h.op ≡ 3 → ⊥) → (h.op ≡ 4 → ⊥) → (h.op ≡ 5 → ⊥)
-      → (h.op ≡ 6 → ⊥) → (h.op ≡ 7 → ⊥) → (h.op ≡ 8 → ⊥) → (h.op ≡ 9 → ⊥) → (h.op ≡ 10 → ⊥) → (h.op ≡ 11 → ⊥) → RunOf Unknown h a b
+      → (h.op ≡ 6 → ⊥) → (h.op ≡ 7 → ⊥) → (h.op ≡ 8 → ⊥) → (h.op ≡ 9 → ⊥) → (h.op ≡ 10 → ⊥) → (h.op ≡ 11 → ⊥) → RunOf (Err Unknown) h a b
   unfolding RunOf
   run-unknown one two three four five six seven eight nine ten eleven =
       rw (ne_eqb _ _ one, ne_eqb _ _ two, ne_eqb _ _ three, ne_eqb _ _ four, ne_eqb _ _ five)

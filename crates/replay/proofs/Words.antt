@@ -25,37 +25,35 @@ words-at (a ∷ b ∷ c ∷ d ∷ s) (suc i) (suc (suc zero)) e h = absurd (omeg
 words-at (a ∷ b ∷ c ∷ d ∷ s) (suc i) (suc (suc (suc zero))) e h = absurd (omega arith)
 words-at (a ∷ b ∷ c ∷ d ∷ s) (suc i) (suc (suc (suc (suc p)))) e h = words-at s i p (omega arith) (omega arith)
 
--- so far into a slice of n places, it has the words of the bytes; p is the byte after them
-pub record Filling (b s : List ℕ) (n i p : ℕ) : Type 0 where
+-- so far into a slice of n places, it has the words of the bytes
+pub record Filling (b s : List ℕ) (n i : ℕ) : Type 0 where
   pub room : n ≡ length b / 4
   pub long : length s ≡ n
   pub inside : i ≤ n
-  pub after : p ≡ 4 * i
   pub filled : take i s ≡ take i (words LowFirst b)
 
-pub filling-start : {b s : List ℕ} → length s ≡ length b / 4 → Filling b s (length s) 0 0
-filling-start e = record { room = e; long = refl; inside = omega arith; after = refl; filled = refl }
+pub filling-start : {b s : List ℕ} → length s ≡ length b / 4 → Filling b s (length s) 0
+filling-start e = record { room = e; long = refl; inside = omega arith; filled = refl }
 
 -- the next word is wholly inside
-pub filling-inside : {b s : List ℕ} {n i p : ℕ} → Filling b s n i p → i < length s → p + 4 ≤ length b
-filling-inside {b} g h = let room = g.room in let long = g.long in let after = g.after in omega arith
+pub filling-inside : {b s : List ℕ} {n i : ℕ} → Filling b s n i → i < length s → 4 * i + 4 ≤ length b
+filling-inside {b} g h = let room = g.room in let long = g.long in omega arith
 
--- the word that the bytes from p on begin with is stored
-pub filling-next : {b s : List ℕ} {n i p v : ℕ} → Filling b s n i p → i < length s → v ≡ word_at LowFirst (take (length b - p) (drop p b)) 0
-    → Filling b (set s i v) n (i + 1) (p + 4)
+-- the word that the bytes behind those of the words before it begin with is stored
+pub filling-next : {b s : List ℕ} {n i v : ℕ} → Filling b s n i → i < length s → v ≡ word_at LowFirst (take (length b - 4 * i) (drop (4 * i) b)) 0
+    → Filling b (set s i v) n (i + 1)
 unfolding word_at
-filling-next {b} {s} {n} {i} {p} {v} g h e =
+filling-next {b} {s} {n} {i} {v} g h e =
     let there : i < length (words LowFirst b) = omega (arith, length-words LowFirst b, g.room, g.long) in
-    let word : v ≡ get_or (words LowFirst b) i 0 = e ∙ ap (first_word LowFirst) (part-rest b p) ∙ sym (words-at b i p g.after there) in
+    let word : v ≡ get_or (words LowFirst b) i 0 = e ∙ ap (first_word LowFirst) (part-rest b (4 * i)) ∙ sym (words-at b i (4 * i) refl there) in
     record {
       room = g.room;
       long = length-set s i v ∙ g.long;
       inside = omega (arith, g.long);
-      after = omega (arith, g.after);
       filled = rw add-one (take-suc-set s i v h ∙ rw (word, g.filled) (sym (take-suc (words LowFirst b) i 0 there)));
     }
 
 -- at the end the slice is the words
-pub filling-end : {b s : List ℕ} {n i p : ℕ} → Filling b s n i p → length s ≤ i → s ≡ words LowFirst b
+pub filling-end : {b s : List ℕ} {n i : ℕ} → Filling b s n i → length s ≤ i → s ≡ words LowFirst b
 filling-end {b} {s} {n} {i} g h =
     sym (take_all i s h) ∙ g.filled ∙ take_all i (words LowFirst b) (omega (arith, length-words LowFirst b, g.room, g.long))

@@ -1,5 +1,5 @@
 -- What the bytes of a case say, when two answers agree, and what is seen of a call.
-use Rattle.std.specs.Prelude.{ℕ, Bool, cond, ◌&&◌, List, eqb, length}
+use Rattle.std.specs.Prelude.{ℕ, Bool, cond, ◌&&◌, List, eqb, length, Result, Ok, Err}
 use Rattle.paper.specs.rules.Answer as paper
 use Rattle.paper.specs.rules.Gate.{gate}
 use Rattle.paper.specs.rules.Join.{join}
@@ -12,8 +12,8 @@ use Rattle.record.specs.Gives.{member_gives}
 use Rattle.sums.specs.Sum.{sum_of, lent_places, lent_bytes}
 use Rattle.replay.specs.declared.cases.Head.{Head}
 use Rattle.replay.specs.declared.cases.Seen.{Seen}
-use Rattle.replay.specs.declared.cases.Opening.{Opening}
-use Rattle.replay.specs.declared.cases.Opening.TheVariants.{Cases, Foreign}
+use Rattle.replay.specs.declared.cases.Unopened.{Unopened}
+use Rattle.replay.specs.declared.cases.Unopened.TheVariants.{Foreign}
 
 -- "op, index places, work places, output bytes, x, y, length of a, length of b"
 abbrev pub head_of : List ℕ → Head
@@ -43,8 +43,8 @@ seen_of s =
     }
 
 -- "53 43 52 56, version 1, the number of cases"
-abbrev pub opening_of : List ℕ → Opening
-opening_of s = cond (eqb (word_at LowFirst s 0) 1448231763 && eqb (word_at LowFirst s 4) 1) (Cases (word_at LowFirst s 8)) Foreign
+abbrev pub opening_of : List ℕ → Result ℕ Unopened
+opening_of s = cond (eqb (word_at LowFirst s 0) 1448231763 && eqb (word_at LowFirst s 4) 1) (Ok (word_at LowFirst s 8)) (Err Foreign)
 
 -- all seven numbers are equal
 abbrev pub same_seen : Seen → Seen → Bool

@@ -30,7 +30,7 @@ pub(crate) struct Head {
 }
 
 // An answer's four numbers, and the sums of what was lent.
-#[derive(Clone, Copy)]
+#[derive(Clone, Copy, PartialEq, Eq)]
 pub(crate) struct Seen {
     pub number: u32,
     pub inner: u32,
@@ -41,22 +41,9 @@ pub(crate) struct Seen {
     pub output: u32,
 }
 
+// Why a file does not begin with the number of its cases: its bytes are no vector file's, or too few.
 #[derive(Clone, Copy)]
-pub(crate) enum HeadRead {
-    Got(Head),
-    Cut,
-}
-
-#[derive(Clone, Copy)]
-pub(crate) enum SeenRead {
-    Got(Seen),
-    Cut,
-}
-
-// What a file begins with: the number of its cases, or bytes that no vector file begins with.
-#[derive(Clone, Copy)]
-pub(crate) enum Opening {
-    Cases(u32),
+pub(crate) enum Unopened {
     Foreign,
     Cut,
 }
@@ -101,39 +88,40 @@ pub(crate) fn read_whole(s: &mut [u8]) -> bool {
     io::read_full(STDIN_FILENO, s) == s.len()
 }
 
-pub(crate) fn read_head() -> HeadRead {
+// Nothing where the input ends before or inside it.
+pub(crate) fn read_head() -> Option<Head> {
     let mut s = [0u8; 32];
     if !read_whole(&mut s) {
-        return HeadRead::Cut;
+        return None;
     }
-    HeadRead::Got(head_of(&s))
+    Some(head_of(&s))
 }
 
-pub(crate) fn read_seen() -> SeenRead {
+pub(crate) fn read_seen() -> Option<Seen> {
     let mut s = [0u8; 28];
     if !read_whole(&mut s) {
-        return SeenRead::Cut;
+        return None;
     }
-    SeenRead::Got(seen_of(&s))
+    Some(seen_of(&s))
 }
 
 // The opening is "SCRV" and version 1, low byte first.
-fn opening_of(s: &[u8]) -> Opening
+fn opening_of(s: &[u8]) -> Result<u32, Unopened>
     ensures { result ≡ opening_of s.now }
 {
     if word(s, 0) != 1448231763 {
-        return Opening::Foreign;
+        return Err(Unopened::Foreign);
     }
     if word(s, 4) != 1 {
-        return Opening::Foreign;
+        return Err(Unopened::Foreign);
     }
-    Opening::Cases(word(s, 8))
+    Ok(word(s, 8))
 }
 
-pub(crate) fn read_opening() -> Opening {
+pub(crate) fn read_opening() -> Result<u32, Unopened> {
     let mut s = [0u8; 12];
     if !read_whole(&mut s) {
-        return Opening::Cut;
+        return Err(Unopened::Cut);
     }
     opening_of(&s)
 }
@@ -148,26 +136,5 @@ pub(crate) fn is_end() -> bool {
 pub(crate) fn same(a: Seen, b: Seen) -> bool
     ensures { result ≡ same_seen a b }
 {
-    if a.number != b.number {
-        return false;
-    }
-    if a.inner != b.inner {
-        return false;
-    }
-    if a.t != b.t {
-        return false;
-    }
-    if a.p != b.p {
-        return false;
-    }
-    if a.index != b.index {
-        return false;
-    }
-    if a.work != b.work {
-        return false;
-    }
-    if a.output != b.output {
-        return false;
-    }
-    true
+    a == b
 }

@@ -10,11 +10,7 @@ pub(crate) fn places(b: &[u8], s: &mut [u32])
     requires { length s.old ≡ length b.now / 4 }
     ensures { s.new ≡ words LowFirst b.now }
 {
-    let mut i = 0;
-    let mut at = 0;
-    while i < s.len() {
-        s[i] = words::read(Order::LowFirst, &b[at..], Place(0));
-        i += 1;
-        at += 4;
+    for i in 0..s.len() {
+        s[i] = words::read(Order::LowFirst, &b[4 * i..], Place(0));
     }
 }

@@ -5,7 +5,7 @@ ghost use Rattle.replay.specs.Kept.{read_seen, write_seen};
 ghost use Rattle.replay.specs.Run.{RanAs, ran_of};
 
 use crate::cases::{BYTES, Head, PLACES, Seen};
-use crate::ops::{Ran, seen};
+use crate::ops::{Ran, Unrun, seen};
 use answers::{of_made, of_wrote};
 use sums::{fill_bytes, fill_places, of_both, of_bytes, of_places};
 
@@ -43,21 +43,21 @@ fn read_in(
     let room = h.output as usize;
     let lent = b.len();
     if index.len() < places {
-        return Ran::Large;
+        return Err(Unrun::Large);
     }
     if work.len() < works {
-        return Ran::Large;
+        return Err(Unrun::Large);
     }
     if output.len() < room {
-        return Ran::Large;
+        return Err(Unrun::Large);
     }
     if bytes.len() < lent {
-        return Ran::Large;
+        return Err(Unrun::Large);
     }
     let index = &mut index[..places];
     let work = &mut work[..works];
     let bytes = &mut bytes[..lent];
-    Ran::Saw(read_lent(a, index, work, bytes, &mut output[..room]))
+    Ok(read_lent(a, index, work, bytes, &mut output[..room]))
 }
 
 pub(crate) fn read_list(h: Head, a: &[u8], b: &[u8]) -> Ran
@@ -87,17 +87,17 @@ fn write_in(h: Head, a: &[u8], index: &mut [u32], work: &mut [u32], output: &mut
     let works = h.work as usize;
     let room = h.output as usize;
     if index.len() < places {
-        return Ran::Large;
+        return Err(Unrun::Large);
     }
     if work.len() < works {
-        return Ran::Large;
+        return Err(Unrun::Large);
     }
     if output.len() < room {
-        return Ran::Large;
+        return Err(Unrun::Large);
     }
     let index = &mut index[..places];
     let work = &mut work[..works];
-    Ran::Saw(write_lent(a, index, work, &mut output[..room]))
+    Ok(write_lent(a, index, work, &mut output[..room]))
 }
 
 pub(crate) fn write_list(h: Head, a: &[u8]) -> Ran

@@ -6,7 +6,7 @@ ghost use Rattle.sums.specs.Sum.{lent_bytes};
 
 use crate::cases::{GIVEN, Head, PLACES, Seen};
 use crate::given::places;
-use crate::ops::{Ran, plain, seen};
+use crate::ops::{Ran, Unrun, plain, seen};
 use answers::{of_leaned, of_sized};
 use paper::{NameOff, TypeNo};
 use sums::{bytes_lent, fill_places, of_bytes, of_places};
@@ -27,13 +27,13 @@ fn check_in<'a>(h: Head, a: &'a [u8], b: &'a [u8], index: &mut [u32], work: &mut
     let places = h.index as usize;
     let works = h.work as usize;
     if index.len() < places {
-        return Ran::Large;
+        return Err(Unrun::Large);
     }
     if work.len() < works {
-        return Ran::Large;
+        return Err(Unrun::Large);
     }
     let index = &mut index[..places];
-    Ran::Saw(check_lent(a, b, index, &mut work[..works], h.output))
+    Ok(check_lent(a, b, index, &mut work[..works], h.output))
 }
 
 pub(crate) fn check_over<'a>(h: Head, a: &'a [u8], b: &'a [u8]) -> Ran
@@ -69,9 +69,9 @@ fn size_in<'a>(h: Head, a: &'a [u8], own: &'a [u8], index: &[u8], given: &mut [u
 {
     let n = index.len() / 4;
     if given.len() < n {
-        return Ran::Large;
+        return Err(Unrun::Large);
     }
-    Ran::Saw(size_lent(h, a, own, index, &mut given[..n]))
+    Ok(size_lent(h, a, own, index, &mut given[..n]))
 }
 
 pub(crate) fn size_over<'a>(h: Head, a: &'a [u8], b: &'a [u8]) -> Ran
@@ -88,5 +88,5 @@ pub(crate) fn name_over<'a>(h: Head, a: &'a [u8], b: &'a [u8]) -> Ran
 {
     let part = lean::name_leaning(a, b, NameOff(h.x));
     let p = part.len() as u32;
-    Ran::Saw(seen(plain(0, p), 1, 1, of_bytes(part)))
+    Ok(seen(plain(0, p), 1, 1, of_bytes(part)))
 }

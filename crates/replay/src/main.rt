@@ -16,65 +16,59 @@ ghost use Rattle.std.specs.Prelude.{◌≡◌, ◌≤◌};
 ghost use Rattle.replay.specs.Count.{ran};
 ghost use Rattle.replay.specs.Run.{turn_of};
 
-use cases::{BYTES, Head, HeadRead, Opening, Seen, SeenRead};
-use ops::Ran;
-use tally::{Outcome, Tally, Turn};
+use cases::{BYTES, Head, Seen, Unopened};
+use ops::{Ran, Unrun};
+use tally::{Outcome, Stop, Tally};
 
 // What was seen is compared with what must be, and a case that asked for too much is told. A line is written where there is still room for one.
-fn judge(k: u32, is_room: bool, op: u32, must: Seen, ran: Ran) -> Turn
+fn judge(k: u32, is_room: bool, op: u32, must: Seen, ran: Ran) -> Result<Outcome, Stop>
     ensures { result ≡ turn_of must ran }
 {
     match ran {
-        Ran::Large => Turn::Large,
-        Ran::Unknown => {
+        Err(Unrun::Large) => Err(Stop::Large),
+        Err(Unrun::Unknown) => {
             if is_room {
                 says::unknown(k, op);
             }
-            Turn::Ran(Outcome::Differed)
+            Ok(Outcome::Differed)
         }
-        Ran::Saw(seen) => {
+        Ok(seen) => {
             if cases::same(must, seen) {
-                return Turn::Ran(Outcome::Agreed);
+                return Ok(Outcome::Agreed);
             }
             if is_room {
                 says::differs(k, op, must, seen);
             }
-            Turn::Ran(Outcome::Differed)
+            Ok(Outcome::Differed)
         }
     }
 }
 
 // The case that the head begins: its bytes are read, it is run, and what must be seen is read.
-fn run(k: u32, is_room: bool, h: Head, a: &mut [u8], b: &mut [u8]) -> Turn {
+fn run(k: u32, is_room: bool, h: Head, a: &mut [u8], b: &mut [u8]) -> Result<Outcome, Stop> {
     let a_len = h.a as usize;
     let b_len = h.b as usize;
     if a.len() < a_len {
-        return Turn::Large;
+        return Err(Stop::Large);
     }
     if b.len() < b_len {
-        return Turn::Large;
+        return Err(Stop::Large);
     }
     if !cases::read_whole(&mut a[..a_len]) {
-        return Turn::Cut;
+        return Err(Stop::Cut);
     }
     if !cases::read_whole(&mut b[..b_len]) {
-        return Turn::Cut;
+        return Err(Stop::Cut);
     }
     let ran = ops::run(h, &a[..a_len], &b[..b_len]);
-    let read = cases::read_seen();
-    match read {
-        SeenRead::Cut => Turn::Cut,
-        SeenRead::Got(must) => judge(k, is_room, h.op, must, ran),
-    }
+    let must = cases::read_seen().ok_or(Stop::Cut)?;
+    judge(k, is_room, h.op, must, ran)
 }
 
 // One case, from its first byte to its last.
-fn turn(k: u32, is_room: bool, a: &mut [u8], b: &mut [u8]) -> Turn {
-    let read = cases::read_head();
-    match read {
-        HeadRead::Cut => Turn::Cut,
-        HeadRead::Got(h) => run(k, is_room, h, a, b),
-    }
+fn turn(k: u32, is_room: bool, a: &mut [u8], b: &mut [u8]) -> Result<Outcome, Stop> {
+    let h = cases::read_head().ok_or(Stop::Cut)?;
+    run(k, is_room, h, a, b)
 }
 
 // So many cases, one after the other, up to the first that cannot be read.
@@ -82,22 +76,17 @@ fn replay(total: u32, a: &mut [u8], b: &mut [u8]) -> Tally
     ensures { ran result ≤ total }
 {
     let mut tally = Tally::new();
-    let mut last = total;
-    let mut k: u32 = 0;
-    while k < last {
-        k += 1;
-        let turn = turn(k, tally.differed < 20, a, b);
-        match turn {
-            Turn::Ran(o) => tally = tally.counted(o),
-            Turn::Cut => {
+    for done in 0..total {
+        let k = done + 1;
+        match turn(k, tally.differed < 20, a, b) {
+            Ok(o) => tally = tally.counted(o),
+            Err(Stop::Cut) => {
                 says::cut(k);
-                tally = tally.stopped();
-                last = k;
+                return tally.stopped();
             }
-            Turn::Large => {
+            Err(Stop::Large) => {
                 says::large(k);
-                tally = tally.stopped();
-                last = k;
+                return tally.stopped();
             }
         }
     }
@@ -122,14 +111,13 @@ fn close(t: Tally) {
 }
 
 fn main() {
-    let opening = cases::read_opening();
-    match opening {
-        Opening::Cases(n) => close(replay_all(n)),
-        Opening::Foreign => {
+    match cases::read_opening() {
+        Ok(n) => close(replay_all(n)),
+        Err(Unopened::Foreign) => {
             says::foreign();
             close(Tally::new().stopped());
         }
-        Opening::Cut => {
+        Err(Unopened::Cut) => {
             says::cut_opening();
             close(Tally::new().stopped());
         }

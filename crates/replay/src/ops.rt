@@ -18,13 +18,15 @@ use handed::{numbers_of, sixteen_of};
 use paper::{NameOff, TypeNo};
 use sums::{bytes_lent, fill_bytes, fill_places, of_bytes, of_places, places_lent};
 
-// What running a case gives: what was seen; that there is no such op; or that the case asks for more than the op's arrays hold.
+// Why a case is not run: there is no such op, or it asks for more than the op's arrays hold.
 #[derive(Clone, Copy)]
-pub(crate) enum Ran {
-    Saw(Seen),
+pub(crate) enum Unrun {
     Unknown,
     Large,
 }
+
+// What running a case gives: what was seen.
+pub(crate) type Ran = Result<Seen, Unrun>;
 
 // An answer with the sums of what was lent.
 pub(crate) fn seen(r: Numbers, index: u32, work: u32, output: u32) -> Seen
@@ -69,13 +71,13 @@ fn check_in(h: Head, a: &[u8], index: &mut [u32], work: &mut [u32]) -> Ran
     let places = h.index as usize;
     let works = h.work as usize;
     if index.len() < places {
-        return Ran::Large;
+        return Err(Unrun::Large);
     }
     if work.len() < works {
-        return Ran::Large;
+        return Err(Unrun::Large);
     }
     let index = &mut index[..places];
-    Ran::Saw(check_lent(a, index, &mut work[..works], h.output))
+    Ok(check_lent(a, index, &mut work[..works], h.output))
 }
 
 fn check(h: Head, a: &[u8]) -> Ran
@@ -106,9 +108,9 @@ fn size_in(h: Head, a: &[u8], b: &[u8], given: &mut [u32]) -> Ran
 {
     let n = b.len() / 4;
     if given.len() < n {
-        return Ran::Large;
+        return Err(Unrun::Large);
     }
-    Ran::Saw(size_lent(h, a, b, &mut given[..n]))
+    Ok(size_lent(h, a, b, &mut given[..n]))
 }
 
 fn size(h: Head, a: &[u8], b: &[u8]) -> Ran
@@ -139,9 +141,9 @@ fn name(h: Head, a: &[u8]) -> Ran
     ensures { result ≡ ran_of (leb (length a.now) 4294967295) (name_seen h.x a.now h.index h.work) }
 {
     if 4294967295 < a.len() {
-        return Ran::Large;
+        return Err(Unrun::Large);
     }
-    Ran::Saw(name_lent(h, a))
+    Ok(name_lent(h, a))
 }
 
 // Op 4: a and b joined into the output, with all three slices as the join leaves them.
@@ -169,17 +171,17 @@ fn join_in(
     let works = h.work as usize;
     let bytes = h.output as usize;
     if index.len() < places {
-        return Ran::Large;
+        return Err(Unrun::Large);
     }
     if work.len() < works {
-        return Ran::Large;
+        return Err(Unrun::Large);
     }
     if output.len() < bytes {
-        return Ran::Large;
+        return Err(Unrun::Large);
     }
     let index = &mut index[..places];
     let work = &mut work[..works];
-    Ran::Saw(join_lent(a, b, index, work, &mut output[..bytes]))
+    Ok(join_lent(a, b, index, work, &mut output[..bytes]))
 }
 
 fn join(h: Head, a: &[u8], b: &[u8]) -> Ran
@@ -209,13 +211,13 @@ fn member_in(h: Head, a: &[u8], b: &[u8], index: &mut [u32], work: &mut [u32]) -
     let places = h.index as usize;
     let works = h.work as usize;
     if index.len() < places {
-        return Ran::Large;
+        return Err(Unrun::Large);
     }
     if work.len() < works {
-        return Ran::Large;
+        return Err(Unrun::Large);
     }
     let index = &mut index[..places];
-    Ran::Saw(member_lent(h, a, b, index, &mut work[..works]))
+    Ok(member_lent(h, a, b, index, &mut work[..works]))
 }
 
 fn member(h: Head, a: &[u8], b: &[u8]) -> Ran
@@ -243,6 +245,6 @@ pub(crate) fn run<'a>(h: Head, a: &'a [u8], b: &'a [u8]) -> Ran
         9 => check_over(h, a, b),
         10 => size_over(h, a, b),
         11 => name_over(h, a, b),
-        _ => Ran::Unknown,
+        _ => Err(Unrun::Unknown),
     }
 }

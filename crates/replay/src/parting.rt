@@ -4,7 +4,7 @@ ghost use Rattle.replay.specs.Apart.{apart_seen};
 ghost use Rattle.replay.specs.Run.{RanAs, ran_of};
 
 use crate::cases::{BYTES, Head, PLACES, Seen};
-use crate::ops::{Ran, seen};
+use crate::ops::{Ran, Unrun, seen};
 use answers::of_parted;
 use paper::{NameOff, TypeNo};
 use sums::{fill_bytes, fill_places, of_both, of_places};
@@ -45,21 +45,21 @@ fn apart_in(
     let bytes = h.output as usize;
     let others = b.len();
     if index.len() < places {
-        return Ran::Large;
+        return Err(Unrun::Large);
     }
     if work.len() < works {
-        return Ran::Large;
+        return Err(Unrun::Large);
     }
     if first.len() < bytes {
-        return Ran::Large;
+        return Err(Unrun::Large);
     }
     if second.len() < others {
-        return Ran::Large;
+        return Err(Unrun::Large);
     }
     let index = &mut index[..places];
     let work = &mut work[..works];
     let first = &mut first[..bytes];
-    Ran::Saw(apart_lent(h, a, index, work, first, &mut second[..others]))
+    Ok(apart_lent(h, a, index, work, first, &mut second[..others]))
 }
 
 pub(crate) fn apart(h: Head, a: &[u8], b: &[u8]) -> Ran

@@ -9,10 +9,9 @@ pub(crate) enum Outcome {
     Differed,
 }
 
-// A case ran, or the input ends inside it, or it asks for more than the buffers hold.
+// Why no case is read behind this one: the input ends inside it, or it asks for more than the buffers hold.
 #[derive(Clone, Copy)]
-pub(crate) enum Turn {
-    Ran(Outcome),
+pub(crate) enum Stop {
     Cut,
     Large,
 }

@@ -41,14 +41,11 @@ fn entries_end(info: u32, entries: u32) -> u32
     12 + 4 * words
 }
 
-// An entry of the record at a place, counted from 1. Of the layout a member's type and offset break the rule, and the name of a
+// An entry of the record at a place, counted from 0. Of the layout a member's type and offset break the rule, and the name of a
 // parameter; of all else the whole entry.
 fn entry_fault(number: u32, n: u32, place: u32, info: u32, entry: u32) -> Look {
-    if entry == 0 {
-        return nowhere(number, n);
-    }
     let kind = kind_of(info);
-    let from = entries_end(info, entry - 1);
+    let from = entries_end(info, entry);
     let second = from + 4;
     if number != 15 {
         return within(number, n, place, from, entry_words(kind));
@@ -102,13 +99,10 @@ fn told_by(order: Order, r: &[u8], entry: u32, number: u32) -> u32 {
     if number != 12 {
         return entry;
     }
-    if entry < 2 {
+    if entry == 0 || 65535 < entry {
         return entry;
     }
-    if 65536 < entry {
-        return entry;
-    }
-    let type_before = 8 * entry;
+    let type_before = 8 * entry + 8;
     if words::read(order, r, Place(type_before)) == 0 {
         return entry - 1;
     }
@@ -128,9 +122,11 @@ fn prototype_fault(blob: &[u8], index: &[u32], n: u32, t: u32, proto: u32) -> Lo
         TypeNo(proto),
     )
     .0;
-    let entry = first_entry(blob, index, n, t, place, 15);
     let info = words::blob_word(blob, Place(std::num::wrapping_add_u32(place, 4)));
-    entry_fault(15, n, place, info, entry)
+    match first_entry(blob, index, n, t, place, 15) {
+        Some(entry) => entry_fault(15, n, place, info, entry),
+        None => nowhere(15, n),
+    }
 }
 
 // The bytes that break the rule of a report from 11 to 15, of a type whose record `r` stands at a place.
@@ -151,10 +147,8 @@ pub(crate) fn fault_of(
     if number == 15 && kind_of(info) == FUNC {
         return prototype_fault(blob, index, n, t, third_of(order, r));
     }
-    let entry = first_entry(blob, index, n, t, place, number);
-    if entry == 0 {
-        let from = word_of(blob, index, n, r, number);
-        return within(number, n, place, from, 1);
+    match first_entry(blob, index, n, t, place, number) {
+        Some(entry) => entry_fault(number, n, place, info, told_by(order, r, entry, number)),
+        None => within(number, n, place, word_of(blob, index, n, r, number), 1),
     }
-    entry_fault(number, n, place, info, told_by(order, r, entry, number))
 }

@@ -1,7 +1,7 @@
 // Which entry of a record is the first that breaks the rule of a report: the record is cut to its first entries, and what judges it
 // is asked again. A rule that some entries break is broken by more of them too, so halving finds the entry.
 use layout::layout_ok;
-use links::{Linked, links};
+use links::{Unlinked, links};
 use paper::{BYTE_LIMIT, FULL_PLACES, Order, Place, TypeNo};
 use rows::{entry_words, kind_of, vlen_of};
 use texts::first_of;
@@ -14,9 +14,9 @@ pub(crate) fn cut_info(info: u32, entries: u32) -> u32 {
 }
 
 // What is walked from a type has no end.
-fn is_endless(said: Linked, t: u32) -> bool {
+fn is_endless(said: Result<(), Unlinked>, t: u32) -> bool {
     match said {
-        Linked::Endless(first) => first.0 == t,
+        Err(Unlinked::Endless(first)) => first.0 == t,
         _ => false,
     }
 }
@@ -31,9 +31,9 @@ fn is_misplaced<'a>(
     t: TypeNo,
 ) -> bool {
     match links(none, b, index, view, work) {
-        Linked::Good => !layout_ok(none, b, index, view, work, t),
-        Linked::Reference(_) => false,
-        Linked::Endless(_) => false,
+        Ok(()) => !layout_ok(none, b, index, view, work, t),
+        Err(Unlinked::Reference(_)) => false,
+        Err(Unlinked::Endless(_)) => false,
     }
 }
 
@@ -95,6 +95,7 @@ fn halved(
 ) -> u32 {
     let mut low: u32 = 0;
     let mut high = vlen_of(info);
+    // A while: each turn halves what is left, so there is no count to go over.
     while low < high {
         let k = low + (high - low) / 2;
         if is_cut_broken(
@@ -117,7 +118,7 @@ fn halved(
     high
 }
 
-// The same of a table and the record at a place: the table is copied.
+// The same of a table and the record at a place, counted from 0: the table is copied. None where the rule is broken without any entry.
 pub(crate) fn first_entry(
     blob: &[u8],
     index: &[u32],
@@ -125,12 +126,12 @@ pub(crate) fn first_entry(
     t: u32,
     place: u32,
     number: u32,
-) -> u32 {
+) -> Option<u32> {
     let at = Place(std::num::wrapping_add_u32(place, 4));
     let order = words::order_of(blob);
     let info = words::read(order, blob, at);
     if entry_words(kind_of(info)) == 0 {
-        return 0;
+        return None;
     }
     let mut cut = [0u8; BYTE_LIMIT];
     let mut work = [0u32; FULL_PLACES];
@@ -139,4 +140,5 @@ pub(crate) fn first_entry(
     halved(
         &mut cut, len, index, &mut work, n, t, number, order, at, info,
     )
+    .checked_sub(1)
 }

@@ -139,38 +139,47 @@ module _ (order : Order) (f : Role → ℕ → Bool) (s : List ℕ) where
 
 -- ── what is left of the entries ──
 
--- so many entries of n are left, from a place on: they pass where all do, since the ones passed do
-pub record Entering (order : Order) (f : Role → ℕ → Bool) (s : List ℕ) (ρs : List Role) (from n p left : ℕ) : Type 0 where
-  pub few : left ≤ n
-  pub near : p ≤ 24 + 12 * (n - left)
+-- so many entries of n are passed, and the next begins at a place: those left pass where all do, since the ones passed do
+pub record Entering (order : Order) (f : Role → ℕ → Bool) (s : List ℕ) (ρs : List Role) (from n p i : ℕ) : Type 0 where
+  pub left : ℕ
+  pub whole : i + left ≡ n
   pub rest : roled order f s from (times n ρs) ≡ roled order f s p (times left ρs)
 
-module _ {order : Order} {f : Role → ℕ → Bool} {s : List ℕ} {ρs : List Role} {from n p left : ℕ} (here : Entering order f s ρs from n p left) where
-  pub entering-done : left ≤ 0 → true ≡ roled order f s from (times n ρs)
+pub entering-start : {order : Order} {f : Role → ℕ → Bool} {s : List ℕ} {ρs : List Role} {from n p : ℕ} → p ≡ from → Entering order f s ρs from n p 0
+entering-start {order} {f} {s} {ρs} {from} {n} e =
+    record { left = n; whole = omega arith; rest = ap (λ (q : ℕ). roled order f s q (times n ρs)) (sym e) }
+
+module _ {order : Order} {f : Role → ℕ → Bool} {s : List ℕ} {ρs : List Role} {from n p i : ℕ} (here : Entering order f s ρs from n p i) where
+  pub entering-done : n ≤ i → true ≡ roled order f s from (times n ρs)
   unfolding roled
   entering-done h =
-      let none : left ≡ 0 = omega arith in
+      let none : here.left ≡ 0 = omega (arith, here.whole) in
       sym (here.rest ∙ ap (λ (m : ℕ). roled order f s p (times m ρs)) none)
 
-  module _ (some : 0 < left) {t : Bool} (entry : t ≡ roled order f s p ρs) where
-    after : roled order f s from (times n ρs) ≡ t && roled order f s (p + 4 * length ρs) (times (left - 1) ρs)
+  module _ (some : i < n) {t : Bool} (entry : t ≡ roled order f s p ρs) where
+    after : roled order f s from (times n ρs) ≡ t && roled order f s (p + 4 * length ρs) (times (here.left - 1) ρs)
     after =
-        let one : left ≡ suc (left - 1) = omega arith in
+        let one : here.left ≡ suc (here.left - 1) = omega (arith, here.whole) in
         here.rest
         ∙ ap (λ (m : ℕ). roled order f s p (times m ρs)) one
-        ∙ roled-append order f s p ρs (times (left - 1) ρs)
-        ∙ ap (λ (b : Bool). b && roled order f s (p + 4 * length ρs) (times (left - 1) ρs)) (sym entry)
+        ∙ roled-append order f s p ρs (times (here.left - 1) ρs)
+        ∙ ap (λ (b : Bool). b && roled order f s (p + 4 * length ρs) (times (here.left - 1) ρs)) (sym entry)
 
     pub entering-bad : not t ≡ true → false ≡ roled order f s from (times n ρs)
-    entering-bad e = sym (after ∙ ap (λ (b : Bool). b && roled order f s (p + 4 * length ρs) (times (left - 1) ρs)) (not-true t e))
+    entering-bad e = sym (after ∙ ap (λ (b : Bool). b && roled order f s (p + 4 * length ρs) (times (here.left - 1) ρs)) (not-true t e))
 
-    pub entering-next : not t ≡ false → {w : ℕ} → w ≡ length ρs → length ρs ≤ 3 → Entering order f s ρs from n (p + 4 * w) (left - 1)
-    entering-next e {w} words three =
+    pub entering-next : not t ≡ false → {w q : ℕ} → w ≡ length ρs → q ≡ p + 4 * w → Entering order f s ρs from n q (i + 1)
+    entering-next e {w} {q} words next =
+        let behind : p + 4 * length ρs ≡ q = omega (arith, words, next) in
         record {
-          few = omega (arith, here.few);
-          near = omega (arith, here.few, here.near);
+          left = here.left - 1;
+          whole = omega (arith, here.whole);
           rest =
               after
-              ∙ ap (λ (b : Bool). b && roled order f s (p + 4 * length ρs) (times (left - 1) ρs)) (not-false t e)
-              ∙ ap (λ (m : ℕ). roled order f s (p + 4 * m) (times (left - 1) ρs)) (sym words);
+              ∙ ap (λ (b : Bool). b && roled order f s (p + 4 * length ρs) (times (here.left - 1) ρs)) (not-false t e)
+              ∙ ap (λ (m : ℕ). roled order f s m (times (here.left - 1) ρs)) behind;
         }
+
+-- an entry of at most three words, of fewer than 65,536, begins no further than this behind the first
+pub entry-near : (words i : ℕ) (ρs : List Role) → words ≡ length ρs → length ρs ≤ 3 → i < 65536 → 4 * words * i ≤ 786432
+entry-near words i ρs is three few = let most : words * i ≤ 3 * i = grind (arith) in omega arith

@@ -11,36 +11,21 @@ use kindrows::head_row;
 fn enum_size(w: u32) -> bool
     ensures { result ≡ allowed (values_of 3) w }
 {
-    if w == 1 {
-        return true;
-    }
-    match w {
-        2 | 4 | 8 => true,
-        _ => false,
-    }
+    matches!(w, 1 | 2 | 4 | 8)
 }
 
 // A size that an INT may have.
 fn int_size(w: u32) -> bool
     ensures { result ≡ allowed (values_of 2) w }
 {
-    if w == 1 {
-        return true;
-    }
-    match w {
-        2 | 4 | 8 | 16 => true,
-        _ => false,
-    }
+    matches!(w, 1 | 2 | 4 | 8 | 16)
 }
 
 // A size that a FLOAT may have.
 fn float_size(w: u32) -> bool
     ensures { result ≡ allowed (values_of 4) w }
 {
-    match w {
-        2 | 4 | 8 | 12 | 16 => true,
-        _ => false,
-    }
+    matches!(w, 2 | 4 | 8 | 12 | 16)
 }
 
 // A number is one of those that a code stands for.

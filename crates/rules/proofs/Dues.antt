@@ -1,5 +1,8 @@
 -- Laws of phase 3 of one record: the first test that fails names the report.
 -- Assumes nothing.
+use Rattle.std.specs.Prelude.{None, Option as RustOption, Some}
+use Rattle.rules.specs.declared.phase.Due.TheVariants.{Head, Named, Tail}
+use Rattle.rules.specs.declared.phase.Due.{Due}
 use mathlib.Core.Path.{◌≡◌, refl, sym, ap, ◌∙◌}
 use mathlib.Core.Bool.{Bool, true, false, not, cond}
 use mathlib.Core.List.{List}
@@ -12,8 +15,6 @@ use Rattle.paper.specs.rules.Heads.{head_ok}
 use Rattle.pairs.specs.Lean.{names_over}
 use Rattle.paper.specs.rules.Table.{Record}
 use Rattle.paper.specs.rules.Tails.{tail_ok}
-use Rattle.rules.specs.declared.phase.Due.{Due}
-use Rattle.rules.specs.declared.phase.Due.TheVariants.{Nothing, Head, Named, Tail}
 use Rattle.rules.specs.Phase.{due_as_paper, rules_of}
 
 module _ (base strings : List ℕ) (r : Record) {a : Bool} (head : a ≡ head_ok r) where
@@ -33,16 +34,16 @@ module _ (base strings : List ℕ) (r : Record) {a : Bool} (head : a ≡ head_ok
 
 -- ── answers ──
 
-abbrev due_of : Option ℕ → Due
-due_of none = Nothing
-due_of (some n) = cond (eqb n 10) Head (cond (eqb n 11) Named Tail)
+abbrev due_of : Option ℕ → RustOption Due
+due_of none = None
+due_of (some n) = cond (eqb n 10) (Some Head) (cond (eqb n 11) (Some Named) (Some Tail))
 
-due_of-due_as_paper : (d : Due) → due_of (due_as_paper d) ≡ d
-due_of-due_as_paper Nothing = refl
-due_of-due_as_paper Head = refl
-due_of-due_as_paper Named = refl
-due_of-due_as_paper Tail = refl
+due_of-due_as_paper : (d : RustOption Due) → due_of (due_as_paper d) ≡ d
+due_of-due_as_paper None = refl
+due_of-due_as_paper (Some Head) = refl
+due_of-due_as_paper (Some Named) = refl
+due_of-due_as_paper (Some Tail) = refl
 
 -- two answers with the same number are one
-pub due-one : (x y : Due) → due_as_paper x ≡ due_as_paper y → x ≡ y
+pub due-one : (x y : RustOption Due) → due_as_paper x ≡ due_as_paper y → x ≡ y
 due-one x y e = sym (due_of-due_as_paper x) ∙ ap due_of e ∙ due_of-due_as_paper y

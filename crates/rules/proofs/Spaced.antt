@@ -1,7 +1,6 @@
 -- Laws of names that stand as those of a struct's members do: of a member's words the first alone is a name.
 -- Assumes nothing.
-use Prim.Native.Nat.{ℕ, ◌+◌, ◌-◌, ◌<◌}
-use native.Mathlib.Omega.{arith}
+use Prim.Native.Nat.{ℕ, ◌+◌, ◌<◌}
 use mathlib.Core.Path.{◌≡◌, refl, sym, ap, ◌∙◌}
 use mathlib.Core.Bool.{Bool, false, not}
 use mathlib.Core.List.{List}
@@ -22,8 +21,8 @@ module _ (order : Order) (base strings s : List ℕ) (p : ℕ) where
   member-name read e = e ∙ ap (name_word_over base strings (names offset0_or_identifier)) read ∙ sym (and-nothing _)
 
   -- and it has three words
-  pub member-next : {from n left : ℕ} → Entering order (name_word_over base strings) s (row_of STRUCT).each from n p left → 0 < left → {t : Bool}
-      → t ≡ roled order (name_word_over base strings) s p (row_of STRUCT).each → not t ≡ false
-      → Entering order (name_word_over base strings) s (row_of STRUCT).each from n (p + 12) (left - 1)
+  pub member-next : {from n i q : ℕ} → Entering order (name_word_over base strings) s (row_of STRUCT).each from n p i → i < n → {t : Bool}
+      → t ≡ roled order (name_word_over base strings) s p (row_of STRUCT).each → not t ≡ false → q ≡ p + 12
+      → Entering order (name_word_over base strings) s (row_of STRUCT).each from n q (i + 1)
   unfolding row_of rows
-  member-next here some entry e = entering-next here some entry e refl (omega arith)
+  member-next here some entry e next = entering-next here some entry e {w = 3} refl next

@@ -10,30 +10,29 @@ use naming::names_ok;
 use paper::Order;
 use tails::tail_ok;
 
-// What phase 3 says of a record: nothing, or 10, 11 or 12.
+// What may be due of a record in phase 3: 10, 11 or 12.
 #[derive(Clone, Copy)]
 pub enum Due {
-    Nothing,
     Head,
     Named,
     Tail,
 }
 
 // "later, the smallest type, then the smallest number": of one type, the smallest number. Of most records nothing is due, which few words tell.
-pub fn phase3<'a>(order: Order, bytes: &[u8], base: &'a [u8], strings: &'a [u8]) -> Due
+pub fn phase3<'a>(order: Order, bytes: &[u8], base: &'a [u8], strings: &'a [u8]) -> Option<Due>
     ensures { due_as_paper result ≡ first_due (rules_of base.now strings.now (record_in order bytes.now)) }
 {
     if quiet(order, bytes, base, strings) {
-        return Due::Nothing;
+        return None;
     }
     if !head_ok(order, bytes) {
-        return Due::Head;
+        return Some(Due::Head);
     }
     if !names_ok(order, bytes, base, strings) {
-        return Due::Named;
+        return Some(Due::Named);
     }
     if !tail_ok(order, bytes) {
-        return Due::Tail;
+        return Some(Due::Tail);
     }
-    Due::Nothing
+    None
 }

@@ -83,14 +83,10 @@ fn spaced_ok<'a>(order: Order, bytes: &[u8], base: &'a [u8], strings: &'a [u8], 
     requires { n ≤ 65536 }
     ensures { result ≡ roled order (name_word_over base.now strings.now) bytes.now 0 (times n (row_of STRUCT).each) }
 {
-    let mut p: u32 = 0;
-    let mut left = n;
-    while 0 < left {
-        if !optional_ok(base, strings, words::read(order, bytes, Place(p))) {
+    for i in 0..n {
+        if !optional_ok(base, strings, words::read(order, bytes, Place(12 * i))) {
             return false;
         }
-        p += 12;
-        left -= 1;
     }
     true
 }

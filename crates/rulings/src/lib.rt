@@ -2,12 +2,12 @@
 #![tactic(auto)]
 
 use kindrows::{STRUCT, UNION};
-use lines::{Out, ROOM, put};
+use lines::Out;
 use rows::{flag_of, kind_of};
 use texts::line;
 
 // Report 10, of the words of a head.
-fn put_head_rule(buf: &mut [u8; ROOM], o: Out, kind: u32) -> Out {
+fn put_head_rule(out: &mut Out, kind: u32) {
     let rules = b"\n\
         kind_flag, vlen and spare bits are 0; the size is 1, 2, 4, 8 or 16\n\
         kind_flag, vlen and spare bits are 0\n\
@@ -28,11 +28,11 @@ fn put_head_rule(buf: &mut [u8; ROOM], o: Out, kind: u32) -> Out {
         vlen and spare bits are 0\n\
         vlen and spare bits are 0\n\
         the spare bits are 0; the size is 1, 2, 4 or 8\n";
-    put(buf, o, line(rules, kind))
+    out.put(line(rules, kind));
 }
 
 // Report 11, of names.
-fn put_name_rule(buf: &mut [u8; ROOM], o: Out, kind: u32) -> Out {
+fn put_name_rule(out: &mut Out, kind: u32) {
     let rules = b"\n\
         every name offset is below the strings' length\n\
         it has no name (offset 0)\n\
@@ -53,11 +53,11 @@ fn put_name_rule(buf: &mut [u8; ROOM], o: Out, kind: u32) -> Out {
         its name is not empty\n\
         its name is not empty\n\
         each value's name is an identifier (1 to 127 letters, digits and underscores, no digit first); its own too, or offset 0\n";
-    put(buf, o, line(rules, kind))
+    out.put(line(rules, kind));
 }
 
 // Report 12, of the words behind a head.
-fn put_tail_rule(buf: &mut [u8; ROOM], o: Out, kind: u32) -> Out {
+fn put_tail_rule(out: &mut Out, kind: u32) {
     let rules = b"\n\
         the encoding is 0, 1, 2 or 4, the width at least 1, offset + width at most 8 times the size; spare bits are 0\n\
         \n\
@@ -73,11 +73,11 @@ fn put_tail_rule(buf: &mut [u8; ROOM], o: Out, kind: u32) -> Out {
         \n\
         a parameter of type 0 is the last and has no name (offset 0)\n\
         the linkage is 0, 1 or 2\n";
-    put(buf, o, line(rules, kind))
+    out.put(line(rules, kind));
 }
 
 // Report 13, of references.
-fn put_reference_rule(buf: &mut [u8; ROOM], o: Out, kind: u32) -> Out {
+fn put_reference_rule(out: &mut Out, kind: u32) {
     let rules = b"\n\
         \n\
         its type is void or of any kind but FUNC, VAR, DATASEC and DECL_TAG\n\
@@ -97,11 +97,11 @@ fn put_reference_rule(buf: &mut [u8; ROOM], o: Out, kind: u32) -> Out {
         \n\
         its type is a STRUCT, UNION, FUNC, VAR or TYPEDEF\n\
         its type is void or of any kind but FUNC, VAR, DATASEC and DECL_TAG\n";
-    put(buf, o, line(rules, kind))
+    out.put(line(rules, kind));
 }
 
 // Report 14, of walks without end.
-fn put_walk_rule(buf: &mut [u8; ROOM], o: Out, kind: u32) -> Out {
+fn put_walk_rule(out: &mut Out, kind: u32) {
     let rules = b"\n\
         \n\
         a chain of pointers, typedefs, qualifiers and type tags comes to an end\n\
@@ -121,11 +121,11 @@ fn put_walk_rule(buf: &mut [u8; ROOM], o: Out, kind: u32) -> Out {
         \n\
         \n\
         what is held by value comes to an end, and so does a chain of pointers, typedefs, qualifiers and type tags\n";
-    put(buf, o, line(rules, kind))
+    out.put(line(rules, kind));
 }
 
 // Report 15, of the layout. Behind the kinds stand a struct and a union whose members have a field width.
-fn put_layout_rule(buf: &mut [u8; ROOM], o: Out, kind: u32) -> Out {
+fn put_layout_rule(out: &mut Out, kind: u32) {
     let rules = b"\n\
         \n\
         \n\
@@ -148,7 +148,7 @@ fn put_layout_rule(buf: &mut [u8; ROOM], o: Out, kind: u32) -> Out {
         \n\
         each member has a size, begins at no lower bit than the one before and ends inside the struct; with a field width its base is an INT, ENUM or ENUM64 of no fewer bits, without one it begins at a whole byte; an INT has offset 0 and width 8, 16, 32, 64 or 128\n\
         each member has a size, begins at bit 0 and ends inside the union; with a field width its base is an INT, ENUM or ENUM64 of no fewer bits, without one it begins at a whole byte; an INT has offset 0 and width 8, 16, 32, 64 or 128\n";
-    put(buf, o, line(rules, kind))
+    out.put(line(rules, kind));
 }
 
 // Which line of the layout's rules: one of its own for members with a field width.
@@ -163,21 +163,21 @@ fn layout_line(info: u32) -> u32 {
     }
 }
 
-fn put_rule_of(buf: &mut [u8; ROOM], o: Out, number: u32, info: u32) -> Out {
+fn put_rule_of(out: &mut Out, number: u32, info: u32) {
     let kind = kind_of(info);
     match number {
-        10 => put_head_rule(buf, o, kind),
-        11 => put_name_rule(buf, o, kind),
-        12 => put_tail_rule(buf, o, kind),
-        13 => put_reference_rule(buf, o, kind),
-        14 => put_walk_rule(buf, o, kind),
-        _ => put_layout_rule(buf, o, layout_line(info)),
+        10 => put_head_rule(out, kind),
+        11 => put_name_rule(out, kind),
+        12 => put_tail_rule(out, kind),
+        13 => put_reference_rule(out, kind),
+        14 => put_walk_rule(out, kind),
+        _ => put_layout_rule(out, layout_line(info)),
     }
 }
 
 // The line of the rule.
-pub fn put_rule(buf: &mut [u8; ROOM], o: Out, number: u32, info: u32) -> Out {
-    let o = put(buf, o, b"    rule: ");
-    let o = put_rule_of(buf, o, number, info);
-    put(buf, o, b"\n")
+pub fn put_rule(out: &mut Out, number: u32, info: u32) {
+    out.put(b"    rule: ");
+    put_rule_of(out, number, info);
+    out.put(b"\n");
 }

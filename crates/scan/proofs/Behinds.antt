@@ -1,5 +1,6 @@
 -- Laws of `scan_report_behind`: what it is by what the header and the walk in code have said, and what a count says of a table behind a base.
 -- Assumes nothing.
+use Rattle.std.specs.Prelude.{Err, Ok, Result, ℕ}
 use Prim.Native.Nat.{ℕ, ◌+◌, ◌-◌, ◌≤◌, ◌<◌}
 use mathlib.Core.Path.{◌≡◌, refl, sym, ap, ◌∙◌, subst}
 use mathlib.Core.Bool.{Bool, true, false, cond}
@@ -13,8 +14,6 @@ use Rattle.pairs.proofs.Headers.{behind_report-facts}
 use Rattle.pairs.specs.Leaning.{BehindFacts}
 use Rattle.header.specs.Behind.{HeaderBehind}
 use Rattle.header.specs.Header.{SectionsBy}
-use Rattle.header.specs.declared.first.Header.{Header}
-use Rattle.header.specs.declared.first.Header.TheVariants.{Good, Bad}
 use Rattle.header.specs.declared.first.Sections.{Sections}
 use Rattle.paper.proofs.basics.Answers.{report-one}
 use Rattle.paper.proofs.bytes.Sections.{flat-walk_from}
@@ -32,26 +31,24 @@ use Rattle.scan.proofs.Findings.{behind_report-section, silent-records}
 use Rattle.scan.proofs.Rests.{slices-none}
 use Rattle.scan.specs.Behind.{walk_report_behind, count_behind, rest_report, scan_report_behind, CountBy, FoundBy, index_behind, ScanBehind}
 use Rattle.scan.specs.Phase2.{TypeSection, counted, finding_of, behind, WalkDone}
-use Rattle.scan.specs.declared.found.Scanned.{Scanned}
-use Rattle.scan.specs.declared.found.Scanned.TheVariants.{Counted, Refused}
 
 -- ── by the header ──
 
-module _ (before n : ℕ) (b : List ℕ) (places work : ℕ) {h : Header} (e : HeaderBehind h before b) where
-  pub behind-header : {r : Report} → h ≡ Bad r → scan_report_behind before n b places work ≡ some (report_as_paper r)
+module _ (before n : ℕ) (b : List ℕ) (places work : ℕ) {h : Result Sections Report} (e : HeaderBehind h before b) where
+  pub behind-header : {r : Report} → h ≡ Err r → scan_report_behind before n b places work ≡ some (report_as_paper r)
   unfolding scan_report_behind
   behind-header p =
-      ap (λ (o : Option Answer). or_else o (rest_report n b places work)) (subst (λ (x : Header). HeaderBehind x before b) p e)
+      ap (λ (o : Option Answer). or_else o (rest_report n b places work)) (subst (λ (x : Result Sections Report). HeaderBehind x before b) p e)
 
-  module _ {s : Sections} (p : h ≡ Good s) where
+  module _ {s : Sections} (p : h ≡ Ok s) where
     sections : SectionsBy (behind_report before b) s b
-    sections = subst (λ (x : Header). HeaderBehind x before b) p e
+    sections = subst (λ (x : Result Sections Report). HeaderBehind x before b) p e
 
     pub behind-section : TypeSection b s.types
     behind-section = behind_report-section before b sections.silent sections.types
 
     -- where phase 1 is silent, the rest decides
-    pub behind-rest : (r : Scanned) → FoundBy r (rest_report n b places work) (count_behind n b)
+    pub behind-rest : (r : Result ℕ Report) → FoundBy r (rest_report n b places work) (count_behind n b)
         → FoundBy r (scan_report_behind before n b places work) (count_behind n b)
     unfolding scan_report_behind
     behind-rest r f =
@@ -111,14 +108,14 @@ module _ (before n : ℕ) (b : List ℕ) (places work : ℕ) {m : ℕ} (c : Coun
 
 -- ── any two results that the contract of `scan_behind` allows are the same ──
 
-found-by-one : (s s' : Scanned) (due : Option Answer) (n : ℕ) → FoundBy s due n → FoundBy s' due n → s ≡ s'
-found-by-one (Counted m) (Counted k) due n h g = ap Counted (h.counts ∙ sym g.counts)
-found-by-one (Counted m) (Refused r) due n h g = absurd (some≢none (sym g ∙ h.silent))
-found-by-one (Refused r) (Counted m) due n h g = absurd (some≢none (sym h ∙ g.silent))
-found-by-one (Refused r) (Refused q) due n h g = ap Refused (report-one r q (some_one (sym h ∙ g)))
+found-by-one : (s s' : Result ℕ Report) (due : Option Answer) (n : ℕ) → FoundBy s due n → FoundBy s' due n → s ≡ s'
+found-by-one (Ok m) (Ok k) due n h g = ap Ok (h.counts ∙ sym g.counts)
+found-by-one (Ok m) (Err r) due n h g = absurd (some≢none (sym g ∙ h.silent))
+found-by-one (Err r) (Ok m) due n h g = absurd (some≢none (sym h ∙ g.silent))
+found-by-one (Err r) (Err q) due n h g = ap Err (report-one r q (some_one (sym h ∙ g)))
 
-pub scan-behind-one : {s s' : Scanned} {before : ℕ} {b : List ℕ} {n : ℕ} {index : List ℕ} {work : ℕ} {after after' : List ℕ}
+pub scan-behind-one : {s s' : Result ℕ Report} {before : ℕ} {b : List ℕ} {n : ℕ} {index : List ℕ} {work : ℕ} {after after' : List ℕ}
     → ScanBehind s before b n index work after → ScanBehind s' before b n index work after' → (s ≡ s') × (after ≡ after')
 scan-behind-one {s} {s'} {before} {b} {n} {index} {work} h k =
     let e = found-by-one s s' (scan_report_behind before n b (length index) work) (count_behind n b) h.found k.found in
-    (e, h.left ∙ ap (λ (x : Scanned). index_behind x n b index) e ∙ sym k.left)
+    (e, h.left ∙ ap (λ (x : Result ℕ Report). index_behind x n b index) e ∙ sym k.left)

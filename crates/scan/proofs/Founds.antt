@@ -1,9 +1,10 @@
 -- Laws of `scan_report`: what it is by what the header and the walk in code have said, and what a count gives the places and the index.
 -- Assumes nothing.
+use Rattle.std.specs.Prelude.{Err, Ok, Result, ℕ}
 use Prim.Native.Nat.{ℕ, ◌+◌}
 use mathlib.Core.Path.{◌≡◌, refl, sym, ap, ◌∙◌, subst}
 use mathlib.Core.List.{List}
-use mathlib.Core.Option.{Option, none, some}
+use mathlib.Core.Option.{Option, some}
 use native.Mathlib.Omega.{arith}
 use lib.ListN.{length, length-replicate}
 use Rattle.paper.proofs.gates.Acceptance.{silent-readable, readable-walk}
@@ -26,23 +27,19 @@ use Rattle.header.specs.Header.{HeaderOf, SectionsOf}
 use Rattle.scan.specs.Behind.{FoundBy, count_behind, rest_report}
 use Rattle.scan.specs.Phase2.{TypeSection, counted, finding_of, behind, WalkDone}
 use Rattle.scan.specs.Scan.{scan_report, CountOf, FoundOf, index_after, ScanOf}
-use Rattle.scan.specs.declared.found.Scanned.{Scanned}
-use Rattle.scan.specs.declared.found.Scanned.TheVariants.{Counted, Refused}
-use Rattle.header.specs.declared.first.Header.{Header}
-use Rattle.header.specs.declared.first.Header.TheVariants.{Good, Bad}
 use Rattle.header.specs.declared.first.Sections.{Sections}
 
 module _ (b : List ℕ) (places work : ℕ) where
   -- ── by the header ──
 
-  pub found-header : {h : Header} {r : Report} → HeaderOf h b → h ≡ Bad r → scan_report b places work ≡ some (report_as_paper r)
+  pub found-header : {h : Result Sections Report} {r : Report} → HeaderOf h b → h ≡ Err r → scan_report b places work ≡ some (report_as_paper r)
   unfolding scan_report
   found-header e p =
-      ap (λ (o : Option Answer). or_else o (or_else (phase2 b) (short_slices (count (table_of b)) places work))) (subst (λ (x : Header). HeaderOf x b) p e)
+      ap (λ (o : Option Answer). or_else o (or_else (phase2 b) (short_slices (count (table_of b)) places work))) (subst (λ (x : Result Sections Report). HeaderOf x b) p e)
 
-  module _ {h : Header} {s : Sections} (e : HeaderOf h b) (p : h ≡ Good s) where
+  module _ {h : Result Sections Report} {s : Sections} (e : HeaderOf h b) (p : h ≡ Ok s) where
     sections : SectionsOf s b
-    sections = subst (λ (x : Header). HeaderOf x b) p e
+    sections = subst (λ (x : Result Sections Report). HeaderOf x b) p e
 
     pub found-section : TypeSection b s.types
     unfolding phase1
@@ -55,9 +52,9 @@ module _ (b : List ℕ) (places work : ℕ) where
         ap (λ (o : Option Answer). or_else o (or_else (phase2 b) (short_slices (count (table_of b)) places work))) sections.silent
         ∙ sym (rest_report-alone b places work)
 
-    pub found-rest : (r : Scanned) → FoundBy r (rest_report 0 b places work) (count_behind 0 b) → FoundOf r b places work
-    found-rest (Counted n) f = record { silent = silent ∙ f.silent; counts = f.counts ∙ count_behind-alone b }
-    found-rest (Refused r) f = silent ∙ f
+    pub found-rest : (r : Result ℕ Report) → FoundBy r (rest_report 0 b places work) (count_behind 0 b) → FoundOf r b places work
+    found-rest (Ok n) f = record { silent = silent ∙ f.silent; counts = f.counts ∙ count_behind-alone b }
+    found-rest (Err r) f = silent ∙ f
 
   -- ── what a count gives the places ──
 
@@ -94,14 +91,14 @@ module _ (b : List ℕ) (places work : ℕ) where
 
 -- ── any two results that the contract of `scan` allows are the same ──
 
-found-one : (s s' : Scanned) (b : List ℕ) (places work : ℕ) → FoundOf s b places work → FoundOf s' b places work → s ≡ s'
-found-one (Counted n) (Counted m) b places work h k = ap Counted (h.counts ∙ sym k.counts)
-found-one (Counted n) (Refused r) b places work h k = absurd (some≢none (sym k ∙ h.silent))
-found-one (Refused r) (Counted n) b places work h k = absurd (some≢none (sym h ∙ k.silent))
-found-one (Refused r) (Refused q) b places work h k = ap Refused (report-one r q (some_one (sym h ∙ k)))
+found-one : (s s' : Result ℕ Report) (b : List ℕ) (places work : ℕ) → FoundOf s b places work → FoundOf s' b places work → s ≡ s'
+found-one (Ok n) (Ok m) b places work h k = ap Ok (h.counts ∙ sym k.counts)
+found-one (Ok n) (Err r) b places work h k = absurd (some≢none (sym k ∙ h.silent))
+found-one (Err r) (Ok n) b places work h k = absurd (some≢none (sym h ∙ k.silent))
+found-one (Err r) (Err q) b places work h k = ap Err (report-one r q (some_one (sym h ∙ k)))
 
-pub scan-one : {s s' : Scanned} {b : List ℕ} {places work : ℕ} {index index' : List ℕ} → ScanOf s b places work index → ScanOf s' b places work index'
+pub scan-one : {s s' : Result ℕ Report} {b : List ℕ} {places work : ℕ} {index index' : List ℕ} → ScanOf s b places work index → ScanOf s' b places work index'
     → (s ≡ s') × (index ≡ index')
 scan-one {s} {s'} {b} {places} {work} h k =
     let e = found-one s s' b places work h.found k.found in
-    (e, h.left ∙ ap (λ (x : Scanned). index_after x b places) e ∙ sym k.left)
+    (e, h.left ∙ ap (λ (x : Result ℕ Report). index_after x b places) e ∙ sym k.left)

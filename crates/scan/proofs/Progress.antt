@@ -1,5 +1,9 @@
 -- What is left of a walk: what it finds from where it stands, behind the records that it has counted, is what it finds at all.
 -- Assumes nothing.
+use Rattle.std.specs.Prelude.{Err, Ok, Result}
+use Rattle.scan.specs.declared.walk.Torn.TheVariants.{Cut, Unknown}
+use Rattle.scan.specs.declared.walk.Torn.{Torn}
+use Rattle.paper.specs.declared.Place.{Place}
 use Prim.Native.Nat.{ℕ, suc, ◌+◌, ◌-◌, ◌*◌, ◌%◌, ◌≤◌, ◌<◌}
 use mathlib.Core.Path.{◌≡◌, refl, sym, ap, ◌∙◌}
 use mathlib.Core.Bool.{true}
@@ -15,8 +19,6 @@ use Rattle.pairs.specs.Lean.{walk_behind}
 use Rattle.paper.specs.rules.Walk.{Walked, records, stopped, ahead, walk_from}
 use Rattle.paper.specs.rules.Word.{word_at}
 use Rattle.paper.proofs.bytes.Sections.{record_from}
-use Rattle.scan.specs.declared.walk.Behind.{Behind}
-use Rattle.scan.specs.declared.walk.Behind.TheVariants.{Next, Cut, Unknown}
 use Rattle.scan.specs.Phase2.{WalkBegins, Finding, counted, refused, finding_of, behind, walk_finds, behind_of}
 use Rattle.scan.proofs.Left.{left, type_words-left, left-length, left-head, left-drop, left_end}
 use Rattle.scan.proofs.WalkSteps.{Way, head-cut, unknown, tail-cut, onward, behind_of-way, known_at, next_place}
@@ -35,13 +37,13 @@ finding_of-ahead r (stopped n t p) = refl
 -- ── one step ──
 
 -- what a walk finds that has come to record k at a place and has room for so many behind it, by how its step goes
-abbrev after_step : List ℕ → ℕ → ℕ → ℕ → ℕ → Behind → Finding
-after_step b end room k at Cut = refused (report_at 6 k at)
-after_step b end room k at Unknown = refused (report_at 7 k at)
-after_step b end room k at (Next p) = behind 1 (finding_of (walk_from room (suc k) p.0 (left b p.0 end)))
+abbrev after_step : List ℕ → ℕ → ℕ → ℕ → ℕ → Result Place Torn → Finding
+after_step b end room k at (Err Cut) = refused (report_at 6 k at)
+after_step b end room k at (Err Unknown) = refused (report_at 7 k at)
+after_step b end room k at (Ok p) = behind 1 (finding_of (walk_from room (suc k) p.0 (left b p.0 end)))
 
 module _ (b : List ℕ) (end : ℕ) (inside : end ≤ length b) (room k at : ℕ) (more : at < end) (whole : (end - at) % 4 ≡ 0) where
-  walk_from-step : {s : Behind} → Way b at end s → finding_of (walk_from (suc room) k at (left b at end)) ≡ after_step b end room k at s
+  walk_from-step : {s : Result Place Torn} → Way b at end s → finding_of (walk_from (suc room) k at (left b at end)) ≡ after_step b end room k at s
   walk_from-step (head-cut h) =
       let len = left-length b end inside at in
       ap finding_of (walk_from-short room k at (left b at end) (omega arith) (omega arith))
@@ -115,20 +117,20 @@ module _ {found : Finding} (b : List ℕ) (end count at : ℕ) (st : Standing fo
       ∙ ap (λ (w : Walked). behind type_limit (finding_of w)) (walk_from-full (type_limit + 1) at (left b at end) some)
 
 -- what a step from there tells: a report, or that the walk stands further on
-abbrev pub Told : Finding → List ℕ → ℕ → ℕ → ℕ → Behind → Type 0
-Told found b end count at Cut = found ≡ refused (report_at 6 (count + 1) at)
-Told found b end count at Unknown = found ≡ refused (report_at 7 (count + 1) at)
-Told found b end count at (Next p) = (at < p.0) × Standing found b end (count + 1) p.0
+abbrev pub Told : Finding → List ℕ → ℕ → ℕ → ℕ → Result Place Torn → Type 0
+Told found b end count at (Err Cut) = found ≡ refused (report_at 6 (count + 1) at)
+Told found b end count at (Err Unknown) = found ≡ refused (report_at 7 (count + 1) at)
+Told found b end count at (Ok p) = (at < p.0) × Standing found b end (count + 1) p.0
 
 module _ {found : Finding} (b : List ℕ) (end count at : ℕ) (st : Standing found b end count at) (more : at < end) (room : count ≡ type_limit → ⊥) where
-  stepped : {s : Behind} → Way b at end s → found ≡ behind count (after_step b end (type_limit - (count + 1)) (count + 1) at s)
+  stepped : {s : Result Place Torn} → Way b at end s → found ≡ behind count (after_step b end (type_limit - (count + 1)) (count + 1) at s)
   stepped way =
       let one : type_limit - count ≡ suc (type_limit - (count + 1)) = omega (arith, st.few) in
       st.finds
       ∙ ap (λ (n : ℕ). behind count (finding_of (walk_from n (count + 1) at (left b at end)))) one
       ∙ ap (behind count) (walk_from-step b end st.inside (type_limit - (count + 1)) (count + 1) at more st.whole way)
 
-  told : {s : Behind} → Way b at end s → Told found b end count at s
+  told : {s : Result Place Torn} → Way b at end s → Told found b end count at s
   told (head-cut h) = stepped (head-cut h)
   told (unknown h e) = stepped (unknown h e)
   told (tail-cut h e n) = stepped (tail-cut h e n)
@@ -148,7 +150,7 @@ module _ {found : Finding} (b : List ℕ) (end count at : ℕ) (st : Standing fo
         },
       )
 
-  pub standing-step : {s : Behind} → behind_of b at end ≡ s → Told found b end count at s
+  pub standing-step : {s : Result Place Torn} → behind_of b at end ≡ s → Told found b end count at s
   standing-step e = told (rw e at (behind_of-way b at end))
 
   -- past a whole record of a known kind

@@ -1,5 +1,6 @@
 -- Laws of `rest_report`: what it is by what the walk in code has said; and that behind no types it is phase 2 and the places of a table by itself.
 -- Assumes nothing.
+use Rattle.std.specs.Prelude.{Err, Ok, Result, ℕ}
 use Prim.Native.Nat.{ℕ, ◌+◌, ◌≤◌, ◌<◌}
 use mathlib.Core.Path.{◌≡◌, refl, sym, ap, ap₂, ◌∙◌}
 use mathlib.Core.Bool.{Bool, true, ◌||◌}
@@ -24,8 +25,6 @@ use Rattle.paper.specs.declared.Report.{Report}
 use Rattle.scan.proofs.Findings.{behind-records, behind-silent, behind-report}
 use Rattle.scan.specs.Behind.{walk_report_behind, count_behind, rest_report, CountBy}
 use Rattle.scan.specs.Phase2.{counted, walk_finds, walked_as_paper}
-use Rattle.scan.specs.declared.walk.Walked.{Walked}
-use Rattle.scan.specs.declared.walk.Walked.TheVariants.{Whole, Stopped}
 
 -- enough places for n types
 pub slices-enough : (n places work : ℕ) → n < places → n < work → short_slices n places work ≡ none
@@ -54,13 +53,13 @@ module _ (b : List ℕ) (first places work : ℕ) where
   unfolding walk_report_behind
   rest-full h = rw (lt-ltb _ _ h) refl
 
-  module _ (few : first ≤ type_limit) (w : Walked) (f : walked_as_paper w ≡ walk_finds first b) where
-    pub rest-stopped : {r : Report} → w ≡ Stopped r → rest_report first b places work ≡ some (report_as_paper r)
+  module _ (few : first ≤ type_limit) (w : Result ℕ Report) (f : walked_as_paper w ≡ walk_finds first b) where
+    pub rest-stopped : {r : Report} → w ≡ Err r → rest_report first b places work ≡ some (report_as_paper r)
     rest-stopped q =
         ap (λ (o : Option Answer). or_else o (short_slices (count_behind first b) places work))
         (walk_report-few b first few ∙ behind-report first (walk_behind first b) (sym f ∙ ap walked_as_paper q))
 
-    module _ {n : ℕ} (q : w ≡ Whole n) where
+    module _ {n : ℕ} (q : w ≡ Ok n) where
       found : walk_finds first b ≡ counted n
       found = sym f ∙ ap walked_as_paper q
 

@@ -1,5 +1,9 @@
 -- Laws of `behind_of`: a step in the bytes is a step of the walk over the words that are left.
 -- Assumes nothing.
+use Rattle.std.specs.Prelude.{Err, Ok, Result}
+use Rattle.scan.specs.declared.walk.Torn.TheVariants.{Cut, Unknown}
+use Rattle.scan.specs.declared.walk.Torn.{Torn}
+use Rattle.paper.specs.declared.Place.{Place}
 use Prim.Native.Nat.{ℕ, zero, suc, ◌+◌, ◌*◌, ◌≤◌, ◌<◌}
 use mathlib.Core.Path.{◌≡◌, refl}
 use mathlib.Core.Bool.{Bool, true, false, cond}
@@ -13,8 +17,6 @@ use Rattle.paper.specs.rules.Table.{kind_in, tail_length}
 use Rattle.paper.specs.rules.Walk.{Walked, records, stopped, ahead, known, walk_record, walk_from}
 use Rattle.paper.specs.rules.Word.{word_at}
 use Rattle.paper.proofs.bytes.Sections.{record_from}
-use Rattle.scan.specs.declared.walk.Behind.{Behind}
-use Rattle.scan.specs.declared.walk.Behind.TheVariants.{Next, Cut, Unknown}
 use Rattle.scan.specs.Phase2.{behind_of}
 
 -- ── how a step goes ──
@@ -27,25 +29,25 @@ abbrev pub known_at : List ℕ → ℕ → Bool
 known_at b at = known (kind_in (word_at (order_of b) b (at + 4)))
 
 -- the four ways of a step
-pub data Way (b : List ℕ) (at end : ℕ) : Behind → Type 0 where
-  head-cut : end < at + 12 → Way b at end Cut
-  unknown : at + 12 ≤ end → known_at b at ≡ false → Way b at end Unknown
-  tail-cut : at + 12 ≤ end → known_at b at ≡ true → end < next_place b at → Way b at end Cut
-  onward : at + 12 ≤ end → known_at b at ≡ true → next_place b at ≤ end → Way b at end (Next (record { 0 = next_place b at }))
+pub data Way (b : List ℕ) (at end : ℕ) : Result Place Torn → Type 0 where
+  head-cut : end < at + 12 → Way b at end (Err Cut)
+  unknown : at + 12 ≤ end → known_at b at ≡ false → Way b at end (Err Unknown)
+  tail-cut : at + 12 ≤ end → known_at b at ≡ true → end < next_place b at → Way b at end (Err Cut)
+  onward : at + 12 ≤ end → known_at b at ≡ true → next_place b at ≤ end → Way b at end (Ok (record { 0 = next_place b at }))
 
 pub behind_of-way : (b : List ℕ) (at end : ℕ) → Way b at end (behind_of b at end)
 unfolding behind_of
 behind_of-way b at end = go (leb (at + 12) end) refl (known_at b at) refl (leb (next_place b at) end) refl
   where
     go : (t : Bool) → leb (at + 12) end ≡ t → (k : Bool) → known_at b at ≡ k → (n : Bool) → leb (next_place b at) end ≡ n
-        → Way b at end (cond t (cond k (cond n (Next (record { 0 = next_place b at })) Cut) Unknown) Cut)
+        → Way b at end (cond t (cond k (cond n (Ok (record { 0 = next_place b at })) (Err Cut)) (Err Unknown)) (Err Cut))
     go false e k ek n en = head-cut (leb-false _ _ e)
     go true e false ek n en = unknown (leb-true _ _ e) ek
     go true e true ek false en = tail-cut (leb-true _ _ e) ek (leb-false _ _ en)
     go true e true ek true en = onward (leb-true _ _ e) ek (leb-true _ _ en)
 
 -- and back: each way is that of `behind_of`
-pub way-behind_of : {b : List ℕ} {at end : ℕ} {s : Behind} → Way b at end s → behind_of b at end ≡ s
+pub way-behind_of : {b : List ℕ} {at end : ℕ} {s : Result Place Torn} → Way b at end s → behind_of b at end ≡ s
 unfolding behind_of
 way-behind_of (head-cut h) = simp (lt-leb _ _ h)
 way-behind_of (unknown h k) = simp (le-leb _ _ h, k)

@@ -1,5 +1,6 @@
 -- Phases 1 and 2 of a table behind a base of so many bytes and types, and the places lent: the count of both, or a report; and the index afterwards.
-use Rattle.std.specs.Prelude.{ℕ, suc, ◌+◌, ◌≡◌, cond, List, ltb, length}
+use Rattle.paper.specs.declared.Report.{Report}
+use Rattle.std.specs.Prelude.{ℕ, suc, ◌+◌, ◌≡◌, cond, List, ltb, length, Err, Ok, Result}
 use Rattle.std.proofs.Math.Option.{Option, none, some}
 use Rattle.paper.specs.rules.Answer.{Answer, report_at, report_as_paper}
 use Rattle.paper.specs.rules.Choice.{or_else}
@@ -9,8 +10,6 @@ use Rattle.pairs.specs.Lean.{behind_report, walk_behind}
 use Rattle.paper.specs.rules.Limits.{type_limit}
 use Rattle.paper.specs.rules.Walk.{records_in, places_from}
 use Rattle.paper.specs.terms.Put.{put}
-use Rattle.scan.specs.declared.found.Scanned.{Scanned}
-use Rattle.scan.specs.declared.found.Scanned.TheVariants.{Counted, Refused}
 
 -- a base of more types than the limit leaves room for none: 8 at once, though no check accepts such a base
 unfoldable pub walk_report_behind : ℕ → List ℕ → Option Answer
@@ -32,15 +31,15 @@ pub record CountBy (m : ℕ) (due : Option Answer) (n : ℕ) : Type 0 where
   pub silent : due ≡ none
   pub counts : m ≡ n
 
-abbrev pub FoundBy : Scanned → Option Answer → ℕ → Type 0
-FoundBy (Counted m) due n = CountBy m due n
-FoundBy (Refused r) due n = due ≡ some (report_as_paper r)
+abbrev pub FoundBy : Result ℕ Report → Option Answer → ℕ → Type 0
+FoundBy (Ok m) due n = CountBy m due n
+FoundBy (Err r) due n = due ≡ some (report_as_paper r)
 
 -- the index afterwards: the places of the new records behind those of so many types, or all 0
-abbrev pub index_behind : Scanned → ℕ → List ℕ → List ℕ → List ℕ
-index_behind (Counted m) n b index = put index (suc n) (places_from header_length (records_in (walk_behind n b)))
-index_behind (Refused r) n b index = zeros (length index)
+abbrev pub index_behind : Result ℕ Report → ℕ → List ℕ → List ℕ → List ℕ
+index_behind (Ok m) n b index = put index (suc n) (places_from header_length (records_in (walk_behind n b)))
+index_behind (Err r) n b index = zeros (length index)
 
-pub record ScanBehind (s : Scanned) (before : ℕ) (b : List ℕ) (n : ℕ) (index : List ℕ) (work : ℕ) (after : List ℕ) : Type 0 where
+pub record ScanBehind (s : Result ℕ Report) (before : ℕ) (b : List ℕ) (n : ℕ) (index : List ℕ) (work : ℕ) (after : List ℕ) : Type 0 where
   pub found : FoundBy s (scan_report_behind before n b (length index) work) (count_behind n b)
   pub left : after ≡ index_behind s n b index

@@ -7,5 +7,5 @@ mod places; // the index of an accepted blob
 mod slices; // a lent slice is left all 0
 mod walk; // phase 2: reports 6 to 8
 
-pub use found::{Scanned, scan, scan_behind};
+pub use found::{scan, scan_behind};
 pub use slices::clear;

@@ -15,10 +15,8 @@ pub(crate) fn places(b: &[u8], first: u32, n: u32, index: &mut [u32])
     ensures { index.new ≡ put index.old (suc first) (places_from header_length (records_in (walk_behind first b.now))) }
 {
     let mut at: u32 = 24;
-    let mut k = first;
-    while k < n {
-        k += 1;
-        index[k as usize] = at;
+    for k in first..n {
+        index[k as usize + 1] = at;
         at += 12 + 4 * tail_words(words::blob_word(b, Place(at + 4)));
     }
 }

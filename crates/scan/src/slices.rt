@@ -5,9 +5,5 @@ ghost use Rattle.paper.specs.rules.Gate.{zeros};
 pub fn clear(s: &mut [u32])
     ensures { s.new ≡ zeros (length s.old) }
 {
-    let mut i = 0;
-    while i < s.len() {
-        s[i] = 0;
-        i += 1;
-    }
+    s.fill(0);
 }

@@ -5,62 +5,52 @@ ghost use Rattle.scan.specs.Phase2.{WalkBegins, walk_finds, walked_as_paper, beh
 use paper::{Place, Report, TYPE_LIMIT, TypeNo};
 use rows::{is_known, kind_of, tail_words};
 
-// What stands at a record's place: the place behind the record, or why there is none.
+// Why no record stands at a place: it is cut short, or its kind is unknown.
 #[derive(Clone, Copy)]
-pub(crate) enum Behind {
-    Next(Place),
+pub(crate) enum Torn {
     Cut,
     Unknown,
 }
 
-// What a walk of the type section finds: the count of types, those before it and its records, or a report.
-#[derive(Clone, Copy)]
-pub(crate) enum Walked {
-    Whole(u32),
-    Stopped(Report),
-}
-
 // What stands behind a record, from its place in a section that ends at `end`. Differences are taken, since a sum could pass 32 bits.
-fn behind_of(b: &[u8], at: Place, end: Place) -> Behind
+fn behind_of(b: &[u8], at: Place, end: Place) -> Result<Place, Torn>
     requires { at.0 ≤ end.0 }
     ensures { result ≡ behind_of b.now at.0 end.0 }
 {
     let room = end.0 - at.0;
     if room < 12 {
-        return Behind::Cut;
+        return Err(Torn::Cut);
     }
     let info = words::blob_word(b, Place(at.0 + 4));
     if !is_known(kind_of(info)) {
-        return Behind::Unknown;
+        return Err(Torn::Unknown);
     }
     let tail = 4 * tail_words(info);
     if room - 12 < tail {
-        return Behind::Cut;
+        return Err(Torn::Cut);
     }
-    Behind::Next(Place(at.0 + 12 + tail))
+    Ok(Place(at.0 + 12 + tail))
 }
 
 // The walk of a type section of `len` bytes behind so many types, whose numbers go on. 8 is tested before anything is read of the record.
-pub(crate) fn walk(b: &[u8], first: u32, len: u32) -> Walked
+pub(crate) fn walk(b: &[u8], first: u32, len: u32) -> Result<u32, Report>
     requires { WalkBegins b.now first len }
     ensures { walked_as_paper result ≡ walk_finds first b.now }
 {
     let end = 24 + len;
     let mut at: u32 = 24;
     let mut count = first;
+    // A while: each record says where the next begins, so there is no count to go over.
     while at < end {
         if count == TYPE_LIMIT {
-            return Walked::Stopped(Report::ManyTypes(Place(at)));
+            return Err(Report::ManyTypes(Place(at)));
         }
         count += 1;
         match behind_of(b, Place(at), Place(end)) {
-            Behind::Next(next) => at = next.0,
-            Behind::Cut => return Walked::Stopped(Report::RecordCut(TypeNo(count), Place(at))),
-            Behind::Unknown => return Walked::Stopped(Report::UnknownKind(
-                TypeNo(count),
-                Place(at),
-            )),
+            Ok(next) => at = next.0,
+            Err(Torn::Cut) => return Err(Report::RecordCut(TypeNo(count), Place(at))),
+            Err(Torn::Unknown) => return Err(Report::UnknownKind(TypeNo(count), Place(at))),
         }
     }
-    Walked::Whole(count)
+    Ok(count)
 }

@@ -23,8 +23,14 @@ pub record Entering (by : Shift) (g : Group) (s : List ℕ) (v at : ℕ) (before
   pub rest : (ρs : List Role) → GroupOf g ρs → put after p (raised_from by s p (times left ρs)) ≡ put before at (raised_from by s at (times v ρs))
 
 module _ {by : Shift} {g : Group} {s : List ℕ} {v at : ℕ} {before : List ℕ} (a : EntriesAsk g v at (length before)) where
-  pub entering-start : Entering by g s v at before at v before
-  entering-start = record { few = omega arith; fits = a.fits; same_length = refl; rest = λ ρs h. refl }
+  pub entering-start : {p : ℕ} → p ≡ at → Entering by g s v at before p v before
+  entering-start {p} e =
+      record {
+        few = omega arith;
+        fits = omega (arith, a.fits);
+        same_length = refl;
+        rest = λ ρs h. ap (λ (q : ℕ). put before q (raised_from by s q (times v ρs))) e;
+      }
 
   module _ {p left : ℕ} {after : List ℕ} (e : Entering by g s v at before p left after) where
     pub entering-done : left ≤ 0 → EntriesPut by g v s at before after

@@ -85,11 +85,8 @@ pub(crate) fn raise_entries(bytes: &[u8], at: Place, g: Group, v: u32, by: Shift
     ensures { EntriesPut by g v bytes.now at.0 out.old out.new }
 {
     let step = 4 * g.words;
-    let mut p = at.0;
-    let mut left = v;
-    while 0 < left {
+    for i in 0..v {
+        let p = at.0 + step * i;
         raise_group(bytes, Place(p), g, by, out);
-        p += step;
-        left -= 1;
     }
 }

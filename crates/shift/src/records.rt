@@ -71,14 +71,11 @@ pub fn raise_records(s: &[u8], n: u32, by: Shift, out: &mut [u8])
     ensures { out.new ≡ raised_run by n s.now out.old }
 {
     let mut p = 0;
-    let mut left = n;
-    while 0 < left {
+    for _ in 0..n {
         let size = raise_record(rest_from(s, p), by, &mut out[p..]);
         if size == 0 {
-            left = 0;
-        } else {
-            p += size as usize;
-            left -= 1;
+            return;
         }
+        p += size as usize;
     }
 }

@@ -5,8 +5,8 @@ use mathlib.Core.Path.{◌≡◌, refl, sym, ap, ◌∙◌}
 use mathlib.Core.Bool.{Bool, true, false, cond}
 use native.Mathlib.Nat.{mul_assoc, one-mul, mul-zero, mul-le-mul, le-mul_of_pos_right}
 use native.Mathlib.Omega.{arith}
-use borrow.Author.Tests.{leb-true, leb-false, lt-leb}
-use lib.Dec.{leb}
+use borrow.Author.Tests.{eqb-true, eqb-false, leb-true, leb-false, lt-leb}
+use lib.Dec.{eqb, leb}
 use Rattle.sizes.specs.SizeStep.{cut}
 use Rattle.paper.proofs.walks.Sizes.{size_by-void}
 use Rattle.paper.specs.rules.Answer.{Answer}
@@ -117,3 +117,11 @@ module _ {tell : Found → Answer} {step : ℕ → Step} {answer : Answer} {t co
             bound = rw d (cut-bound (count * n));
             rest = rw d (unseen (count * n) found ∙ ap tell (sym (scale-scale count n found)) ∙ left_step e);
           }
+
+  -- where no more is read, and void and too far are told alike
+  pub left-end : reads ≡ 0 → tell none_at ≡ tell too_far → tell none_at ≡ answer
+  left-end e same = go (eqb t 0) refl
+    where
+      go : (z : Bool) → eqb t 0 ≡ z → tell none_at ≡ answer
+      go true z = left-void (eqb-true t 0 z)
+      go false z = same ∙ left_far (eqb-false t 0 z) e

@@ -16,7 +16,8 @@ use paper::{Order, Place, Sized, TypeNo};
 use rows::{is_known, kind_of, size_rule};
 pub use shown::{size_in, step_in};
 
-// What one record says of a size: it, so many times another type's, none, or that it cannot be read.
+// What one record says of a size: it, so many times another type's, none, or that it cannot be read. An enum of its own: four answers, each of
+// which the walk treats in its own way.
 #[derive(Clone, Copy)]
 pub enum Step {
     Is(u32),
@@ -131,12 +132,10 @@ pub fn size_over(base: &[u8], before: u32, b: &[u8], index: &[u32], t: TypeNo) -
 {
     let mut at = t.0;
     let mut count: u64 = 1;
-    let mut reads = index.len();
-    while at != 0 {
-        if reads == 0 {
-            return Sized::TooFar;
+    for _ in 0..index.len() {
+        if at == 0 {
+            return Sized::NoSize;
         }
-        reads -= 1;
         match step_over(base, before, b, index, TypeNo(at)) {
             Step::Is(s) => return many(count, s),
             Step::ManyOf(n, u) => {
@@ -147,7 +146,10 @@ pub fn size_over(base: &[u8], before: u32, b: &[u8], index: &[u32], t: TypeNo) -
             Step::Lost => return Sized::Lost,
         }
     }
-    Sized::NoSize
+    if at == 0 {
+        return Sized::NoSize;
+    }
+    Sized::TooFar
 }
 
 // The exact size of a type of a table that stands by itself: it leans on no bytes and no types.

@@ -37,12 +37,10 @@ pub fn size_in(base: &[u8], b: &[u8], index: &[u32], view: View, t: TypeNo) -> S
 {
     let mut at = t.0;
     let mut count: u64 = 1;
-    let mut reads = view.n;
-    while at != 0 {
-        if reads == 0 {
+    for _ in 0..view.n {
+        if at == 0 {
             return Sized::NoSize;
         }
-        reads -= 1;
         match step_in(base, b, index, view, TypeNo(at)) {
             Step::Is(s) => return many(count, s),
             Step::ManyOf(n, u) => {

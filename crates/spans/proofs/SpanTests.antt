@@ -1,5 +1,6 @@
 -- Laws of spans as code tests them: each test that fails decides, and what is left is where the span lies.
 -- Assumes nothing.
+use Rattle.std.specs.Prelude.{None, Option as RustOption, Some, ℕ}
 use Prim.Native.Nat.{ℕ, ◌+◌, ◌-◌, ◌*◌, ◌/◌, ◌%◌, ◌<◌, ◌≤◌}
 use mathlib.Core.Path.{◌≡◌, refl, sym, ap, ◌∙◌}
 use mathlib.Core.Bool.{Bool, true, false, not, cond, ◌&&◌, ◌||◌}
@@ -9,8 +10,6 @@ use native.Mathlib.Omega.{arith}
 use borrow.Author.Tests.{eq-eqb, ne_eqb, le-leb, lt-leb, leb-true, leb-false, not-true, not-false}
 use lib.Dec.{eqb, leb}
 use Rattle.spans.specs.Spanned.{typed, with_offset, span_with, span_as_paper}
-use Rattle.spans.specs.declared.Lies.{Lies}
-use Rattle.spans.specs.declared.Lies.TheVariants.{Nowhere, From}
 use Rattle.paper.specs.rules.Choice.{member}
 use Rattle.paper.specs.rules.KindNo.{INT, ENUM, ENUM64}
 use Rattle.paper.specs.rules.Span.{Member, Span, is_regular_word, is_regular, bit_offset, span_if, whole_span, plain_span, field_span, span_of_size, span_of, base_of, ends_by}
@@ -188,12 +187,12 @@ span-typed T flag m = typed-size T flag m (small_size T m.type)
 
 -- ── where it ends ──
 
-pub ends_nowhere : (end : ℕ) {l : Lies} → l ≡ Nowhere → false ≡ ends_by end (span_as_paper l)
-ends_nowhere end is = sym (ap (λ (l : Lies). ends_by end (span_as_paper l)) is)
+pub ends_nowhere : (end : ℕ) {l : RustOption (ℕ × ℕ)} → l ≡ None → false ≡ ends_by end (span_as_paper l)
+ends_nowhere end is = sym (ap (λ (l : RustOption (ℕ × ℕ)). ends_by end (span_as_paper l)) is)
 
-module _ (end : ℕ) {l : Lies} {from bits : ℕ} (is : l ≡ From from bits) where
+module _ (end : ℕ) {l : RustOption (ℕ × ℕ)} {from bits : ℕ} (is : l ≡ Some (from, bits)) where
   lies_so : ends_by end (span_as_paper l) ≡ leb (from + bits) end
-  lies_so = ap (λ (l : Lies). ends_by end (span_as_paper l)) is
+  lies_so = ap (λ (l : RustOption (ℕ × ℕ)). ends_by end (span_as_paper l)) is
 
   pub ends-late : end < bits → false ≡ ends_by end (span_as_paper l)
   ends-late h = sym (lies_so ∙ lt-leb (from + bits) end (omega arith))

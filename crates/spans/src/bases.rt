@@ -13,13 +13,11 @@ fn base_along<'a>(base: &'a [u8], b: &'a [u8], index: &[u32], view: View, t: Typ
     ensures { record_in view.order result.now ≡ base_of (table_by base.now b.now index.now view) t.0 }
 {
     let mut at = t.0;
-    let mut left = view.n;
-    while 0 < left {
+    for _ in 0..view.n {
         if !is_alias(kind_at(base, b, index, view, TypeNo(at))) {
             return record_of(base, b, index, view, TypeNo(at));
         }
         at = word_of(base, b, index, view, TypeNo(at), Place(8));
-        left -= 1;
     }
     record_of(base, b, index, view, TypeNo(at))
 }

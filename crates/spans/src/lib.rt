@@ -18,21 +18,11 @@ pub use members::{member_span, span_ends};
 use paper::{Order, Place};
 use rows::kind_of;
 
-// Where a span lies: nowhere, or from a bit on, so many bits.
-#[derive(Clone, Copy)]
-pub enum Lies {
-    Nowhere,
-    From(u64, u64),
-}
-
 // A width that a regular INT has.
 fn regular_width(w: u32) -> bool
     ensures { result ≡ member w (8 ∷ 16 ∷ 32 ∷ 64 ∷ 128 ∷ []) }
 {
-    match w {
-        8 | 16 | 32 | 64 | 128 => true,
-        _ => false,
-    }
+    matches!(w, 8 | 16 | 32 | 64 | 128)
 }
 
 // The word of a regular INT.
@@ -69,10 +59,7 @@ fn regular_or_other(order: Order, s: &[u8]) -> bool
 pub fn is_number(kind: u32) -> bool
     ensures { result ≡ member kind (INT ∷ ENUM ∷ ENUM64 ∷ []) }
 {
-    match kind {
-        INT | ENUM | ENUM64 => true,
-        _ => false,
-    }
+    matches!(kind, INT | ENUM | ENUM64)
 }
 
 // A member's own bit offset, by its offset word.
@@ -86,18 +73,18 @@ pub fn bit_offset(flag: u32, offset: u32) -> u32
 }
 
 // "8 times size from a multiple of 8".
-fn whole_span(from: u32, size: u32) -> Lies
+fn whole_span(from: u32, size: u32) -> Option<(u64, u64)>
     ensures { span_as_paper result ≡ whole_span from size }
 {
     if from % 8 != 0 {
-        return Lies::Nowhere;
+        return None;
     }
     let bits = 8 * (size as u64);
-    Lies::From(from as u64, bits)
+    Some((from as u64, bits))
 }
 
 // With kind_flag 0: an INT's own bits, or the whole of another base.
-fn plain_span(order: Order, bytes: &[u8], offset: u32, size: u32) -> Lies
+fn plain_span(order: Order, bytes: &[u8], offset: u32, size: u32) -> Option<(u64, u64)>
     ensures { span_as_paper result ≡ plain_span (record_in order bytes.now) (with_offset offset) size }
 {
     if kind_of(words::read(order, bytes, Place(4))) != INT {
@@ -106,15 +93,15 @@ fn plain_span(order: Order, bytes: &[u8], offset: u32, size: u32) -> Lies
     let w = words::read(order, bytes, Place(12));
     let from = (offset as u64) + ((w / 65536 % 256) as u64);
     let bits = (w % 256) as u64;
-    Lies::From(from, bits)
+    Some((from, bits))
 }
 
 // With kind_flag 1: the whole of a base, or a field of w bits.
-fn field_span(order: Order, bytes: &[u8], offset: u32, size: u32) -> Lies
+fn field_span(order: Order, bytes: &[u8], offset: u32, size: u32) -> Option<(u64, u64)>
     ensures { span_as_paper result ≡ field_span (record_in order bytes.now) (with_offset offset) size }
 {
     if !regular_or_other(order, bytes) {
-        return Lies::Nowhere;
+        return None;
     }
     let from = offset % 16777216;
     let w = offset / 16777216 % 256;
@@ -122,18 +109,24 @@ fn field_span(order: Order, bytes: &[u8], offset: u32, size: u32) -> Lies
         return whole_span(from, size);
     }
     if !is_number(kind_of(words::read(order, bytes, Place(4)))) {
-        return Lies::Nowhere;
+        return None;
     }
     if 8 * (size as u64) < (w as u64) {
-        return Lies::Nowhere;
+        return None;
     }
     let first = from as u64;
     let bits = w as u64;
-    Lies::From(first, bits)
+    Some((first, bits))
 }
 
 // By kind_flag.
-pub fn span_with(order: Order, bytes: &[u8], flag: u32, offset: u32, size: u32) -> Lies
+pub fn span_with(
+    order: Order,
+    bytes: &[u8],
+    flag: u32,
+    offset: u32,
+    size: u32,
+) -> Option<(u64, u64)>
     ensures { span_as_paper result ≡ span_with flag (record_in order bytes.now) offset size }
 {
     if flag == 1 {

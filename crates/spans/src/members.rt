@@ -5,7 +5,7 @@ ghost use Rattle.spans.specs.Spanned.{span_as_paper, typed};
 ghost use Rattle.views.specs.Shown.{table_by};
 
 use crate::bases::base_record;
-use crate::{Lies, span_with};
+use crate::span_with;
 use paper::{Sized, TypeNo};
 use sizes::size_in;
 use views::View;
@@ -19,7 +19,7 @@ pub fn member_span<'a>(
     flag: u32,
     t: TypeNo,
     offset: u32,
-) -> Lies
+) -> Option<(u64, u64)>
     ensures { span_as_paper result ≡ span_of (table_by base.now b.now index.now view) flag (typed t.0 offset) }
 {
     let order = view.order;
@@ -28,20 +28,20 @@ pub fn member_span<'a>(
             let under = base_record(base, b, index, view, t);
             span_with(order, under, flag, offset, s)
         }
-        Sized::NoSize => Lies::Nowhere,
-        Sized::Overflow => Lies::Nowhere,
-        Sized::Lost => Lies::Nowhere,
-        Sized::TooFar => Lies::Nowhere,
+        Sized::NoSize => None,
+        Sized::Overflow => None,
+        Sized::Lost => None,
+        Sized::TooFar => None,
     }
 }
 
 // A span ends by a bit; no sum, so that none can wrap.
-pub fn span_ends(span: Lies, end: u64) -> bool
+pub fn span_ends(span: Option<(u64, u64)>, end: u64) -> bool
     ensures { result ≡ ends_by end (span_as_paper span) }
 {
     match span {
-        Lies::Nowhere => false,
-        Lies::From(from, bits) => {
+        None => false,
+        Some((from, bits)) => {
             if end < bits {
                 return false;
             }

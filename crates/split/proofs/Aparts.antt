@@ -1,5 +1,8 @@
 -- Laws of the answers: an accepted table by its index, 60, 61 and both parts, and the whole by what the check says.
 -- Assumes nothing.
+use Rattle.parts.specs.declared.SplitError.TheVariants.{NoCut, OutputShort, Refused}
+use Rattle.parts.specs.declared.SplitError.{SplitError}
+use Rattle.std.specs.Prelude.{Err, Ok, Result, ℕ}
 use Prim.Native.Nat.{ℕ, suc, ◌+◌, ◌-◌, ◌≤◌, ◌<◌}
 use native.Mathlib.Numerals.{add-one}
 use mathlib.Core.Path.{◌≡◌, refl, sym, ap, ap₂, ◌∙◌}
@@ -20,8 +23,6 @@ use Rattle.paper.proofs.bytes.Blobs.{types-length}
 use Rattle.paper.proofs.bytes.Places.{places_of-at}
 use Rattle.paper.proofs.gates.Acceptance.{accepted-meets}
 use Rattle.paper.proofs.gates.Answered.{checked-accepted, checked_refused}
-use Rattle.paper.specs.declared.Checked.{Checked}
-use Rattle.paper.specs.declared.Checked.TheVariants as checked
 use Rattle.paper.specs.declared.Report.{Report}
 use Rattle.paper.specs.rules.Answer.{Answer, accepted, checked_as_paper, report}
 use Rattle.paper.specs.rules.Choice.{◌when◌, first_due, or_else}
@@ -33,8 +34,6 @@ use Rattle.paper.specs.terms.Fit.{Bytes}
 use Rattle.parts.proofs.Cutting.{cut_ok-facts}
 use Rattle.parts.proofs.Refusals.{cut-report}
 use Rattle.parts.specs.Cut.{CutOutcome, cut, cut_ok, cut_outcome, cut_refusal, cut_rules, first_bytes, second_bytes, parted_as_paper}
-use Rattle.parts.specs.declared.Parted.{Parted}
-use Rattle.parts.specs.declared.Parted.TheVariants.{Apart, Refused, NoCut, OutputShort}
 use Rattle.split.proofs.Pieces.{widths}
 use Rattle.split.specs.Parting.{AcceptedBy, ApartOf, CutAsk, SplitOf, apart_outcome}
 use Rattle.views.specs.Shown.{place_by, table_by}
@@ -115,7 +114,7 @@ module _ (b : List ℕ) (n s : ℕ) (out out' : List ℕ) where
   unfolding apart_outcome
   by-rules e f = ap₂ (λ (ok z : Bool). left (naming 0 (first_due (60 when not ok ∷ 61 when z ∷ [])))) e f
 
-  told : (r : Parted) (o : Option Answer) → apart_outcome b n s out out' ≡ left o → parted_as_paper r ≡ (left o).answer → {first second : List ℕ}
+  told : (r : Result (ℕ × ℕ) SplitError) (o : Option Answer) → apart_outcome b n s out out' ≡ left o → parted_as_paper r ≡ (left o).answer → {first second : List ℕ}
       → first ≡ (left o).first → second ≡ (left o).second → ApartOf r b n s out out' first second
   told r o e answer f g =
       record {
@@ -124,37 +123,37 @@ module _ (b : List ℕ) (n s : ℕ) (out out' : List ℕ) where
         seconds = g ∙ sym (ap (λ (x : CutOutcome). x.second) e);
       }
 
-  pub apart-60 : cut_ok n s (table_of b) ≡ false → ApartOf NoCut b n s out out' out out'
+  pub apart-60 : cut_ok n s (table_of b) ≡ false → ApartOf (Err NoCut) b n s out out' out out'
   unfolding parted_as_paper
-  apart-60 e = told NoCut (some (report 60 0)) (by-rules e refl) refl refl refl
+  apart-60 e = told (Err NoCut) (some (report 60 0)) (by-rules e refl) refl refl refl
 
   module _ (ok : cut_ok n s (table_of b) ≡ true) where
-    pub apart-61-first : length out < length (first_bytes b n s) → ApartOf OutputShort b n s out out' out out'
+    pub apart-61-first : length out < length (first_bytes b n s) → ApartOf (Err OutputShort) b n s out out' out out'
     unfolding parted_as_paper
     apart-61-first h =
-        told OutputShort (some (report 61 0)) (by-rules ok (or_left (ltb (length out') (length (second_bytes b n s))) (lt-ltb _ _ h))) refl refl refl
+        told (Err OutputShort) (some (report 61 0)) (by-rules ok (or_left (ltb (length out') (length (second_bytes b n s))) (lt-ltb _ _ h))) refl refl refl
 
-    pub apart-61-second : length out' < length (second_bytes b n s) → ApartOf OutputShort b n s out out' out out'
+    pub apart-61-second : length out' < length (second_bytes b n s) → ApartOf (Err OutputShort) b n s out out' out out'
     unfolding parted_as_paper
     apart-61-second h =
-        told OutputShort (some (report 61 0)) (by-rules ok (or_right (ltb (length out) (length (first_bytes b n s))) (lt-ltb _ _ h))) refl refl refl
+        told (Err OutputShort) (some (report 61 0)) (by-rules ok (or_right (ltb (length out) (length (first_bytes b n s))) (lt-ltb _ _ h))) refl refl refl
 
     pub apart-made : length (first_bytes b n s) ≤ length out → length (second_bytes b n s) ≤ length out' → {one two : ℕ} {first second : List ℕ}
         → one ≡ length (first_bytes b n s) → two ≡ length (second_bytes b n s) → first ≡ first_bytes b n s → second ≡ second_bytes b n s
-        → ApartOf (Apart one two) b n s out out' (first ++ drop one out) (second ++ drop two out')
+        → ApartOf (Ok (one, two)) b n s out out' (first ++ drop one out) (second ++ drop two out')
     unfolding parted_as_paper
     apart-made h k e f p q =
-        told (Apart _ _) none (by-rules ok (false-or (le-ltb _ _ h) (le-ltb _ _ k))) (λ i. record { number = 0; inner = 0; t = e i; p = f i })
+        told (Ok (_, _)) none (by-rules ok (false-or (le-ltb _ _ h) (le-ltb _ _ k))) (λ i. record { number = 0; inner = 0; t = e i; p = f i })
         (ap₂ (λ (x : List ℕ) (j : ℕ). x ++ drop j out) p e) (ap₂ (λ (x : List ℕ) (j : ℕ). x ++ drop j out') q f)
 
 -- ── the whole, by what the check says ──
 
-module _ {c : Checked} {b : List ℕ} {places work : ℕ} {index left : List ℕ} (h : CheckOf c b places work index left) (n s : ℕ) (out out' : List ℕ) where
+module _ {c : Result ℕ Report} {b : List ℕ} {places work : ℕ} {index left : List ℕ} (h : CheckOf c b places work index left) (n s : ℕ) (out out' : List ℕ) where
   slices : (o : Option Answer) → let x = cut_outcome b n s (gate b places work) out out' o in (index ≡ x.index) × (left ≡ x.work)
   slices none = (h.told.indexes, h.cleared)
   slices (some a) = (h.told.indexes, h.cleared)
 
-  pub split-refused : (r : Report) → c ≡ checked.Refused r → SplitOf (Refused r) b n s places work out out' index left out out'
+  pub split-refused : (r : Report) → c ≡ Err r → SplitOf (Err (Refused r)) b n s places work out out' index left out out'
   unfolding cut parted_as_paper
   split-refused r p =
       let e = cut-report b n s places work (length out) (length out') (checked_refused b places work r (ap checked_as_paper (sym p) ∙ h.told.answers)) in
@@ -167,13 +166,13 @@ module _ {c : Checked} {b : List ℕ} {places work : ℕ} {index left : List ℕ
         seconds = sym (ap (λ (o : Option Answer). (cut_outcome b n s (gate b places work) out out' o).second) e);
       }
 
-  module _ {m : ℕ} (p : c ≡ checked.Accepted m) where
+  module _ {m : ℕ} (p : c ≡ Ok m) where
     pub split-accepted : Bytes b → AcceptedBy b index m
     split-accepted bytes =
         let e = checked-accepted b places work (ap checked_as_paper (sym p) ∙ h.told.answers) in
         record { places = places; work = work; accepted = e.0; bytes = bytes; indexed = h.told.indexes; counted = e.1 }
 
-    pub split-apart : {r : Parted} {first second : List ℕ} → ApartOf r b n s out out' first second
+    pub split-apart : {r : Result (ℕ × ℕ) SplitError} {first second : List ℕ} → ApartOf r b n s out out' first second
         → SplitOf r b n s places work out out' index left first second
     unfolding cut cut_refusal apart_outcome
     split-apart {r} {first} {second} a =

@@ -1,5 +1,9 @@
 -- Order 14 of the code: what it means that `split` has answered, in the request's words. Each from contracts alone.
 -- Assumes nothing.
+use Rattle.parts.specs.declared.SplitError.TheVariants.{NoCut, OutputShort}
+use Rattle.parts.specs.declared.SplitError.{SplitError}
+use Rattle.std.specs.Prelude.{Ok, Result, ℕ, Err}
+use Rattle.paper.specs.declared.JoinError.{JoinError}
 use Prim.Native.Nat.{ℕ, ◌≤◌, ◌<◌}
 use mathlib.Core.Path.{◌≡◌, refl, sym, ap, ap₂, ◌∙◌, subst}
 use mathlib.Core.Bool.{true, false, false≢true}
@@ -13,8 +17,6 @@ use Rattle.join.proofs.Demands.{FullJoin, joinable-joined, joined-bytes, joined-
 use Rattle.join.specs.Joins.{JoinOf, handed_back}
 use Rattle.paper.proofs.gates.Acceptance.{accepted-full, accepted-with}
 use Rattle.paper.proofs.gates.Numbers.{Says, refusal-number, says-naming, says-or_else}
-use Rattle.paper.specs.declared.Joined.{Joined}
-use Rattle.paper.specs.declared.Joined.TheVariants.{Whole}
 use Rattle.paper.specs.rules.Answer.{Answer, report}
 use Rattle.paper.specs.rules.Choice.{first_due}
 use Rattle.paper.specs.rules.Gate.{gate, naming, refusal}
@@ -28,11 +30,9 @@ use Rattle.parts.proofs.Cuts.{cut-joins, joins-accepted, joins-cut, joins-first,
 use Rattle.parts.proofs.Refusals.{cut-61-first, cut-61-second, cut-made, made-cut, parted-one, refused-60}
 use Rattle.parts.specs.Cut.{CutOutcome, cut, cut_ok, cut_outcome, cut_refusal, cut_rules, first_bytes, second_bytes, lengths, parted_as_paper}
 use Rattle.parts.specs.Pair.{JoinsTo}
-use Rattle.parts.specs.declared.Parted.{Parted}
-use Rattle.parts.specs.declared.Parted.TheVariants.{Apart, NoCut, OutputShort}
 use Rattle.split.specs.Parting.{SplitOf}
 
-module _ {r : Parted} {b : List ℕ} {n s places work : ℕ} {out out' index left first second : List ℕ}
+module _ {r : Result (ℕ × ℕ) SplitError} {b : List ℕ} {n s places work : ℕ} {out out' index left first second : List ℕ}
     (h : SplitOf r b n s places work out out' index left first second) where
   abbrev ground : Option Answer
   ground = cut_refusal b n s places work (length out) (length out')
@@ -73,13 +73,13 @@ module _ {r : Parted} {b : List ℕ} {n s places work : ℕ} {out out' index lef
 
   -- ── 60 exactly where there is no pair ──
 
-  module _ (answered : r ≡ NoCut) where
+  module _ (answered : r ≡ (Err NoCut)) where
     no_cut : (refusal b places work ≡ none) × (cut_ok n s (table_of b) ≡ false)
     unfolding parted_as_paper
     no_cut = go ground refl
       where
         number : (parted_as_paper r).number ≡ 60
-        number = ap (λ (q : Parted). (parted_as_paper q).number) answered
+        number = ap (λ (q : Result (ℕ × ℕ) SplitError). (parted_as_paper q).number) answered
 
         go : (o : Option Answer) → ground ≡ o → (refusal b places work ≡ none) × (cut_ok n s (table_of b) ≡ false)
         go none e = absurd (let z = ap (λ (a : Answer). a.number) (parted-with e).0 in omega (arith, number))
@@ -91,7 +91,7 @@ module _ {r : Parted} {b : List ℕ} {n s places work : ℕ} {out out' index lef
 
   -- ── both parts ──
 
-  module _ (bytes : Bytes b) (m k : ℕ) (answered : r ≡ Apart m k) where
+  module _ (bytes : Bytes b) (m k : ℕ) (answered : r ≡ Ok (m, k)) where
     made : ground ≡ none
     unfolding parted_as_paper cut_refusal
     made = go ground refl
@@ -109,7 +109,7 @@ module _ {r : Parted} {b : List ℕ} {n s places work : ℕ} {out out' index lef
         go : (o : Option Answer) → ground ≡ o → ground ≡ none
         go none e = e
         go (some a) e =
-            let number = ap (λ (q : Parted). (parted_as_paper q).number) (sym answered) ∙ ap (λ (x : Answer). x.number) (refused-with a e).0 in
+            let number = ap (λ (q : Result (ℕ × ℕ) SplitError). (parted_as_paper q).number) (sym answered) ∙ ap (λ (x : Answer). x.number) (refused-with a e).0 in
             absurd (let low = subst (Says (λ (i : ℕ). 1 ≤ i)) e some_number in omega arith)
 
     told : (m ≡ length (first_bytes b n s)) × (k ≡ length (second_bytes b n s))
@@ -139,14 +139,14 @@ module _ {r : Parted} {b : List ℕ} {n s places work : ℕ} {out out' index lef
         (subst (λ (x : List ℕ). JoinsTo b n s x (second_bytes b n s)) (sym parts.0) (cut-joins b bytes places work g.0 n s g.1))
 
     -- so taking apart and joining gives the blob back, whatever run of `join` with slices of full size
-    pub parted-joined : {o output : List ℕ} {j : Joined} → FullJoin o (take m first) (take k second) j output → handed_back j output ≡ some b
+    pub parted-joined : {o output : List ℕ} {j : Result ℕ JoinError} → FullJoin o (take m first) (take k second) j output → handed_back j output ≡ some b
     parted-joined {o} {output} {j} f =
         let p = parted-pair in
         let x : List ℕ = take m first in
         let y : List ℕ = take k second in
         let able = subst (Joinable x y full_places full_places) (sym f.full) p.joinable in
         let whole = joinable-joined f.joins able in
-        ap (λ (q : Joined). handed_back q output) whole
+        ap (λ (q : Result ℕ JoinError). handed_back q output) whole
         ∙ ap {B = Option (List ℕ)} some (joined-bytes f.joins (length (joined_bytes x y)) whole ∙ p.joined)
 
   -- ── where there is a pair, and places for the blob's types ──
@@ -159,27 +159,27 @@ module _ {r : Parted} {b : List ℕ} {n s places work : ℕ} {out out' index lef
     same-long = (ap length (joins-first j), ap length (joins-second j))
 
     -- both tables come back byte for byte where there is room for them, and 61 is answered where there is none
-    pub pair-parted : length x ≤ length out → length y ≤ length out' → (r ≡ Apart (length x) (length y)) × (take (length x) first ≡ x) × (take (length y) second ≡ y)
+    pub pair-parted : length x ≤ length out → length y ≤ length out' → (r ≡ Ok (length x, length y)) × (take (length x) first ≡ x) × (take (length y) second ≡ y)
     unfolding parted_as_paper
     pair-parted h₁ h₂ =
         let l = same-long in
         let e = parted-with (cut-made b n s places work (length out) (length out') accepted (joins-cut j) (omega arith) (omega arith)) in (
-          parted-one r (Apart (length x) (length y)) (e.0 ∙ (λ i. record { number = 0; inner = 0; t = l.0 i; p = l.1 i })),
+          parted-one r (Ok ((length x), (length y))) (e.0 ∙ (λ i. record { number = 0; inner = 0; t = l.0 i; p = l.1 i })),
           ap (take (length x)) (e.1 ∙ ap₂ (λ (u : List ℕ) (i : ℕ). u ++ drop i out) (joins-first j) l.0) ∙ take-append_seam x (drop (length x) out),
           ap (take (length y)) (e.2 ∙ ap₂ (λ (u : List ℕ) (i : ℕ). u ++ drop i out') (joins-second j) l.1) ∙ take-append_seam y (drop (length y) out'),
         )
 
-    pub pair-short : (length out < length x) ⊎ (length out' < length y) → r ≡ OutputShort
+    pub pair-short : (length out < length x) ⊎ (length out' < length y) → r ≡ (Err OutputShort)
     unfolding parted_as_paper
     pair-short less =
         let l = same-long in
         let e : ground ≡ some (report 61 0) =
         ⊎_elim (λ (h₁ : length out < length x). cut-61-first b n s places work (length out) (length out') accepted (joins-cut j) (omega arith))
         (λ (h₂ : length out' < length y). cut-61-second b n s places work (length out) (length out') accepted (joins-cut j) (omega arith)) less in
-        parted-one r OutputShort (refused-with (report 61 0) e).0
+        parted-one r (Err OutputShort) (refused-with (report 61 0) e).0
 
 -- any two results that the contract allows are the same, slice by slice
-pub split_one : {r r' : Parted} {b : List ℕ} {n s places work : ℕ} {out out' index index' left left' first first' second second' : List ℕ}
+pub split_one : {r r' : Result (ℕ × ℕ) SplitError} {b : List ℕ} {n s places work : ℕ} {out out' index index' left left' first first' second second' : List ℕ}
     → SplitOf r b n s places work out out' index left first second → SplitOf r' b n s places work out out' index' left' first' second'
     → (r ≡ r') × (index ≡ index') × (left ≡ left') × (first ≡ first') × (second ≡ second')
 split_one {r} {r'} h k = (
@@ -193,8 +193,8 @@ split_one {r} {r'} h k = (
 -- ── joining first and taking apart after ──
 
 -- what a run of `join` has joined, of two blobs, is joined from them
-pub joined-pair : {j : Joined} {a c : List ℕ} {places work : ℕ} {out index left output : List ℕ} → JoinOf j a c places work out index left output → Bytes a → Bytes c
-    → (l : ℕ) → j ≡ Whole l → JoinsTo (take l output) (count (table_of a)) (length (table_of a).strings) a c
+pub joined-pair : {j : Result ℕ JoinError} {a c : List ℕ} {places work : ℕ} {out index left output : List ℕ} → JoinOf j a c places work out index left output → Bytes a → Bytes c
+    → (l : ℕ) → j ≡ Ok l → JoinsTo (take l output) (count (table_of a)) (length (table_of a).strings) a c
 joined-pair {j} {a} {c} {places} {work} h x y l whole =
     let g = joined-joinable h l whole in
     record {
@@ -215,10 +215,10 @@ joined-pair {j} {a} {c} {places} {work} h x y l whole =
     }
 
 -- taken apart with the first's own numbers, it gives both back byte for byte
-pub joined-parted : {j : Joined} {a c : List ℕ} {places work : ℕ} {out index left output : List ℕ} → JoinOf j a c places work out index left output → Bytes a → Bytes c
-    → (l : ℕ) → j ≡ Whole l
-    → {r : Parted} {places' work' : ℕ} {o o' index' left' first second : List ℕ}
+pub joined-parted : {j : Result ℕ JoinError} {a c : List ℕ} {places work : ℕ} {out index left output : List ℕ} → JoinOf j a c places work out index left output → Bytes a → Bytes c
+    → (l : ℕ) → j ≡ Ok l
+    → {r : Result (ℕ × ℕ) SplitError} {places' work' : ℕ} {o o' index' left' first second : List ℕ}
     → SplitOf r (take l output) (count (table_of a)) (length (table_of a).strings) places' work' o o' index' left' first second
     → count (table_of (take l output)) < places' → count (table_of (take l output)) < work' → length a ≤ length o → length c ≤ length o'
-    → (r ≡ Apart (length a) (length c)) × (take (length a) first ≡ a) × (take (length c) second ≡ c)
+    → (r ≡ Ok (length a, length c)) × (take (length a) first ≡ a) × (take (length c) second ≡ c)
 joined-parted h x y l whole k enough enough' room room' = pair-parted k (joined-pair h x y l whole) enough enough' room room'

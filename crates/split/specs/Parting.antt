@@ -1,5 +1,6 @@
 -- What taking a table apart asks of its parts, answers and leaves, in the paper's terms.
-use Rattle.std.specs.Prelude.{ℕ, ◌+◌, ◌≤◌, ◌≡◌, true, List, [], ◌++◌, length, take, drop}
+use Rattle.parts.specs.declared.SplitError.{SplitError}
+use Rattle.std.specs.Prelude.{ℕ, ◌+◌, ◌≤◌, ◌≡◌, true, List, [], ◌++◌, length, take, drop, Result}
 use Rattle.std.proofs.Math.Option.{none}
 use Rattle.paper.specs.rules.Answer.{accepted}
 use Rattle.paper.specs.rules.Choice.{first_due}
@@ -10,7 +11,6 @@ use Rattle.paper.specs.rules.Walk.{flat, table_of, type_len_of}
 use Rattle.paper.specs.rules.Word.{bytes_of_words}
 use Rattle.paper.specs.terms.Fit.{Below, Bytes, EveryWhole, word_bound}
 use Rattle.parts.specs.Cut.{CutOutcome, cut, cut_ok, cut_outcome, cut_rules, parted_as_paper}
-use Rattle.parts.specs.declared.Parted.{Parted}
 use Rattle.shift.specs.Made.{made_header}
 use Rattle.shift.specs.Raising.{records_bytes}
 use Rattle.shift.specs.declared.groups.Shift.{Shift}
@@ -59,13 +59,13 @@ unfoldable pub apart_outcome : List ℕ → ℕ → ℕ → List ℕ → List �
 apart_outcome b n s out out' =
     cut_outcome b n s (record { answer = accepted 0; index = []; work = [] }) out out' (naming 0 (first_due (cut_rules b n s (length out) (length out'))))
 
-pub record ApartOf (r : Parted) (b : List ℕ) (n s : ℕ) (out out' first second : List ℕ) : Type 0 where
+pub record ApartOf (r : Result (ℕ × ℕ) SplitError) (b : List ℕ) (n s : ℕ) (out out' first second : List ℕ) : Type 0 where
   pub answers : parted_as_paper r ≡ (apart_outcome b n s out out').answer
   pub firsts : first ≡ (apart_outcome b n s out out').first
   pub seconds : second ≡ (apart_outcome b n s out out').second
 
 -- the answer and all four slices afterwards are those of the paper's cut
-pub record SplitOf (r : Parted) (b : List ℕ) (n s places work_places : ℕ) (out out' index work first second : List ℕ) : Type 0 where
+pub record SplitOf (r : Result (ℕ × ℕ) SplitError) (b : List ℕ) (n s places work_places : ℕ) (out out' index work first second : List ℕ) : Type 0 where
   pub answers : parted_as_paper r ≡ (cut b n s places work_places out out').answer
   pub indexes : index ≡ (cut b n s places work_places out out').index
   pub works : work ≡ (cut b n s places work_places out out').work

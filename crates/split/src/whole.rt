@@ -6,8 +6,8 @@ ghost use Rattle.split.specs.Parting.{AcceptedBy, ApartOf, SplitOf};
 use crate::parts_of::{write_first, write_second};
 use cuts::cut_ok;
 use gate::check;
-use paper::{Checked, NameOff, Place, TypeNo};
-use parts::Parted;
+use paper::{NameOff, Place, TypeNo};
+use parts::SplitError;
 use views::{View, place_of};
 
 // Where the records behind a type begin: at the place of the next, or where the strings do.
@@ -33,7 +33,7 @@ fn apart(
     strings: NameOff,
     first: &mut [u8],
     second: &mut [u8],
-) -> Parted
+) -> Result<(u32, u32), SplitError>
     requires { AcceptedBy b.now index.now n }
     ensures { ApartOf result b.now types.0 strings.0 first.old second.old first.new second.new }
 {
@@ -44,21 +44,21 @@ fn apart(
         order,
     };
     if !cut_ok(b, index, view, types, strings) {
-        return Parted::NoCut;
+        return Err(SplitError::NoCut);
     }
     let middle = middle_of(b, index, view, types);
     let one = middle as usize + strings.0 as usize;
     let two = b.len() + 25 - one;
     if first.len() < one {
-        return Parted::OutputShort;
+        return Err(SplitError::OutputShort);
     }
     if second.len() < two {
-        return Parted::OutputShort;
+        return Err(SplitError::OutputShort);
     }
     write_first(b, middle, types, strings, &mut first[..one]);
     let behind = n - types.0;
     write_second(b, middle, behind, types, strings, &mut second[..two]);
-    Parted::Apart(one as u32, two as u32)
+    Ok((one as u32, two as u32))
 }
 
 // The lengths of both parts, which are then in the outputs; else the table's own report, 60 or 61, with the outputs as they were. Both u32
@@ -71,11 +71,9 @@ pub fn split(
     work: &mut [u32],
     first: &mut [u8],
     second: &mut [u8],
-) -> Parted
+) -> Result<(u32, u32), SplitError>
     ensures { SplitOf result b.now types.0 strings.0 (length index.old) (length work.old) first.old second.old index.new work.new first.new second.new }
 {
-    match check(b, index, work) {
-        Checked::Refused(r) => Parted::Refused(r),
-        Checked::Accepted(n) => apart(b, index, n, types, strings, first, second),
-    }
+    let n = check(b, index, work).map_err(SplitError::Refused)?;
+    apart(b, index, n, types, strings, first, second)
 }

@@ -35,10 +35,8 @@ fn add_bytes(start: u64, s: &[u8]) -> u64
     ensures { (result < 4294967291) × (result ≡ sum_from start s.now) }
 {
     let mut sum = start;
-    let mut i = 0;
-    while i < s.len() {
-        sum = add(sum, s[i] as u64);
-        i += 1;
+    for byte in s {
+        sum = add(sum, *byte as u64);
     }
     sum
 }
@@ -61,10 +59,8 @@ pub fn of_places(s: &[u32]) -> u32
     ensures { result ≡ sum_of (bytes_of_words LowFirst s.now) }
 {
     let mut sum = START;
-    let mut i = 0;
-    while i < s.len() {
-        sum = add_place(sum, s[i]);
-        i += 1;
+    for place in s {
+        sum = add_place(sum, *place);
     }
     sum as u32
 }
@@ -74,10 +70,8 @@ pub fn bytes_lent(n: u32) -> u32
     ensures { result ≡ sum_of (lent_bytes n) }
 {
     let mut sum = START;
-    let mut left = n;
-    while 0 < left {
+    for _ in 0..n {
         sum = add(sum, 165);
-        left -= 1;
     }
     sum as u32
 }
@@ -86,10 +80,8 @@ pub fn places_lent(n: u32) -> u32
     ensures { result ≡ sum_of (bytes_of_words LowFirst (lent_places n)) }
 {
     let mut sum = START;
-    let mut left = n;
-    while 0 < left {
+    for _ in 0..n {
         sum = add_place(sum, 4294967295);
-        left -= 1;
     }
     sum as u32
 }
@@ -98,19 +90,11 @@ pub fn places_lent(n: u32) -> u32
 pub fn fill_places(s: &mut [u32])
     ensures { s.new ≡ lent_places (length s.old) }
 {
-    let mut i = 0;
-    while i < s.len() {
-        s[i] = 4294967295;
-        i += 1;
-    }
+    s.fill(4294967295);
 }
 
 pub fn fill_bytes(s: &mut [u8])
     ensures { s.new ≡ lent_bytes (length s.old) }
 {
-    let mut i = 0;
-    while i < s.len() {
-        s[i] = 165;
-        i += 1;
-    }
+    s.fill(165);
 }

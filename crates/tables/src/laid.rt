@@ -5,43 +5,27 @@ use crate::standing::stand;
 use answers::of_report;
 use files::{READ_LIMIT, Status, read_file};
 use lean::check_leaning;
-use paper::{Checked, FULL_PLACES, Leaned};
+use paper::{FULL_PLACES, LeanError};
 use texts::first_of;
 
-// Whether a table leans on a base, and how many types that has.
+// How many bytes the table has that is asked of, and how many types the base has that it leans on, if it leans on one.
 #[derive(Clone, Copy)]
-pub struct Lean {
-    pub is_there: bool,
-    pub n: u32,
-}
-
-// How many bytes the table has that is asked of, and what it leans on; or how the call has ended without one.
-#[derive(Clone, Copy)]
-pub enum Laid {
-    Table(usize, Lean),
-    Ended(Status),
+pub struct Laid {
+    pub len: usize,
+    pub base: Option<u32>,
 }
 
 // A table of a file, by itself.
-fn lay_file(rt: &HostRuntime, file: &[u8], blob: &mut [u8; READ_LIMIT]) -> Laid {
-    let read = read_file(rt, file, blob);
-    if !read.is_read {
-        return Laid::Ended(Status::Failed);
-    }
-    Laid::Table(
-        read.n,
-        Lean {
-            is_there: false,
-            n: 0,
-        },
-    )
+fn lay_file(rt: &HostRuntime, file: &[u8], blob: &mut [u8; READ_LIMIT]) -> Result<Laid, Status> {
+    let len = read_file(rt, file, blob).ok_or(Status::Failed)?;
+    Ok(Laid { len, base: None })
 }
 
 // A table is accepted by itself.
 fn stands(own: &[u8], index: &mut [u32], work: &mut [u32]) -> bool {
     match gate::check(own, index, work) {
-        Checked::Accepted(_) => true,
-        Checked::Refused(_) => false,
+        Ok(_) => true,
+        Err(_) => false,
     }
 }
 
@@ -55,14 +39,14 @@ fn lay_both<'a>(
     both: &mut [u8; READ_LIMIT],
     index: &mut [u32; FULL_PLACES],
     work: &mut [u32; FULL_PLACES],
-) -> Laid {
+) -> Result<Laid, Status> {
     match check_leaning(base, own, index, work) {
-        Leaned::BaseRefused(r) => { Laid::Ended(base_refused(file, base_file, base, of_report(r))) }
-        Leaned::OrdersDiffer => Laid::Ended(turned(file, base)),
-        Leaned::Refused(r) => {
+        Err(LeanError::BaseRefused(r)) => Err(base_refused(file, base_file, base, of_report(r))),
+        Err(LeanError::OrdersDiffer) => Err(turned(file, base)),
+        Err(LeanError::Refused(r)) => {
             let is_alone = stands(own, index, work);
             let n = count(base, index);
-            Laid::Ended(refused_behind(
+            Err(refused_behind(
                 is_all,
                 file,
                 base,
@@ -74,10 +58,10 @@ fn lay_both<'a>(
                 of_report(r),
             ))
         }
-        Leaned::Accepted(_) => {
+        Ok(_) => {
             let n = count(base, index);
             let len = stand(base, own, both);
-            Laid::Table(len, Lean { is_there: true, n })
+            Ok(Laid { len, base: Some(n) })
         }
     }
 }
@@ -91,23 +75,17 @@ fn lay_files(
     both: &mut [u8; READ_LIMIT],
     index: &mut [u32; FULL_PLACES],
     work: &mut [u32; FULL_PLACES],
-) -> Laid {
+) -> Result<Laid, Status> {
     let mut base = [0u8; READ_LIMIT];
     let mut own = [0u8; READ_LIMIT];
-    let base_read = read_file(rt, base_file, &mut base);
-    if !base_read.is_read {
-        return Laid::Ended(Status::Failed);
-    }
-    let own_read = read_file(rt, file, &mut own);
-    if !own_read.is_read {
-        return Laid::Ended(Status::Failed);
-    }
+    let base_len = read_file(rt, base_file, &mut base).ok_or(Status::Failed)?;
+    let own_len = read_file(rt, file, &mut own).ok_or(Status::Failed)?;
     lay_both(
         is_all,
         file,
         base_file,
-        first_of(&base, base_read.n),
-        first_of(&own, own_read.n),
+        first_of(&base, base_len),
+        first_of(&own, own_len),
         both,
         index,
         work,
@@ -115,7 +93,8 @@ fn lay_files(
 }
 
 // The table that a call is about, in lent bytes: that of a file, or with the name of a base's file the one that holds both. By itself it is
-// not checked yet; with a base it is accepted. Whether all types are asked for tells what a refusal is told with.
+// not checked yet; with a base it is accepted. Whether all types are asked for tells what a refusal is told with. An error is how
+// the call has ended without a table.
 pub fn lay_table(
     rt: &HostRuntime,
     is_all: bool,
@@ -124,7 +103,7 @@ pub fn lay_table(
     blob: &mut [u8; READ_LIMIT],
     index: &mut [u32; FULL_PLACES],
     work: &mut [u32; FULL_PLACES],
-) -> Laid {
+) -> Result<Laid, Status> {
     if base_file.len() == 0 {
         return lay_file(rt, file, blob);
     }

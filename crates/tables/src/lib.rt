@@ -7,7 +7,7 @@ mod made; // a table that was made of others
 mod refusals; // what is told of a refused table
 mod standing; // one table that holds both
 
-pub use laid::{Laid, Lean, lay_table};
-pub use made::{count, put_made};
+pub use laid::{Laid, lay_table};
+pub use made::{count, put_made, saved};
 pub use refusals::refused;
 pub use standing::strings_len;

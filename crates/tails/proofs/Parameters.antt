@@ -1,7 +1,7 @@
 -- What is left of a prototype's parameters: the rule for those from here on is the rule for all, where the ones passed have a type.
 -- Assumes nothing.
 use Prim.Native.Nat.{ℕ, suc, ◌+◌, ◌-◌, ◌*◌, ◌<◌, ◌≤◌}
-use mathlib.Core.Path.{◌≡◌, sym, ap, ◌∙◌}
+use mathlib.Core.Path.{◌≡◌, refl, sym, ap, ◌∙◌}
 use mathlib.Core.Bool.{Bool, true, false, not, ◌&&◌, ◌||◌}
 use mathlib.Core.List.{List}
 use native.Mathlib.Omega.{arith}
@@ -59,37 +59,42 @@ module _ (order : Order) (s : List ℕ) where
       voids-void p (suc n) h
       ∙ ap (λ (t : Bool). t && true && eqb (at p) 0 && voids_last_from order s (p + 4 + 4) (suc n)) (parameters-some (p + 4 + 4) n)
 
--- so many parameters of n are left, from a place on
-pub record Asking (order : Order) (s : List ℕ) (n p left : ℕ) : Type 0 where
-  pub few : left ≤ n
-  pub near : p ≤ 12 + 8 * (n - left)
-  pub rest : voids_last_from order s 12 n ≡ voids_last_from order s p left
+-- so many parameters of n are passed: those from here on are asked what all are asked
+pub record Asking (order : Order) (s : List ℕ) (n i : ℕ) : Type 0 where
+  pub left : ℕ
+  pub whole : i + left ≡ n
+  pub rest : voids_last_from order s 12 n ≡ voids_last_from order s (12 + 8 * i) left
 
-module _ {order : Order} {s : List ℕ} {n p left : ℕ} (now : Asking order s n p left) where
-  pub asking-done : left ≤ 0 → true ≡ voids_last_from order s 12 n
+pub asking-start : (order : Order) (s : List ℕ) (n : ℕ) → Asking order s n 0
+asking-start order s n = record { left = n; whole = omega arith; rest = refl }
+
+module _ {order : Order} {s : List ℕ} {n i : ℕ} (now : Asking order s n i) where
+  pub asking-done : n ≤ i → true ≡ voids_last_from order s 12 n
   unfolding voids_last_from
-  asking-done h = let none : left ≡ 0 = omega arith in sym (now.rest ∙ ap (voids_last_from order s p) none)
+  asking-done h = let none : now.left ≡ 0 = omega (arith, now.whole) in sym (now.rest ∙ ap (voids_last_from order s (12 + 8 * i)) none)
 
-  module _ (some : 0 < left) {t : ℕ} (type : t ≡ word_at order s (p + 4)) where
-    pub asking-inner : t ≡ 0 → (left ≡ 1 → ⊥) → false ≡ voids_last_from order s 12 n
-    asking-inner e more =
-        let two : left ≡ suc (suc (left - 2)) = omega arith in
-        sym (now.rest ∙ ap (voids_last_from order s p) two ∙ voids-inner order s p (left - 2) (sym type ∙ e))
+  module _ {t : ℕ} (type : t ≡ word_at order s (12 + 8 * i + 4)) where
+    pub asking-inner : i < n → t ≡ 0 → (i + 1 ≡ n → ⊥) → false ≡ voids_last_from order s 12 n
+    asking-inner some e more =
+        let two : now.left ≡ suc (suc (now.left - 2)) = omega (arith, now.whole) in
+        sym (now.rest ∙ ap (voids_last_from order s (12 + 8 * i)) two ∙ voids-inner order s (12 + 8 * i) (now.left - 2) (sym type ∙ e))
 
-    pub asking-last : t ≡ 0 → left ≡ 1 → {name : ℕ} → name ≡ word_at order s p → eqb name 0 ≡ voids_last_from order s 12 n
-    asking-last e one name =
-        ap (λ (m : ℕ). eqb m 0) name ∙ sym (now.rest ∙ ap (voids_last_from order s p) one ∙ voids-last order s p (sym type ∙ e))
+    pub asking-last : t ≡ 0 → i + 1 ≡ n → {name : ℕ} → name ≡ word_at order s (12 + 8 * i) → eqb name 0 ≡ voids_last_from order s 12 n
+    asking-last e last name =
+        let one : now.left ≡ 1 = omega (arith, now.whole) in
+        ap (λ (m : ℕ). eqb m 0) name
+        ∙ sym (now.rest ∙ ap (voids_last_from order s (12 + 8 * i)) one ∙ voids-last order s (12 + 8 * i) (sym type ∙ e))
 
-    pub asking-next : (t ≡ 0 → ⊥) → Asking order s n (p + 8) (left - 1)
-    asking-next h =
-        let one : left ≡ suc (left - 1) = omega arith in
-        let eight : p + 4 + 4 ≡ p + 8 = omega arith in
+    pub asking-next : i < n → (t ≡ 0 → ⊥) → Asking order s n (i + 1)
+    asking-next some h =
+        let one : now.left ≡ suc (now.left - 1) = omega (arith, now.whole) in
+        let next : 12 + 8 * i + 4 + 4 ≡ 12 + 8 * (i + 1) = omega arith in
         record {
-          few = omega (arith, now.few);
-          near = omega (arith, now.few, now.near);
+          left = now.left - 1;
+          whole = omega (arith, now.whole);
           rest =
               now.rest
-              ∙ ap (voids_last_from order s p) one
-              ∙ voids-typed order s p (left - 1) (λ e. h (type ∙ e))
-              ∙ ap (λ (q : ℕ). voids_last_from order s q (left - 1)) eight;
+              ∙ ap (voids_last_from order s (12 + 8 * i)) one
+              ∙ voids-typed order s (12 + 8 * i) (now.left - 1) (λ e. h (type ∙ e))
+              ∙ ap (λ (q : ℕ). voids_last_from order s q (now.left - 1)) next;
         }

@@ -52,17 +52,14 @@ fn voids_last(order: Order, bytes: &[u8], n: u32) -> bool
     requires { n < 65536 }
     ensures { result ≡ voids_last_from order bytes.now 12 n }
 {
-    let mut p: u32 = 12;
-    let mut left = n;
-    while 0 < left {
+    for i in 0..n {
+        let p = 12 + 8 * i;
         if words::read(order, bytes, Place(p + 4)) == 0 {
-            if left != 1 {
+            if i + 1 != n {
                 return false;
             }
             return words::read(order, bytes, Place(p)) == 0;
         }
-        p += 8;
-        left -= 1;
     }
     true
 }

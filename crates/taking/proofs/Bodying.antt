@@ -22,7 +22,7 @@ use Rattle.paper.specs.rules.Word.{word_at}
 use Rattle.paper.specs.terms.Fit.{Bytes}
 use Rattle.taking.specs.Taking.{BodyAs, BodyIn, FieldOf, RecordBad, RecordIn, carried_from, record_then, stands_as}
 use Rattle.taking.specs.declared.bodies.Body.{Body}
-use Rattle.taking.specs.declared.one.Field.TheVariants.{Bad, Taken}
+use Rattle.std.specs.Prelude.{Ok, Err, Result}
 
 -- ── a body by its first field ──
 
@@ -30,11 +30,11 @@ module _ (strings : Bool) (s : List ℕ) where
   abbrev on : ℕ → List ℕ → List ℕ → list.Taken
   on tag body rest = cond (stands_as strings tag) (carried (length s) tag [] body rest) (fault 52)
 
-  pub body-bad : (f : Fault) → FieldOf (Bad f) s → take_body (stands_as strings) s ≡ fault (fault_number f)
+  pub body-bad : (f : Fault) → FieldOf (Err f) s → take_body (stands_as strings) s ≡ fault (fault_number f)
   unfolding take_body
   body-bad f h = ap (λ (x : list.Taken). on_taken x on) h.is
 
-  module _ {t n : ℕ} (h : FieldOf (Taken t n) s) where
+  module _ {t n : ℕ} (h : FieldOf (Ok (record { tag = t; len = n })) s) where
     by_place : {z : Bool} → stands_as strings t ≡ z → take_body (stands_as strings) s ≡ cond z (carried_from s t n) (fault 52)
     unfolding take_body
     by_place e = ap (λ (x : list.Taken). on_taken x on) h.is ∙ ap (λ (z : Bool). cond z (carried_from s t n) (fault 52)) e
@@ -43,7 +43,7 @@ module _ (strings : Bool) (s : List ℕ) where
     unfolding fault_number
     body-misplaced e = by_place e
 
-    pub body-carried : stands_as strings t ≡ true → (r : Body) → BodyAs r (carried_from s t n) s → BodyAs r (take_body (stands_as strings) s) s
+    pub body-carried : stands_as strings t ≡ true → (r : Result Body Fault) → BodyAs r (carried_from s t n) s → BodyAs r (take_body (stands_as strings) s) s
     body-carried e r b = subst (λ (x : list.Taken). BodyAs r x s) (sym (by_place e)) b
 
 -- ── a record by its body ──

@@ -15,7 +15,7 @@ use Rattle.lists.specs.declared.Fault.{Fault}
 use Rattle.lists.specs.declared.Fault.TheVariants.{OutOfPlace}
 use Rattle.paper.proofs.bytes.Bytes.{part-rest}
 use Rattle.taking.specs.Taking.{BodyIn, CarryAsk, FieldOf, carried_from}
-use Rattle.taking.specs.declared.one.Field.TheVariants.{Bad, Taken}
+use Rattle.std.specs.Prelude.{Ok, Err}
 
 pub record Carrying (s : List ℕ) (tag first last len end : ℕ) : Type 0 where
   pub fuel : ℕ
@@ -79,10 +79,10 @@ module _ {s : List ℕ} {tag first last len end : ℕ} (c : Carrying s tag first
         ∙ ap (λ (z : Bool). cond z (taken tag (c.before ++ c.body) (drop end s)) (on_taken (take_field (drop end s)) (on c.fuel)))
         (le-ltb (length c.body) field_most (omega (arith, c.lasts)))
 
-    pub carrying-bad : (f : Fault) → FieldOf (Bad f) (take (length s - end) (drop end s)) → carried_from s tag first ≡ fault (fault_number f)
+    pub carrying-bad : (f : Fault) → FieldOf (Err f) (take (length s - end) (drop end s)) → carried_from s tag first ≡ fault (fault_number f)
     carrying-bad f h = goes_on ∙ ap (λ (x : list.Taken). on_taken x (on c.fuel)) (ap take_field (sym (part-rest s end)) ∙ h.is)
 
-    module _ {t n : ℕ} (h : FieldOf (Taken t n) (take (length s - end) (drop end s))) where
+    module _ {t n : ℕ} (h : FieldOf (Ok (record { tag = t; len = n })) (take (length s - end) (drop end s))) where
       abbrev rest : List ℕ
       rest = drop end s
 

@@ -1,36 +1,22 @@
 -- Laws of one field, by what is tested of its bytes.
 -- Assumes nothing.
 use Prim.Native.Nat.{ℕ, suc, ◌+◌, ◌-◌, ◌*◌, ◌≤◌, ◌<◌}
-use mathlib.Core.Path.{◌≡◌, refl, sym, ap, ap₂, ◌∙◌}
-use mathlib.Core.Bool.{Bool, true, false, cond, ◌||◌}
+use mathlib.Core.Path.{◌≡◌, refl, sym, ap, ◌∙◌}
+use mathlib.Core.Bool.{Bool, true, false, cond}
 use mathlib.Core.List.{List, [], ◌∷◌}
 use native.Mathlib.Omega.{arith}
 use borrow.Author.Tests.{le-leb, lt-leb}
 use lib.Dec.{leb}
 use lib.ListN.{length, get_or, take, drop}
 use Rattle.lists.specs.Kept.{fault_number}
-use Rattle.lists.specs.List.{is_string_tag, is_carry, is_tag, fault, taken, behind_tag, take_field}
+use Rattle.lists.specs.List.{is_string_tag, is_tag, fault, taken, behind_tag, take_field}
 use Rattle.lists.specs.declared.Fault.TheVariants.{UnknownTag, CutShort}
 use Rattle.paper.specs.rules.Walk.{known}
 use Rattle.paper.specs.terms.Fit.{Bytes}
 use Rattle.taking.specs.Taking.{FieldOf, stands_as}
-use Rattle.taking.specs.declared.one.Field.TheVariants.{Bad, Taken}
+use Rattle.std.specs.Prelude.{Ok, Err}
 
 -- ── its tag ──
-
-module _ (t : ℕ) where
-  pub tag-known : known t ≡ true → true ≡ is_tag t
-  unfolding is_tag
-  tag-known e = sym (ap (λ (z : Bool). z || is_string_tag t || is_carry t) e)
-
-  module _ (e : known t ≡ false) where
-    pub tag-string : is_string_tag t ≡ true → true ≡ is_tag t
-    unfolding is_tag
-    tag-string f = sym (ap₂ (λ (y z : Bool). y || z || is_carry t) e f)
-
-    pub tag-carry : is_string_tag t ≡ false → is_carry t ≡ is_tag t
-    unfolding is_tag
-    tag-carry f = sym (ap₂ (λ (y z : Bool). y || z || is_carry t) e f)
 
 -- which of them may stand here
 pub stands-strings : {b : Bool} → b ≡ true → (t : ℕ) {r : Bool} → r ≡ is_string_tag t → r ≡ stands_as b t
@@ -48,24 +34,24 @@ by_length : (t a b : ℕ) (s : List ℕ) {z : Bool} → is_tag t ≡ true → le
     → take_field (t ∷ a ∷ b ∷ s) ≡ cond z (taken t (take (a + b * 256) s) (drop (a + b * 256) s)) (fault 51)
 by_length t a b s e x = by-tag t (a ∷ b ∷ s) e ∙ ap (λ (z : Bool). cond z (taken t (take (a + b * 256) s) (drop (a + b * 256) s)) (fault 51)) x
 
-pub field-none : (s : List ℕ) → length s ≡ 0 → FieldOf (Bad CutShort) s
+pub field-none : (s : List ℕ) → length s ≡ 0 → FieldOf (Err CutShort) s
 unfolding fault_number
 field-none [] h = record { is = refl; few = omega arith; inside = omega arith }
 field-none (t ∷ s) h = absurd (omega arith)
 
-pub field-unknown : (s : List ℕ) → 0 < length s → is_tag (get_or s 0 0) ≡ false → FieldOf (Bad UnknownTag) s
+pub field-unknown : (s : List ℕ) → 0 < length s → is_tag (get_or s 0 0) ≡ false → FieldOf (Err UnknownTag) s
 unfolding fault_number
 field-unknown [] h e = absurd (omega arith)
 field-unknown (t ∷ s) h e = record { is = by-tag t s e; few = omega arith; inside = omega arith }
 
-pub field-headless : (s : List ℕ) → 0 < length s → is_tag (get_or s 0 0) ≡ true → length s < 3 → FieldOf (Bad CutShort) s
+pub field-headless : (s : List ℕ) → 0 < length s → is_tag (get_or s 0 0) ≡ true → length s < 3 → FieldOf (Err CutShort) s
 unfolding fault_number
 field-headless [] h e l = absurd (omega arith)
 field-headless (t ∷ []) h e l = record { is = by-tag t [] e; few = omega arith; inside = omega arith }
 field-headless (t ∷ a ∷ []) h e l = record { is = by-tag t (a ∷ []) e; few = omega arith; inside = omega arith }
 field-headless (t ∷ a ∷ b ∷ s) h e l = absurd (omega arith)
 
-pub field_cut : (s : List ℕ) → is_tag (get_or s 0 0) ≡ true → 3 ≤ length s → length s - 3 < get_or s 1 0 + get_or s 2 0 * 256 → FieldOf (Bad CutShort) s
+pub field_cut : (s : List ℕ) → is_tag (get_or s 0 0) ≡ true → 3 ≤ length s → length s - 3 < get_or s 1 0 + get_or s 2 0 * 256 → FieldOf (Err CutShort) s
 unfolding fault_number
 field_cut [] e l h = absurd (omega arith)
 field_cut (t ∷ []) e l h = absurd (omega arith)
@@ -73,7 +59,7 @@ field_cut (t ∷ a ∷ []) e l h = absurd (omega arith)
 field_cut (t ∷ a ∷ b ∷ s) e l h = record { is = by_length t a b s e (lt-leb (a + b * 256) (length s) (omega arith)); few = omega arith; inside = omega arith }
 
 pub field-whole : (s : List ℕ) → Bytes s → is_tag (get_or s 0 0) ≡ true → 3 ≤ length s → get_or s 1 0 + get_or s 2 0 * 256 ≤ length s - 3
-    → FieldOf (Taken (get_or s 0 0) (get_or s 1 0 + get_or s 2 0 * 256)) s
+    → FieldOf (Ok (record { tag = get_or s 0 0; len = get_or s 1 0 + get_or s 2 0 * 256 })) s
 field-whole [] bytes e l h = absurd (omega arith)
 field-whole (t ∷ []) bytes e l h = absurd (omega arith)
 field-whole (t ∷ a ∷ []) bytes e l h = absurd (omega arith)

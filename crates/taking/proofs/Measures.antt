@@ -1,5 +1,8 @@
 -- A whole list by its string section and the records behind it.
 -- Assumes nothing.
+use Rattle.std.specs.Prelude.{Err, Ok, Result}
+use Rattle.taking.specs.declared.whole.Sections.{Sections}
+use Rattle.lists.specs.declared.Fault.{Fault}
 use Prim.Native.Nat.{ℕ, ◌-◌}
 use mathlib.Core.Path.{◌≡◌, sym, ap, ◌∙◌}
 use mathlib.Core.Bool.{Bool, true, cond}
@@ -19,8 +22,6 @@ use Rattle.paper.specs.rules.Table as paper
 use Rattle.paper.specs.rules.Walk.{type_len_of}
 use Rattle.taking.specs.Measuring.{MeasuredAs, RecordsIn, TableIn}
 use Rattle.taking.specs.Taking.{BodyIn, stands_as}
-use Rattle.taking.specs.declared.whole.Measured.{Measured}
-use Rattle.taking.specs.declared.whole.Measured.TheVariants.{Unread, Table}
 use Rattle.totals.specs.declared.Totals.{Totals}
 
 pub tag-high : (t : ℕ) → t ≡ 33 → HighFirst ≡ tag_order t
@@ -61,18 +62,18 @@ module _ {s : List ℕ} {tag len end : ℕ} (b : BodyIn (take_body (stands_as tr
 
 -- ── any two answers that the contract allows are the same ──
 
-pub measure-one : (r q : Measured) (s : List ℕ) → MeasuredAs r s → MeasuredAs q s → r ≡ q
-measure-one (Unread f) (Unread g) s h k =
+pub measure-one : (r q : Result Sections Fault) (s : List ℕ) → MeasuredAs r s → MeasuredAs q s → r ≡ q
+measure-one (Err f) (Err g) s h k =
     let same : unread (fault_number f) ≡ unread (fault_number g) = sym h ∙ k in
     let numbers : fault_number f ≡ fault_number g = cc in
-    ap Unread (fault-one f g numbers)
-measure-one (Unread f) (Table y) s h k = absurd (unread≢table (sym h ∙ k.reads))
-measure-one (Table x) (Unread g) s h k = absurd (unread≢table (sym k ∙ h.reads))
-measure-one (Table x) (Table y) s h k =
+    ap Err (fault-one f g numbers)
+measure-one (Err f) (Ok y) s h k = absurd (unread≢table (sym h ∙ k.reads))
+measure-one (Ok x) (Err g) s h k = absurd (unread≢table (sym k ∙ h.reads))
+measure-one (Ok x) (Ok y) s h k =
     let same : table x.order h.made ≡ table y.order k.made = sym h.reads ∙ k.reads in
     let orders : x.order ≡ y.order = cc in
     let tables : h.made ≡ k.made = cc in
     let strings = sym h.strings ∙ ap (λ (T : paper.Table). length T.strings) tables ∙ k.strings in
     let types = sym h.types ∙ ap count tables ∙ k.types in
     let bytes = sym h.bytes ∙ ap (λ (T : paper.Table). type_len_of T.records) tables ∙ k.bytes in
-    λ i. Table (record { order = orders i; strings = strings i; records = record { types = types i; bytes = bytes i } })
+    λ i. Ok (record { order = orders i; strings = strings i; records = record { types = types i; bytes = bytes i } })

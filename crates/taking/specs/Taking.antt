@@ -1,10 +1,9 @@
 -- What the functions that take a list's fields answer, in the terms of the definitions.
-use Rattle.std.specs.Prelude.{ℕ, ◌+◌, ◌*◌, ◌≤◌, ◌≡◌, Bool, true, false, List, [], length, take, drop}
+use Rattle.std.specs.Prelude.{ℕ, ◌+◌, ◌*◌, ◌≤◌, ◌≡◌, Bool, true, false, List, [], length, take, drop, Result, Ok, Err}
 use Rattle.std.proofs.Math.Option.{some}
 use Rattle.taking.specs.declared.bodies.Body.{Body}
-use Rattle.taking.specs.declared.bodies.Body.TheVariants as body
 use Rattle.taking.specs.declared.one.Field.{Field}
-use Rattle.taking.specs.declared.one.Field.TheVariants.{Bad, Taken}
+use Rattle.lists.specs.declared.Fault.{Fault}
 use Rattle.lists.specs.Kept.{fault_number}
 use Rattle.lists.specs.List.{field_most, is_string_tag, fault, taken, take_field, carried, take_body, RecordsRead, stop, in_front, on_body, record_of}
 use Rattle.lists.specs.List as list
@@ -14,19 +13,19 @@ use Rattle.paper.specs.rules.Walk.{known}
 
 -- ── a field ──
 
-abbrev pub field_as : Field → List ℕ → list.Taken
-field_as (Bad f) s = fault (fault_number f)
-field_as (Taken tag n) s = taken tag (take n (drop 3 s)) (drop (3 + n) s)
+abbrev pub field_as : Result Field Fault → List ℕ → list.Taken
+field_as (Err f) s = fault (fault_number f)
+field_as (Ok f) s = taken f.tag (take f.len (drop 3 s)) (drop (3 + f.len) s)
 
-abbrev pub field_length : Field → ℕ
-field_length (Bad f) = 0
-field_length (Taken tag n) = n
+abbrev pub field_length : Result Field Fault → ℕ
+field_length (Err f) = 0
+field_length (Ok f) = f.len
 
-abbrev pub field_end : Field → ℕ
-field_end (Bad f) = 0
-field_end (Taken tag n) = 3 + n
+abbrev pub field_end : Result Field Fault → ℕ
+field_end (Err f) = 0
+field_end (Ok f) = 3 + f.len
 
-pub record FieldOf (r : Field) (s : List ℕ) : Type 0 where
+pub record FieldOf (r : Result Field Fault) (s : List ℕ) : Type 0 where
   pub is : take_field s ≡ field_as r s
   pub few : field_length r ≤ field_most
   pub inside : field_end r ≤ length s
@@ -46,9 +45,9 @@ pub record BodyIn (x : list.Taken) (s : List ℕ) (tag len end : ℕ) : Type 0 w
   pub inside : end ≤ length s
   pub above : 3 + len ≤ end
 
-abbrev pub BodyAs : Body → list.Taken → List ℕ → Type 0
-BodyAs (body.Bad f) x s = x ≡ fault (fault_number f)
-BodyAs (body.Whole tag len end) x s = BodyIn x s tag len end
+abbrev pub BodyAs : Result Body Fault → list.Taken → List ℕ → Type 0
+BodyAs (Err f) x s = x ≡ fault (fault_number f)
+BodyAs (Ok b) x s = BodyIn x s b.tag b.len b.end
 
 -- what is taken where the first field has this tag and so many bytes
 abbrev pub carried_from : List ℕ → ℕ → ℕ → list.Taken
@@ -76,6 +75,6 @@ pub record RecordIn (order : Order) (s : List ℕ) (len end : ℕ) : Type 0 wher
   pub inside : end ≤ length s
   pub above : 3 + len ≤ end
 
-abbrev pub RecordAs : Body → Order → List ℕ → Type 0
-RecordAs (body.Bad f) order s = RecordBad order s (fault_number f)
-RecordAs (body.Whole tag len end) order s = RecordIn order s len end
+abbrev pub RecordAs : Result Body Fault → Order → List ℕ → Type 0
+RecordAs (Err f) order s = RecordBad order s (fault_number f)
+RecordAs (Ok b) order s = RecordIn order s b.len b.end

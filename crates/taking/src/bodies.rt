@@ -3,17 +3,18 @@ ghost use Rattle.std.specs.Prelude.{◌≡◌};
 ghost use Rattle.taking.specs.Taking.{BodyAs, CarryAsk, carried_from, stands_as};
 ghost use Rattle.lists.specs.List.{take_body};
 
-use crate::one::{CARRY, Field, is_string_tag, take_field};
+use crate::one::{CARRY, is_string_tag, take_field};
 use lists::Fault;
 use rows::is_known;
 
 const MOST: usize = 65535;
 
-// What some bytes begin with: a fault, or the tag of a body, how many bytes it has, and where its last field ends.
+// The tag of a body, how many bytes it has, and where its last field ends.
 #[derive(Clone, Copy)]
-pub(crate) enum Body {
-    Bad(Fault),
-    Whole(u32, usize, usize),
+pub(crate) struct Body {
+    pub(crate) tag: u32,
+    pub(crate) len: usize,
+    pub(crate) end: usize,
 }
 
 // Whether a body of this tag may stand here: a string section's, or a record's.
@@ -27,40 +28,33 @@ fn stands(strings: bool, tag: u32) -> bool
 }
 
 // The fields behind the first of a body, which has so many bytes.
-fn carry(s: &[u8], tag: u32, first: usize) -> Body
+fn carry(s: &[u8], tag: u32, first: usize) -> Result<Body, Fault>
     requires { CarryAsk s.now first }
     ensures { BodyAs result (carried_from s.now tag first) s.now }
 {
     let mut last = first;
     let mut len = first;
     let mut end = 3 + first;
+    // A while: a full field says that another follows, and nothing says how many.
     while last == MOST {
-        match take_field(&s[end..]) {
-            Field::Bad(f) => return Body::Bad(f),
-            Field::Taken(t, n) => {
-                if t != CARRY {
-                    return Body::Bad(Fault::OutOfPlace);
-                }
-                last = n;
-                len += n;
-                end += 3 + n;
-            }
+        let next = take_field(&s[end..])?;
+        if next.tag != CARRY {
+            return Err(Fault::OutOfPlace);
         }
+        last = next.len;
+        len += last;
+        end += 3 + last;
     }
-    Body::Whole(tag, len, end)
+    Ok(Body { tag, len, end })
 }
 
 // A whole body: 50 or 51 of a field, or 52 of its tag, whichever comes first.
-pub(crate) fn take_body(strings: bool, s: &[u8]) -> Body
+pub(crate) fn take_body(strings: bool, s: &[u8]) -> Result<Body, Fault>
     ensures { BodyAs result (take_body (stands_as strings) s.now) s.now }
 {
-    match take_field(s) {
-        Field::Bad(f) => Body::Bad(f),
-        Field::Taken(tag, first) => {
-            if !stands(strings, tag) {
-                return Body::Bad(Fault::OutOfPlace);
-            }
-            carry(s, tag, first)
-        }
+    let first = take_field(s)?;
+    if !stands(strings, first.tag) {
+        return Err(Fault::OutOfPlace);
     }
+    carry(s, first.tag, first.len)
 }

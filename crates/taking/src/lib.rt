@@ -6,4 +6,4 @@ mod bodies; // a body, in as many fields as it takes
 mod records; // a record's body
 mod whole; // the string section, then every record
 
-pub use whole::{Measured, Sections, measure};
+pub use whole::{Sections, measure};

@@ -8,11 +8,11 @@ use rows::is_known;
 
 pub(crate) const CARRY: u32 = 127;
 
-// What some bytes begin with: a fault, or a tag and the length of its body, which stands behind three bytes.
+// A tag and the length of its body, which stands behind three bytes.
 #[derive(Clone, Copy)]
-pub(crate) enum Field {
-    Bad(Fault),
-    Taken(u32, usize),
+pub(crate) struct Field {
+    pub(crate) tag: u32,
+    pub(crate) len: usize,
 }
 
 // A string section's tag.
@@ -25,32 +25,26 @@ pub(crate) fn is_string_tag(tag: u32) -> bool
 fn is_tag(tag: u32) -> bool
     ensures { result ≡ is_tag tag }
 {
-    if is_known(tag) {
-        return true;
-    }
-    if is_string_tag(tag) {
-        return true;
-    }
-    tag == CARRY
+    is_known(tag) | is_string_tag(tag) | (tag == CARRY)
 }
 
 // 50 is asked before 51: an unknown tag that is also cut short is an unknown tag.
-pub(crate) fn take_field(s: &[u8]) -> Field
+pub(crate) fn take_field(s: &[u8]) -> Result<Field, Fault>
     ensures { FieldOf result s.now }
 {
     if s.len() == 0 {
-        return Field::Bad(Fault::CutShort);
+        return Err(Fault::CutShort);
     }
     let tag = s[0] as u32;
     if !is_tag(tag) {
-        return Field::Bad(Fault::UnknownTag);
+        return Err(Fault::UnknownTag);
     }
     if s.len() < 3 {
-        return Field::Bad(Fault::CutShort);
+        return Err(Fault::CutShort);
     }
     let len = s[1] as usize + s[2] as usize * 256;
     if s.len() - 3 < len {
-        return Field::Bad(Fault::CutShort);
+        return Err(Fault::CutShort);
     }
-    Field::Taken(tag, len)
+    Ok(Field { tag, len })
 }

@@ -7,24 +7,20 @@ use paper::{Order, Place};
 use rows::{kind_of, tail_words};
 
 // By its info word, which is in the first field: a field that is not the last has more bytes than a head.
-pub(crate) fn take_record(order: Order, s: &[u8]) -> Body
+pub(crate) fn take_record(order: Order, s: &[u8]) -> Result<Body, Fault>
     ensures { RecordAs result order s.now }
 {
-    match take_body(false, s) {
-        Body::Bad(f) => Body::Bad(f),
-        Body::Whole(tag, len, end) => {
-            if len < 12 {
-                return Body::Bad(Fault::OutOfPlace);
-            }
-            let info = words::read(order, &s[3..], Place(4));
-            if kind_of(info) != tag {
-                return Body::Bad(Fault::OutOfPlace);
-            }
-            let size = 12 + 4 * tail_words(info) as usize;
-            if len != size {
-                return Body::Bad(Fault::OutOfPlace);
-            }
-            Body::Whole(tag, len, end)
-        }
+    let body = take_body(false, s)?;
+    if body.len < 12 {
+        return Err(Fault::OutOfPlace);
     }
+    let info = words::read(order, &s[3..], Place(4));
+    if kind_of(info) != body.tag {
+        return Err(Fault::OutOfPlace);
+    }
+    let size = 12 + 4 * tail_words(info) as usize;
+    if body.len != size {
+        return Err(Fault::OutOfPlace);
+    }
+    Ok(body)
 }

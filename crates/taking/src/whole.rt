@@ -3,7 +3,7 @@ ghost use Rattle.std.specs.Prelude.{◌≡◌};
 ghost use Rattle.lists.specs.List.{tag_order};
 ghost use Rattle.taking.specs.Measuring.{CountedAs, MeasuredAs};
 
-use crate::bodies::{Body, take_body};
+use crate::bodies::take_body;
 use crate::records::take_record;
 use lists::Fault;
 use paper::Order;
@@ -17,20 +17,6 @@ pub struct Sections {
     pub records: Totals,
 }
 
-// What a list is read as: 50 to 52, or a table.
-#[derive(Clone, Copy)]
-pub enum Measured {
-    Unread(Fault),
-    Table(Sections),
-}
-
-// What some bytes are read as: 50 to 52, or so many records.
-#[derive(Clone, Copy)]
-pub(crate) enum Counted {
-    Bad(Fault),
-    All(Totals),
-}
-
 // The order that a string section's tag says.
 fn tag_order(tag: u32) -> Order
     ensures { result ≡ tag_order tag }
@@ -42,39 +28,31 @@ fn tag_order(tag: u32) -> Order
 }
 
 // The records, to the end of the bytes.
-fn count_records(order: Order, s: &[u8]) -> Counted
+fn count_records(order: Order, s: &[u8]) -> Result<Totals, Fault>
     ensures { CountedAs result order s.now }
 {
     let mut totals = Totals { types: 0, bytes: 0 };
     let mut p = 0;
+    // A while: each record says where the next begins, so there is no count to go over.
     while p < s.len() {
-        match take_record(order, &s[p..]) {
-            Body::Bad(f) => return Counted::Bad(f),
-            Body::Whole(_, len, end) => {
-                totals = after(totals, len);
-                p += end;
-            }
-        }
+        let record = take_record(order, &s[p..])?;
+        totals = after(totals, record.len);
+        p += record.end;
     }
-    Counted::All(totals)
+    Ok(totals)
 }
 
 // Any bytes: "the first field at fault speaks (for a body its last), by its smallest number".
-pub fn measure(s: &[u8]) -> Measured
+pub fn measure(s: &[u8]) -> Result<Sections, Fault>
     ensures { MeasuredAs result s.now }
 {
-    match take_body(true, s) {
-        Body::Bad(f) => Measured::Unread(f),
-        Body::Whole(tag, strings, end) => {
-            let order = tag_order(tag);
-            match count_records(order, &s[end..]) {
-                Counted::Bad(f) => Measured::Unread(f),
-                Counted::All(records) => Measured::Table(Sections {
-                    order,
-                    strings,
-                    records,
-                }),
-            }
-        }
-    }
+    let body = take_body(true, s)?;
+    let order = tag_order(body.tag);
+    let records = count_records(order, &s[body.end..])?;
+    let strings = body.len;
+    Ok(Sections {
+        order,
+        strings,
+        records,
+    })
 }

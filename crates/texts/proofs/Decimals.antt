@@ -12,24 +12,24 @@ use lib.Seq.{drop-cons, drop-length}
 use Rattle.paper.proofs.basics.Choices.{and-false}
 use Rattle.paper.specs.rules.Name.{is_digit}
 use Rattle.texts.specs.Decimal.{are_digits, value_from, number_of}
-use Rattle.texts.specs.declared.numbers.Number.TheVariants.{Is, Not}
+use Rattle.std.specs.Prelude.{None, Some}
 
 -- ── each way that a reading ends ──
 
-pub number-empty : (s : List ℕ) → length s ≡ 0 → Not ≡ number_of s
+pub number-empty : (s : List ℕ) → length s ≡ 0 → None ≡ number_of s
 unfolding number_of are_digits
 number-empty [] e = refl
 number-empty (c ∷ s) e = absurd (omega (arith, e))
 
-number-stray : (s : List ℕ) → are_digits s ≡ false → Not ≡ number_of s
+number-stray : (s : List ℕ) → are_digits s ≡ false → None ≡ number_of s
 unfolding number_of
 number-stray s e = rw e refl
 
-number-large : (s : List ℕ) → 4294967296 ≤ value_from 0 s → Not ≡ number_of s
+number-large : (s : List ℕ) → 4294967296 ≤ value_from 0 s → None ≡ number_of s
 unfolding number_of
 number-large s h = rw (le-ltb _ _ h, and-false) refl
 
-number_is : (s : List ℕ) → are_digits s ≡ true → 0 < length s → value_from 0 s < 4294967296 → Is (value_from 0 s) ≡ number_of s
+number_is : (s : List ℕ) → are_digits s ≡ true → 0 < length s → value_from 0 s < 4294967296 → Some (value_from 0 s) ≡ number_of s
 unfolding number_of
 number_is [] e k h = absurd (omega arith)
 number_is (c ∷ s) e k h = rw (e, lt-ltb _ _ h) refl
@@ -56,16 +56,16 @@ reading-start s h =
 
 module _ {s : List ℕ} {value i : ℕ} (g : Reading s value i) (h : i < length s) where
   -- a byte that is no digit
-  stray : is_digit (get_or s i 0) ≡ false → Not ≡ number_of s
+  stray : is_digit (get_or s i 0) ≡ false → None ≡ number_of s
   unfolding are_digits
   stray e =
       number-stray s (sym g.digits ∙ rw (drop-cons s i 0 h, e) refl)
 
-  pub reading-low : get_or s i 0 < 48 → Not ≡ number_of s
+  pub reading-low : get_or s i 0 < 48 → None ≡ number_of s
   unfolding is_digit
   reading-low k = stray (rw (lt-leb 48 (get_or s i 0) k) refl)
 
-  pub reading-high : 48 ≤ get_or s i 0 → 57 < get_or s i 0 → Not ≡ number_of s
+  pub reading-high : 48 ≤ get_or s i 0 → 57 < get_or s i 0 → None ≡ number_of s
   unfolding is_digit
   reading-high l k = stray (rw (le-leb 48 (get_or s i 0) l, lt-leb (get_or s i 0) 57 k) refl)
 
@@ -74,7 +74,7 @@ module _ {s : List ℕ} {value i : ℕ} (g : Reading s value i) (h : i < length 
   unfolding value_from
   more = rw add-one (rw (drop-cons s i 0 h) at g.comes)
 
-  pub reading-large : 4294967295 < value * 10 + (get_or s i 0 - 48) → Not ≡ number_of s
+  pub reading-large : 4294967295 < value * 10 + (get_or s i 0 - 48) → None ≡ number_of s
   reading-large k = number-large s (omega (arith, k, more, value_from-grows (value * 10 + (get_or s i 0 - 48)) (drop (i + 1) s)))
 
   pub reading-next : 48 ≤ get_or s i 0 → get_or s i 0 ≤ 57 → value * 10 + (get_or s i 0 - 48) ≤ 4294967295 → Reading s (value * 10 + (get_or s i 0 - 48)) (i + 1)
@@ -88,10 +88,10 @@ module _ {s : List ℕ} {value i : ℕ} (g : Reading s value i) (h : i < length 
         digits = rw add-one (rw (drop-cons s i 0 h, le-leb 48 (get_or s i 0) l, le-leb (get_or s i 0) 57 k) at g.digits);
       }
 
-pub reading-done : {s : List ℕ} {value i : ℕ} → Reading s value i → length s ≤ i → Is value ≡ number_of s
+pub reading-done : {s : List ℕ} {value i : ℕ} → Reading s value i → length s ≤ i → Some value ≡ number_of s
 unfolding are_digits value_from
 reading-done {s} {value} {i} g h =
     let all : i ≡ length s = omega (arith, g.inside) in
     let v : value ≡ value_from 0 s = rw (all, drop-length) at g.comes in
     let d : true ≡ are_digits s = rw (all, drop-length) at g.digits in
-    ap Is v ∙ number_is s (sym d) g.some (omega (arith, v, g.small))
+    ap Some v ∙ number_is s (sym d) g.some (omega (arith, v, g.small))

@@ -1,44 +1,48 @@
 -- Laws of `Line`: how far a line's bytes are passed, and how many lines.
 -- Assumes nothing.
-use Prim.Native.Nat.{ℕ, suc, ◌+◌, ◌-◌, ◌<◌, ◌≤◌}
+use Prim.Native.Nat.{ℕ, zero, suc, ◌+◌, ◌-◌, ◌<◌, ◌≤◌}
 use mathlib.Core.Path.{◌≡◌, refl, sym, ap, ◌∙◌}
 use mathlib.Core.Bool.{Bool, true, false, cond}
 use mathlib.Core.List.{List, [], ◌∷◌}
-use native.Mathlib.Numerals.{add-one}
 use native.Mathlib.Omega.{arith}
 use borrow.Author.Tests.{eq-eqb, ne_eqb}
 use lib.Dec.{eqb}
 use lib.ListN.{length, get_or, take, drop, length-drop, drop_of_length-le}
-use lib.Seq.{drop-cons, drop-drop}
+use lib.Seq.{drop-drop}
+use Rattle.paper.proofs.bytes.Bytes.{part-rest}
 use Rattle.texts.specs.Line.{first_line, after_line, after_lines, EndOf, StartOf}
 
 -- ── a line's bytes ──
 
--- so far no byte is a newline: the line ends where it ended
-pub record Passing (s : List ℕ) (from at : ℕ) : Type 0 where
-  pub inside : at ≤ length s
-  pub ends : at + length (first_line (drop at s)) ≡ from + length (first_line (drop from s))
+-- the first newline is where a line ends
+first_line-found : (s : List ℕ) (n : ℕ) → n < length s → get_or s n 0 ≡ 10 → ((k : ℕ) → k < n → get_or s k 0 ≡ 10 → ⊥) → length (first_line s) ≡ n
+unfolding first_line
+first_line-found [] n h e before = absurd (omega arith)
+first_line-found (c ∷ s) zero h e before = rw (eq-eqb c 10 e) refl
+first_line-found (c ∷ s) (suc n) h e before =
+    rw (ne_eqb c 10 (before zero (omega arith)))
+    (ap suc (first_line-found s n (omega arith) e (λ k l. before (suc k) (omega arith))))
 
-pub passing-start : (s : List ℕ) (from : ℕ) → from ≤ length s → Passing s from from
-passing-start s from h = record { inside = h; ends = refl }
+-- without one, all bytes are one line
+first_line-all : (s : List ℕ) → ((k : ℕ) → k < length s → get_or s k 0 ≡ 10 → ⊥) → length (first_line s) ≡ length s
+unfolding first_line
+first_line-all [] before = refl
+first_line-all (c ∷ s) before =
+    rw (ne_eqb c 10 (before zero (omega arith))) (ap suc (first_line-all s (λ k l. before (suc k) (omega arith))))
 
-module _ {s : List ℕ} {from at : ℕ} (g : Passing s from at) where
-  ended : length (first_line (drop at s)) ≡ 0 → EndOf s from at
-  ended e = record { inside = g.inside; ends = omega (arith, g.ends, e) }
+module _ {s : List ℕ} {from : ℕ} (h : from ≤ length s) where
+  pub end-found : {r : List ℕ} {n : ℕ} → get_or r n 0 ≡ 10 → n < length r → ((k : ℕ) → k < n → get_or r k 0 ≡ 10 → ⊥) → r ≡ take (length s - from) (drop from s)
+      → EndOf s from (from + n)
+  end-found {r} {n} e l before is =
+      let rest : r ≡ drop from s = is ∙ part-rest s from in
+      let ended : length (first_line (drop from s)) ≡ n = ap (λ (t : List ℕ). length (first_line t)) (sym rest) ∙ first_line-found r n l e before in
+      record { inside = omega (arith, length-drop from s, ap length rest); ends = ap (λ (k : ℕ). from + k) (sym ended) }
 
-  pub passing-newline : at < length s → get_or s at 0 ≡ 10 → EndOf s from at
-  unfolding first_line
-  passing-newline h e = ended (rw (drop-cons s at 0 h, eq-eqb (get_or s at 0) 10 e) refl)
-
-  pub passing-next : at < length s → (get_or s at 0 ≡ 10 → ⊥) → Passing s from (at + 1)
-  unfolding first_line
-  passing-next h e =
-      let more : length (first_line (drop at s)) ≡ suc (length (first_line (drop (suc at) s))) = rw (drop-cons s at 0 h, ne_eqb (get_or s at 0) 10 e) refl in
-      record { inside = omega arith; ends = rw add-one (omega (arith, g.ends, more)) }
-
-  pub passing-done : length s ≤ at → EndOf s from at
-  unfolding first_line
-  passing-done h = ended (rw (drop_of_length-le s h) refl)
+  pub end-last : {r : List ℕ} → ((k : ℕ) → k < length r → get_or r k 0 ≡ 10 → ⊥) → r ≡ take (length s - from) (drop from s) → EndOf s from (length s)
+  end-last {r} before is =
+      let rest : r ≡ drop from s = is ∙ part-rest s from in
+      let ended : length (first_line (drop from s)) ≡ length r = ap (λ (t : List ℕ). length (first_line t)) (sym rest) ∙ first_line-all r before in
+      record { inside = omega arith; ends = omega (arith, length-drop from s, ap length rest, ended) }
 
 -- ── lines ──
 

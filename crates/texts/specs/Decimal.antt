@@ -1,9 +1,7 @@
 -- Which number bytes spell in decimal: digits alone, at least one, and a value that 32 bits hold.
-use Rattle.std.specs.Prelude.{ℕ, ◌+◌, ◌*◌, ◌-◌, Bool, true, cond, not, ◌&&◌, List, [], ◌∷◌, ltb}
+use Rattle.std.specs.Prelude.{ℕ, ◌+◌, ◌*◌, ◌-◌, Bool, true, cond, not, ◌&&◌, List, [], ◌∷◌, Option, None, Some, ltb}
 use Rattle.paper.specs.rules.Choice.{is_empty}
 use Rattle.paper.specs.rules.Name.{is_digit}
-use Rattle.texts.specs.declared.numbers.Number.{Number}
-use Rattle.texts.specs.declared.numbers.Number.TheVariants.{Is, Not}
 
 unfoldable pub are_digits : List ℕ → Bool
 are_digits [] = true
@@ -14,5 +12,5 @@ unfoldable pub value_from : ℕ → List ℕ → ℕ
 value_from v [] = v
 value_from v (c ∷ s) = value_from (v * 10 + (c - 48)) s
 
-unfoldable pub number_of : List ℕ → Number
-number_of s = cond (are_digits s && not (is_empty s) && ltb (value_from 0 s) 4294967296) (Is (value_from 0 s)) Not
+unfoldable pub number_of : List ℕ → Option ℕ
+number_of s = cond (are_digits s && not (is_empty s) && ltb (value_from 0 s) 4294967296) (Some (value_from 0 s)) None

@@ -4,5 +4,5 @@
 mod numbers; // a decimal argument
 mod pieces; // a line of a text, the first bytes of some
 
-pub use numbers::{Number, parse};
+pub use numbers::parse;
 pub use pieces::{first_of, line};

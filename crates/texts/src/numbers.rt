@@ -2,34 +2,26 @@
 ghost use Rattle.std.specs.Prelude.{◌≡◌};
 ghost use Rattle.texts.specs.Decimal.{number_of};
 
-#[derive(Clone, Copy)]
-pub enum Number {
-    Is(u32),
-    Not,
-}
-
-// The number that the bytes spell in decimal.
-pub fn parse(s: &[u8]) -> Number
+// The number that the bytes spell in decimal; none where they spell no such number.
+pub fn parse(s: &[u8]) -> Option<u32>
     ensures { result ≡ number_of s.now }
 {
     if s.len() == 0 {
-        return Number::Not;
+        return None;
     }
     let mut value: u64 = 0;
-    let mut i = 0;
-    while i < s.len() {
-        let c = s[i];
+    for c in s {
+        let c = *c;
         if c < 48 {
-            return Number::Not;
+            return None;
         }
         if 57 < c {
-            return Number::Not;
+            return None;
         }
         value = value * 10 + ((c - 48) as u64);
         if 4294967295 < value {
-            return Number::Not;
+            return None;
         }
-        i += 1;
     }
-    Number::Is(value as u32)
+    Some(value as u32)
 }

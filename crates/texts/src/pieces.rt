@@ -1,22 +1,26 @@
 // A text of several lines, of which one is picked by its number. A match whose arms each write would say the same, and is
 // proved in ten times the time.
-ghost use Rattle.std.specs.Prelude.{◌≤◌, length};
+ghost use Rattle.std.specs.Prelude.{◌≡◌, ◌≢◌, ℕ, ◌<◌, ◌≤◌, length, slice_index, MatchOption};
 ghost use Rattle.texts.specs.First.{FirstOf};
 ghost use Rattle.texts.specs.Line.{EndOf, LineOf, StartOf};
+
+// The first newline of some bytes.
+fn newline_in(s: &[u8]) -> Option<usize>
+    ensures found { MatchOption result ((k : ℕ) → k < length s.now → slice_index s.now k ≢ 10) (λ n. slice_index s.now n ≡ 10) }
+    ensures first { MatchOption result (Unit {0}) (λ n. (n < length s.now) × ((k : ℕ) → k < n → slice_index s.now k ≢ 10)) }
+{
+    s.iter().position(|c| *c == b'\n')
+}
 
 // Where the line that a place stands in ends.
 fn line_end(s: &[u8], from: usize) -> usize
     requires { from ≤ length s.now }
     ensures { EndOf s.now from result }
 {
-    let mut at = from;
-    while at < s.len() {
-        if s[at] == b'\n' {
-            return at;
-        }
-        at += 1;
+    match newline_in(&s[from..]) {
+        Some(n) => from + n,
+        None => s.len(),
     }
-    at
 }
 
 // Where a line begins, counted from 0; the end where there are fewer.
@@ -24,13 +28,11 @@ fn line_start(s: &[u8], k: u32) -> usize
     ensures { StartOf s.now k result }
 {
     let mut at = 0;
-    let mut i: u32 = 0;
-    while i < k {
+    for _ in 0..k {
         at = line_end(s, at);
         if at < s.len() {
             at += 1;
         }
-        i += 1;
     }
     at
 }

@@ -1,8 +1,8 @@
 // `--base BASE`, which may stand as the last two words of a call.
-use crate::arguments::{Arg, argument, is_word, last, word_from};
+use crate::arguments::{argument, is_word, last, word_from};
 
-// The first argument from a place on that is `--base`; the count of all where none is.
-pub(crate) fn flag_from(rt: &HostRuntime, from: usize, count: usize) -> usize {
+// The first argument from a place on that is `--base`.
+pub(crate) fn flag_from(rt: &HostRuntime, from: usize, count: usize) -> Option<usize> {
     word_from(rt, b"--base", from, count)
 }
 
@@ -22,20 +22,14 @@ pub(crate) fn is_last(rt: &HostRuntime, flag: usize, count: usize) -> bool {
     !is_no_name(rt, last(rt))
 }
 
-// The name of the base's file; no bytes where there is no base.
-pub(crate) fn base_word(rt: &HostRuntime, s: &mut [u8]) -> Arg {
+// The name of the base's file, if it is there as a whole; no bytes where there is no base.
+pub(crate) fn base_word(rt: &HostRuntime, s: &mut [u8]) -> Option<usize> {
     let i = last(rt);
     if i == 0 {
-        return Arg {
-            n: 0,
-            is_whole: true,
-        };
+        return Some(0);
     }
     if !is_word(rt, i - 1, b"--base") {
-        return Arg {
-            n: 0,
-            is_whole: true,
-        };
+        return Some(0);
     }
     argument(rt, i, s)
 }

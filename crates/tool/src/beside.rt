@@ -3,7 +3,7 @@ use crate::arguments::{are_whole, is_word, place};
 use extwords::ext_files;
 use files::{Status, arg, arg_count};
 use texts::first_of;
-use wrongs::{NO_SHOW, TWO_BESIDE, wrong_at};
+use wrongs::{Wrong, wrong_at};
 
 fn ext_named(rt: &HostRuntime, first: u32, is_shown: bool) -> Status {
     let mut table = [0u8; 4096];
@@ -25,14 +25,14 @@ pub(crate) fn ext_call(rt: &HostRuntime, first: u32, behind: usize) -> Status {
     }
     if is_word(rt, place(first, 1), b"-") {
         if is_word(rt, place(first, 2), b"-") {
-            return wrong_at(rt, place(first, 2), TWO_BESIDE);
+            return wrong_at(rt, place(first, 2), Wrong::TwoBeside);
         }
     }
     if behind < 3 {
         return ext_named(rt, first, false);
     }
     if !is_word(rt, place(first, 3), b"--show") {
-        return wrong_at(rt, place(first, 3), NO_SHOW);
+        return wrong_at(rt, place(first, 3), Wrong::NoShow);
     }
     ext_named(rt, first, true)
 }

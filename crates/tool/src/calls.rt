@@ -10,11 +10,8 @@ use crate::verbs::{Verb, is_of_one, least, most, too_few, too_many, verb_at};
 use asks::{Ask, ask_file};
 use files::{Status, arg_count};
 use std::process::ExitCode;
-use texts::{Number, first_of};
-use wrongs::{
-    NO_BASE, NO_OFFSET, NO_TYPE, NO_TYPE_NAME, NOT_BASED, TWO_BASES, UNKNOWN, help, no_words,
-    wrong_at,
-};
+use texts::first_of;
+use wrongs::{Wrong, help, no_words, wrong_at};
 
 // The descriptor on which the launcher waits for the status.
 const STATUS: i32 = 3;
@@ -24,17 +21,14 @@ const GONE: u8 = 141;
 
 // How many words there are from the verb on.
 fn words_from(first: u32, count: usize) -> usize {
-    if count < first as usize {
-        return 0;
-    }
-    count - first as usize
+    count.saturating_sub(first as usize)
 }
 
 // A question about the table in a file, and in its base's where it has one. Standard input can be read once.
 fn ask_of_files(rt: &HostRuntime, ask: Ask, file: &[u8], base: &[u8], name: &[u8]) -> Status {
     if check::same(file, b"-") {
         if check::same(base, b"-") {
-            return wrong_at(rt, last(rt), TWO_BASES);
+            return wrong_at(rt, last(rt), Wrong::TwoBases);
         }
     }
     ask_file(rt, ask, file, base, name)
@@ -44,21 +38,12 @@ fn ask_of_files(rt: &HostRuntime, ask: Ask, file: &[u8], base: &[u8], name: &[u8
 fn ask_by(rt: &HostRuntime, ask: Ask, i: usize, name: &[u8]) -> Status {
     let mut s = [0u8; 4096];
     let mut base = [0u8; 4096];
-    let arg = argument(rt, i, &mut s);
-    let base_arg = base_word(rt, &mut base);
-    if !arg.is_whole {
+    let file_n = argument(rt, i, &mut s);
+    let base_n = base_word(rt, &mut base); // what is wrong with either is told
+    let (Some(n), Some(m)) = (file_n, base_n) else {
         return Status::Failed;
-    }
-    if !base_arg.is_whole {
-        return Status::Failed;
-    }
-    ask_of_files(
-        rt,
-        ask,
-        first_of(&s, arg.n),
-        first_of(&base, base_arg.n),
-        name,
-    )
+    };
+    ask_of_files(rt, ask, first_of(&s, n), first_of(&base, m), name)
 }
 
 fn ask_at(rt: &HostRuntime, ask: Ask, i: usize) -> Status {
@@ -69,14 +54,13 @@ fn ask_at(rt: &HostRuntime, ask: Ask, i: usize) -> Status {
 fn ask_named(rt: &HostRuntime, first: u32) -> Status {
     let mut s = [0u8; 4096];
     let i = place(first, 2);
-    let arg = argument(rt, i, &mut s);
-    if !arg.is_whole {
+    let Some(n) = argument(rt, i, &mut s) else {
         return Status::Failed;
+    };
+    if n == 0 {
+        return wrong_at(rt, i, Wrong::NoTypeName);
     }
-    if arg.n == 0 {
-        return wrong_at(rt, i, NO_TYPE_NAME);
-    }
-    ask_by(rt, Ask::Named, place(first, 1), first_of(&s, arg.n))
+    ask_by(rt, Ask::Named, place(first, 1), first_of(&s, n))
 }
 
 // What a verb asks of a table, with a number.
@@ -92,20 +76,20 @@ fn ask_of(verb: Verb, n: u32) -> Ask {
 fn no_number(rt: &HostRuntime, verb: Verb, first: u32) -> Status {
     match verb {
         Verb::Show => ask_named(rt, first),
-        Verb::Name => wrong_at(rt, place(first, 2), NO_OFFSET),
-        _ => wrong_at(rt, place(first, 2), NO_TYPE),
+        Verb::Name => wrong_at(rt, place(first, 2), Wrong::NoOffset),
+        _ => wrong_at(rt, place(first, 2), Wrong::NoType),
     }
 }
 
 // A verb with a file and a number behind it.
 fn ask_numbered(rt: &HostRuntime, verb: Verb, first: u32) -> Status {
     match number_at(rt, place(first, 2)) {
-        Number::Is(n) => ask_at(rt, ask_of(verb, n), place(first, 1)),
-        Number::Not => no_number(rt, verb, first),
+        Some(n) => ask_at(rt, ask_of(verb, n), place(first, 1)),
+        None => no_number(rt, verb, first),
     }
 }
 
-// A verb with as many words behind it as it may have.
+// A verb with as many words behind it as it may have. A match and no table of functions: each verb reads its words in its own way.
 fn call_by(rt: &HostRuntime, verb: Verb, first: u32, behind: usize) -> Status {
     match verb {
         Verb::Check => ask_at(rt, Ask::Check, place(first, 1)),
@@ -124,15 +108,11 @@ fn call_by(rt: &HostRuntime, verb: Verb, first: u32, behind: usize) -> Status {
         Verb::Ext => ext_call(rt, first, behind),
         Verb::Read => read_call(rt, first, behind),
         Verb::Help => help(),
-        Verb::Unknown => wrong_at(rt, place(first, 0), UNKNOWN),
     }
 }
 
 // A verb with so many words behind it.
 fn call_with(rt: &HostRuntime, verb: Verb, first: u32, behind: usize) -> Status {
-    if let Verb::Unknown = verb {
-        return wrong_at(rt, place(first, 0), UNKNOWN);
-    }
     if behind < least(verb) {
         return wrong_at(rt, place(first, 0), too_few(verb));
     }
@@ -151,17 +131,14 @@ fn call_based(
     flag: usize,
     count: usize,
 ) -> Status {
-    if let Verb::Unknown = verb {
-        return wrong_at(rt, place(first, 0), UNKNOWN);
-    }
     if !is_of_one(verb) {
-        return wrong_at(rt, flag, NOT_BASED);
+        return wrong_at(rt, flag, Wrong::NotBased);
     }
     if behind < 2 {
-        return wrong_at(rt, flag, NO_BASE);
+        return wrong_at(rt, flag, Wrong::NoBase);
     }
     if !is_last(rt, flag, count) {
-        return wrong_at(rt, flag, NO_BASE);
+        return wrong_at(rt, flag, Wrong::NoBase);
     }
     call_with(rt, verb, first, behind - 2)
 }
@@ -173,12 +150,13 @@ fn call(rt: &HostRuntime, first: u32) -> Status {
     if given == 0 {
         return no_words();
     }
-    let verb = verb_at(rt, place(first, 0));
-    let flag = flag_from(rt, place(first, 1), count);
-    if flag < count {
-        return call_based(rt, verb, first, given - 1, flag, count);
+    let Some(verb) = verb_at(rt, place(first, 0)) else {
+        return wrong_at(rt, place(first, 0), Wrong::Unknown);
+    };
+    match flag_from(rt, place(first, 1), count) {
+        Some(flag) => call_based(rt, verb, first, given - 1, flag, count),
+        None => call_with(rt, verb, first, given - 1),
     }
-    call_with(rt, verb, first, given - 1)
 }
 
 // One digit on a descriptor of the launcher's stands for the status. None does where nobody reads the output any more.

@@ -2,8 +2,8 @@
 use crate::arguments::{are_whole, is_word, number_at, place};
 use apart::{Cut, cut_files};
 use files::{Modes, Status, arg, arg_count};
-use texts::{Number, first_of};
-use wrongs::{NO_COUNT, NO_LENGTH, NO_OUTS, ONE_OUT, TWO_TABLES, wrong_at};
+use texts::first_of;
+use wrongs::{Wrong, wrong_at};
 
 // Two arguments are one word.
 fn are_same(rt: &HostRuntime, i: usize, j: usize) -> bool {
@@ -13,15 +13,15 @@ fn are_same(rt: &HostRuntime, i: usize, j: usize) -> bool {
 }
 
 // A mode that the launcher asks for in front of the verb.
-fn mode_at(rt: &HostRuntime, i: usize) -> Number {
+fn mode_at(rt: &HostRuntime, i: usize) -> Option<u32> {
     if is_word(rt, 1, b"--status-modes") {
         return number_at(rt, i);
     }
-    Number::Not
+    None
 }
 
 // All words are right: JOINED, FIRST where it is cut like that, OUT1 and OUT2.
-fn cut_named(rt: &HostRuntime, verb: u32, cut: Cut) -> Status {
+fn cut_named(rt: &HostRuntime, verb: u32, cut: Option<Cut>) -> Status {
     let mut joined = [0u8; 4096];
     let mut like = [0u8; 4096];
     let mut one = [0u8; 4096];
@@ -49,17 +49,17 @@ fn cut_named(rt: &HostRuntime, verb: u32, cut: Cut) -> Status {
 fn cut_like(rt: &HostRuntime, verb: u32) -> Status {
     if is_word(rt, place(verb, 1), b"-") {
         if is_word(rt, place(verb, 3), b"-") {
-            return wrong_at(rt, place(verb, 3), TWO_TABLES);
+            return wrong_at(rt, place(verb, 3), Wrong::TwoTables);
         }
     }
-    cut_named(rt, verb, Cut::Like)
+    cut_named(rt, verb, None)
 }
 
 // Behind so many types.
 fn cut_behind(rt: &HostRuntime, verb: u32, types: u32) -> Status {
     match number_at(rt, place(verb, 3)) {
-        Number::Is(strings) => cut_named(rt, verb, Cut::At(types, strings)),
-        Number::Not => wrong_at(rt, place(verb, 3), NO_LENGTH),
+        Some(strings) => cut_named(rt, verb, Some(Cut { types, strings })),
+        None => wrong_at(rt, place(verb, 3), Wrong::NoLength),
     }
 }
 
@@ -68,8 +68,8 @@ fn cut_by(rt: &HostRuntime, verb: u32) -> Status {
         return cut_like(rt, verb);
     }
     match number_at(rt, place(verb, 2)) {
-        Number::Is(types) => cut_behind(rt, verb, types),
-        Number::Not => wrong_at(rt, place(verb, 2), NO_COUNT),
+        Some(types) => cut_behind(rt, verb, types),
+        None => wrong_at(rt, place(verb, 2), Wrong::NoCount),
     }
 }
 
@@ -79,13 +79,13 @@ pub(crate) fn cut_call(rt: &HostRuntime, verb: u32) -> Status {
         return Status::Failed;
     }
     if is_word(rt, place(verb, 4), b"-") {
-        return wrong_at(rt, place(verb, 4), NO_OUTS);
+        return wrong_at(rt, place(verb, 4), Wrong::NoOuts);
     }
     if is_word(rt, place(verb, 5), b"-") {
-        return wrong_at(rt, place(verb, 5), NO_OUTS);
+        return wrong_at(rt, place(verb, 5), Wrong::NoOuts);
     }
     if are_same(rt, place(verb, 4), place(verb, 5)) {
-        return wrong_at(rt, place(verb, 5), ONE_OUT);
+        return wrong_at(rt, place(verb, 5), Wrong::OneOut);
     }
     cut_by(rt, verb)
 }

@@ -2,7 +2,7 @@
 use crate::arguments::{are_whole, is_word, word_from};
 use files::{Status, arg_count};
 use joins::{Given, TABLES, join_files, out_of, word_of};
-use wrongs::{NO_OUT, ONE_INPUT, TWO_DASHES, wrong_at};
+use wrongs::{Wrong, wrong_at};
 
 // How many words stand behind `join` at most.
 pub(crate) const MOST: usize = TABLES as usize + 1;
@@ -18,20 +18,17 @@ fn tables_in(behind: usize) -> u32 {
     (behind - 1) as u32
 }
 
-// The second table that is standard input, which can be read once; the end where there is none.
-fn second_input(rt: &HostRuntime, from: usize, end: usize) -> usize {
-    let one = word_from(rt, b"-", from, end);
-    if one < end {
-        return word_from(rt, b"-", one + 1, end);
-    }
-    end
+// The second table that is standard input, which can be read once.
+fn second_input(rt: &HostRuntime, from: usize, end: usize) -> Option<usize> {
+    let one = word_from(rt, b"-", from, end)?;
+    word_from(rt, b"-", one + 1, end)
 }
 
 fn two_inputs(rt: &HostRuntime, i: usize, count: u32) -> Status {
     if count == 2 {
-        return wrong_at(rt, i, TWO_DASHES);
+        return wrong_at(rt, i, Wrong::TwoDashes);
     }
-    wrong_at(rt, i, ONE_INPUT)
+    wrong_at(rt, i, Wrong::OneInput)
 }
 
 // Standard input can be read once, and OUT is a file that is renamed.
@@ -42,13 +39,12 @@ fn join_given(rt: &HostRuntime, given: Given) -> Status {
         return Status::Failed;
     }
     if is_word(rt, out, b"-") {
-        return wrong_at(rt, out, NO_OUT);
+        return wrong_at(rt, out, Wrong::NoOut);
     }
-    let dash = second_input(rt, from, out);
-    if dash < out {
-        return two_inputs(rt, dash, given.count);
+    match second_input(rt, from, out) {
+        Some(dash) => two_inputs(rt, dash, given.count),
+        None => join_files(rt, given),
     }
-    join_files(rt, given)
 }
 
 // The tables behind the verb, which has so many words behind it.

@@ -3,28 +3,12 @@ use crate::arguments::{are_whole, is_word, place};
 use files::{Status, arg, arg_count};
 use keeps::{list_file, list_text_file, make_file, make_text_file};
 use texts::first_of;
-use wrongs::{NO_OUT, TOO_FEW, TOO_MANY, wrong_at};
-
-// A table is written out as its text, or a text is read back.
-fn keep_text(rt: &HostRuntime, file: &[u8], out: &[u8], is_back: bool) -> Status {
-    if is_back {
-        return make_text_file(rt, file, out);
-    }
-    list_text_file(rt, file, out)
-}
-
-// The same of a list.
-fn keep_list(rt: &HostRuntime, file: &[u8], out: &[u8], is_back: bool) -> Status {
-    if is_back {
-        return make_file(rt, file, out);
-    }
-    list_file(rt, file, out)
-}
+use wrongs::{Wrong, wrong_at};
 
 // What is read is the argument `i`, and OUT the argument `k`, a file that is renamed.
 fn keep_files(rt: &HostRuntime, i: usize, k: usize, is_back: bool, is_text: bool) -> Status {
     if is_word(rt, k, b"-") {
-        return wrong_at(rt, k, NO_OUT);
+        return wrong_at(rt, k, Wrong::NoOut);
     }
     let mut file = [0u8; 4096];
     let mut out = [0u8; 4096];
@@ -32,10 +16,13 @@ fn keep_files(rt: &HostRuntime, i: usize, k: usize, is_back: bool, is_text: bool
     let out_n = arg(rt, k, &mut out);
     let from = first_of(&file, file_n);
     let to = first_of(&out, out_n);
-    if is_text {
-        return keep_text(rt, from, to, is_back);
+    // Two flags: one verb and one word each say which file is read and how, and they are asked for here alone.
+    match (is_text, is_back) {
+        (true, true) => make_text_file(rt, from, to),
+        (true, false) => list_text_file(rt, from, to),
+        (false, true) => make_file(rt, from, to),
+        (false, false) => list_file(rt, from, to),
     }
-    keep_list(rt, from, to, is_back)
 }
 
 // Two words stand behind the verb, or three of which the first is --text.
@@ -45,12 +32,12 @@ pub(crate) fn keep_call(rt: &HostRuntime, verb: u32, behind: usize, is_back: boo
     }
     if is_word(rt, place(verb, 1), b"--text") {
         if behind < 3 {
-            return wrong_at(rt, place(verb, 0), TOO_FEW);
+            return wrong_at(rt, place(verb, 0), Wrong::TooFew);
         }
         return keep_files(rt, place(verb, 2), place(verb, 3), is_back, true);
     }
     if 2 < behind {
-        return wrong_at(rt, place(verb, 0), TOO_MANY);
+        return wrong_at(rt, place(verb, 0), Wrong::TooMany);
     }
     keep_files(rt, place(verb, 1), place(verb, 2), is_back, false)
 }

@@ -3,11 +3,9 @@ use crate::arguments::{argument, last, place};
 use crate::based::base_word;
 use files::{Status, arg};
 use logs::RECORD_LIMIT;
-use reads::{Decoded, Source, decode, read_records};
+use reads::{Source, Undecoded, decode, read_records};
 use texts::first_of;
-use wrongs::{
-    NO_DIGITS, NO_EACH, NO_TYPE_NAME, ODD_DIGITS, TOO_FEW, TWO_BASES, TWO_INPUTS, wrong_at,
-};
+use wrongs::{Wrong, wrong_at};
 
 // As many bytes as one argument can have.
 const LONGEST: usize = 131072;
@@ -17,10 +15,7 @@ fn is_input_taken(table: &[u8], source: Source, given: &[u8]) -> bool {
     if check::same(table, b"-") {
         return true;
     }
-    match source {
-        Source::Bytes => false,
-        _ => check::same(given, b"-"),
-    }
+    !matches!(source, Source::Bytes) && check::same(given, b"-")
 }
 
 // Records by a table, which leans on a base where one is named.
@@ -32,14 +27,13 @@ fn read_by_base(
     given: &[u8],
 ) -> Status {
     let mut base = [0u8; 4096];
-    let arg = base_word(rt, &mut base);
-    if !arg.is_whole {
+    let Some(n) = base_word(rt, &mut base) else {
         return Status::Failed;
-    }
-    let base = first_of(&base, arg.n);
+    };
+    let base = first_of(&base, n);
     if check::same(base, b"-") {
         if is_input_taken(table, source, given) {
-            return wrong_at(rt, last(rt), TWO_BASES);
+            return wrong_at(rt, last(rt), Wrong::TwoBases);
         }
     }
     read_records(rt, table, base, word, source, given)
@@ -60,19 +54,18 @@ fn read_bytes(
 fn read_digits(rt: &HostRuntime, table: &[u8], word: &[u8], digits: &[u8], i: usize) -> Status {
     let mut s = [0u8; RECORD_LIMIT];
     match decode(digits, &mut s) {
-        Decoded::Bytes(n) => read_bytes(rt, table, word, &s, n),
-        Decoded::Odd => wrong_at(rt, i, ODD_DIGITS),
-        Decoded::Stray => wrong_at(rt, i, NO_DIGITS),
+        Ok(n) => read_bytes(rt, table, word, &s, n),
+        Err(Undecoded::Odd) => wrong_at(rt, i, Wrong::OddDigits),
+        Err(Undecoded::Stray) => wrong_at(rt, i, Wrong::NoDigits),
     }
 }
 
 fn read_digits_at(rt: &HostRuntime, table: &[u8], word: &[u8], i: usize) -> Status {
     let mut digits = [0u8; LONGEST];
-    let arg = argument(rt, i, &mut digits);
-    if !arg.is_whole {
+    let Some(n) = argument(rt, i, &mut digits) else {
         return Status::Failed;
-    }
-    read_digits(rt, table, word, first_of(&digits, arg.n), i)
+    };
+    read_digits(rt, table, word, first_of(&digits, n), i)
 }
 
 // Behind the name of a file stands nothing, or that it has one record behind another.
@@ -86,7 +79,7 @@ fn read_named(
 ) -> Status {
     if check::same(table, b"-") {
         if check::same(file, b"-") {
-            return wrong_at(rt, place(first, 3), TWO_INPUTS);
+            return wrong_at(rt, place(first, 3), Wrong::TwoInputs);
         }
     }
     if behind < 4 {
@@ -96,7 +89,7 @@ fn read_named(
     let i = place(first, 4);
     let n = arg(rt, i, &mut s);
     if !check::same(&s[..n], b"--each") {
-        return wrong_at(rt, i, NO_EACH);
+        return wrong_at(rt, i, Wrong::NoEach);
     }
     read_by_base(rt, table, word, Source::Each, file)
 }
@@ -110,13 +103,13 @@ fn read_by(
     behind: usize,
 ) -> Status {
     if word.len() == 0 {
-        return wrong_at(rt, place(first, 2), NO_TYPE_NAME);
+        return wrong_at(rt, place(first, 2), Wrong::NoTypeName);
     }
     if !check::same(given, b"--hex") {
         return read_named(rt, table, word, given, first, behind);
     }
     if behind < 4 {
-        return wrong_at(rt, place(first, 3), TOO_FEW);
+        return wrong_at(rt, place(first, 3), Wrong::TooFew);
     }
     read_digits_at(rt, table, word, place(first, 4))
 }
@@ -125,23 +118,17 @@ pub(crate) fn read_call(rt: &HostRuntime, first: u32, behind: usize) -> Status {
     let mut table = [0u8; 4096];
     let mut word = [0u8; 4096];
     let mut given = [0u8; 4096];
-    let table_arg = argument(rt, place(first, 1), &mut table);
-    let word_arg = argument(rt, place(first, 2), &mut word);
-    let given_arg = argument(rt, place(first, 3), &mut given);
-    if !table_arg.is_whole {
+    let table_n = argument(rt, place(first, 1), &mut table);
+    let word_n = argument(rt, place(first, 2), &mut word);
+    let given_n = argument(rt, place(first, 3), &mut given); // what is wrong with any is told
+    let (Some(n), Some(m), Some(k)) = (table_n, word_n, given_n) else {
         return Status::Failed;
-    }
-    if !word_arg.is_whole {
-        return Status::Failed;
-    }
-    if !given_arg.is_whole {
-        return Status::Failed;
-    }
+    };
     read_by(
         rt,
-        first_of(&table, table_arg.n),
-        first_of(&word, word_arg.n),
-        first_of(&given, given_arg.n),
+        first_of(&table, n),
+        first_of(&word, m),
+        first_of(&given, k),
         first,
         behind,
     )

@@ -1,7 +1,7 @@
 // The verbs, and how many words stand behind each.
 use crate::joining::MOST;
 use files::arg;
-use wrongs::{FEW_TABLES, MANY_TABLES, TOO_FEW, TOO_MANY};
+use wrongs::Wrong;
 
 #[derive(Clone, Copy)]
 pub(crate) enum Verb {
@@ -16,47 +16,26 @@ pub(crate) enum Verb {
     Ext,
     Read,
     Help,
-    Unknown,
 }
 
-fn verb_of(s: &[u8]) -> Verb {
-    if check::same(s, b"check") {
-        return Verb::Check;
-    }
-    if check::same(s, b"show") {
-        return Verb::Show;
-    }
-    if check::same(s, b"size") {
-        return Verb::Size;
-    }
-    if check::same(s, b"name") {
-        return Verb::Name;
-    }
-    if check::same(s, b"join") {
-        return Verb::Join;
-    }
-    if check::same(s, b"cut") {
-        return Verb::Cut;
-    }
-    if check::same(s, b"list") {
-        return Verb::List;
-    }
-    if check::same(s, b"make") {
-        return Verb::Make;
-    }
-    if check::same(s, b"ext") {
-        return Verb::Ext;
-    }
-    if check::same(s, b"read") {
-        return Verb::Read;
-    }
-    if check::same(s, b"help") || check::same(s, b"--help") || check::same(s, b"-h") {
-        return Verb::Help;
-    }
-    Verb::Unknown
+fn verb_of(s: &[u8]) -> Option<Verb> {
+    Some(match s {
+        b"check" => Verb::Check,
+        b"show" => Verb::Show,
+        b"size" => Verb::Size,
+        b"name" => Verb::Name,
+        b"join" => Verb::Join,
+        b"cut" => Verb::Cut,
+        b"list" => Verb::List,
+        b"make" => Verb::Make,
+        b"ext" => Verb::Ext,
+        b"read" => Verb::Read,
+        b"help" | b"--help" | b"-h" => Verb::Help,
+        _ => return None,
+    })
 }
 
-pub(crate) fn verb_at(rt: &HostRuntime, i: usize) -> Verb {
+pub(crate) fn verb_at(rt: &HostRuntime, i: usize) -> Option<Verb> {
     let mut s = [0u8; 4096];
     let n = arg(rt, i, &mut s);
     verb_of(&s[..n])
@@ -76,7 +55,6 @@ pub(crate) fn least(verb: Verb) -> usize {
         Verb::Ext => 2,
         Verb::Read => 3,
         Verb::Help => 0,
-        Verb::Unknown => 0,
     }
 }
 
@@ -94,30 +72,24 @@ pub(crate) fn most(verb: Verb) -> usize {
 }
 
 // What is said where there are too few: a join says how many tables it wants.
-pub(crate) fn too_few(verb: Verb) -> u32 {
+pub(crate) fn too_few(verb: Verb) -> Wrong {
     match verb {
-        Verb::Join => FEW_TABLES,
-        _ => TOO_FEW,
+        Verb::Join => Wrong::FewTables,
+        _ => Wrong::TooFew,
     }
 }
 
-pub(crate) fn too_many(verb: Verb) -> u32 {
+pub(crate) fn too_many(verb: Verb) -> Wrong {
     match verb {
-        Verb::Join => MANY_TABLES,
-        _ => TOO_MANY,
+        Verb::Join => Wrong::ManyTables,
+        _ => Wrong::TooMany,
     }
 }
 
 // A verb asks about one table, which can lean on a base.
 pub(crate) fn is_of_one(verb: Verb) -> bool {
-    match verb {
-        Verb::Join => false,
-        Verb::Cut => false,
-        Verb::List => false,
-        Verb::Make => false,
-        Verb::Ext => false,
-        Verb::Help => false,
-        Verb::Unknown => false,
-        _ => true,
-    }
+    matches!(
+        verb,
+        Verb::Check | Verb::Show | Verb::Size | Verb::Name | Verb::Read
+    )
 }

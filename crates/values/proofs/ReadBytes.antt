@@ -1,11 +1,12 @@
 -- Laws of reading whole bytes: words, three bytes, and all of a short record.
 -- Assumes nothing.
-use Prim.Native.Nat.{ℕ, suc, ◌+◌, ◌*◌, ◌-◌, ◌%◌, ◌^◌, ◌≤◌, ◌<◌}
+use Prim.Native.Nat.{ℕ, zero, suc, ◌+◌, ◌*◌, ◌-◌, ◌%◌, ◌^◌, ◌≤◌, ◌<◌}
 use mathlib.Core.Path.{◌≡◌, refl, sym, ap, ap₂, ◌∙◌, subst}
-use mathlib.Core.List.{List, [], ◌∷◌}
+use mathlib.Core.List.{List, [], ◌∷◌, reverse}
 use native.Mathlib.Nat.{add_comm}
 use native.Mathlib.Omega.{arith}
-use lib.ListN.{length, get_or, take, drop, length-drop}
+use lib.ListN.{length, get_or, take, drop, length-drop, length-reverse}
+use Rattle.std.proofs.lemmas.List.{get_or-reverse}
 use lib.Pow.{mod-pow-add}
 use lib.Seq.{take_all, drop-length, drop-cons}
 use Rattle.paper.proofs.bytes.Bytes.{below-drop}
@@ -61,8 +62,8 @@ pub record FewInv (s : List ℕ) (n i : ℕ) : Type 0 where
   pub passed : n ≡ record_number (drop i s)
   pub inside : i ≤ length s
 
-pub few-start : (s : List ℕ) → FewInv s 0 (length s)
-few-start s = record { passed = sym (ap record_number (drop-length s) ∙ no_bytes); inside = omega arith }
+pub few-start : (s : List ℕ) {i : ℕ} → i ≡ length s → FewInv s 0 i
+few-start s e = record { passed = sym (ap (λ (k : ℕ). record_number (drop k s)) e ∙ ap record_number (drop-length s) ∙ no_bytes); inside = omega arith }
 
 pub few-below : (s : List ℕ) → length s < 8 → {n i : ℕ} → FewInv s n i → n < 2 ^ 56
 few-below s short {n} {i} inv =
@@ -77,6 +78,32 @@ few-step s {n} {i} inv more byte =
     let rest : record_number (drop (suc (i - 1)) s) ≡ n = ap (λ (k : ℕ). record_number (drop k s)) back ∙ sym inv.passed in
     let at = ap record_number (drop-cons s (i - 1) 0 (omega arith)) in
     record { passed = omega arith; inside = omega arith }
+
+-- the byte that a walk from the last on comes to, behind so many
+within : (s : List ℕ) (i d : ℕ) → i < length s → get_or s i d ≡ get_or s i 0
+within [] i d h = absurd (omega arith)
+within (c ∷ s) zero d h = refl
+within (c ∷ s) (suc i) d h = within s i d (omega arith)
+
+module _ (s : List ℕ) {k b : ℕ} (turn : (k < length (reverse s)) × (b ≡ get_or (reverse s) k b)) where
+  few-in : k < length s
+  few-in = omega (arith, turn.0, length-reverse s)
+
+  few-is : b ≡ get_or s (length s - k - 1) 0
+  few-is =
+      let same : length s - 1 - k ≡ length s - k - 1 = omega arith in
+      turn.1 ∙ get_or-reverse s k b few-in ∙ within s (length s - 1 - k) b (omega (arith, few-in)) ∙ ap (λ (j : ℕ). get_or s j 0) same
+
+  module _ (bytes : (i : ℕ) → get_or s i 0 < 256) where
+    pub few-byte : b < 256
+    few-byte = omega (arith, few-is, bytes (length s - k - 1))
+
+    pub few-turn : {n m : ℕ} → FewInv s n (length s - k) → m ≡ k + 1 → FewInv s (n * 256 + b) (length s - m)
+    few-turn {n} {m} inv e =
+        let next : length s - k - 1 ≡ length s - m = omega arith in
+        subst (FewInv s (n * 256 + b)) next
+        (subst (λ (c : ℕ). FewInv s (n * 256 + c) (length s - k - 1)) (sym few-is)
+        (few-step s inv (omega (arith, few-in)) (bytes (length s - k - 1))))
 
 pub few-done : (s : List ℕ) {n i : ℕ} → FewInv s n i → i ≤ 0 → n ≡ record_number s
 few-done s {n} {i} inv h = let none : i ≡ 0 = omega arith in inv.passed ∙ ap (λ (k : ℕ). record_number (drop k s)) none

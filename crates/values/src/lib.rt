@@ -14,7 +14,8 @@ use paper::Report;
 use reading::{bytes_at, value_at};
 pub use signs::sixteen;
 
-// How a member's bits are read, or why they are not: 35, 21 and 31 whatever the record is, 32 and 33 behind its length.
+// How a member's bits are read, or why they are not: 35, 21 and 31 whatever the record is, 32 and 33 behind its length. One
+// enum and no Result: beside NoMember and NoNumber the size counts too, since a record shorter than it is refused first.
 #[derive(Clone, Copy)]
 pub enum Sort {
     Unsigned,
@@ -35,7 +36,8 @@ pub struct MemberSpan {
     pub bits: u32,
 }
 
-// What a member of a record says: its value, that it is longer than 64 bits, or a refusal: 34, 35, 21, 31, 30, 32 and 33.
+// What a member of a record says: its value, that it is longer than 64 bits, or a refusal: 34, 35, 21, 31, 30, 32 and 33. One enum and no
+// Result: beside a refusal too the span and the bytes are answered, all 0, and C gets each of the ten as one number.
 #[derive(Clone, Copy)]
 pub enum Valued {
     Unsigned(u64),

@@ -29,10 +29,8 @@ fn few(s: &[u8]) -> u64
     ensures { result ≡ record_number s.now }
 {
     let mut n: u64 = 0;
-    let mut i = s.len();
-    while 0 < i {
-        i -= 1;
-        n = n * 256 + (s[i] as u64);
+    for c in s.iter().rev() {
+        n = n * 256 + (*c as u64);
     }
     n
 }

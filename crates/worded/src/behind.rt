@@ -4,7 +4,7 @@ ghost use Rattle.std.specs.Prelude.{◌≤◌};
 use crate::Look;
 use crate::heads::{is_meant, put_word};
 use crate::tails::{is_about, put_role, spot_of};
-use lines::{Out, ROOM, put};
+use lines::Out;
 use paper::{Order, Place};
 use rows::{entry_words, info_of, kind_of, tail_words};
 use titles::put_many;
@@ -57,57 +57,42 @@ fn words_before(look: Look, place: u32, kind: u32, n: u32) -> u32
 }
 
 // A word behind the head.
-fn put_behind(
-    buf: &mut [u8; ROOM],
-    o: Out,
-    blob: &[u8],
-    index: &[u32],
-    r: &[u8],
-    place: u32,
-    look: Look,
-    i: u32,
-) -> Out {
+fn put_behind(out: &mut Out, blob: &[u8], index: &[u32], r: &[u8], place: u32, look: Look, i: u32) {
     let order = words::order_of(blob);
     let from = 12 + 4 * (i as usize);
     let at = (place as usize) + from;
-    let o = put_word(buf, o, is_meant(look, at), blob, at);
+    put_word(out, is_meant(look, at), blob, at);
     let w = words::read(order, rest_from(r, from), Place(0));
-    let o = put_role(buf, o, blob, index, look, info_of(order, r), i, w);
-    put(buf, o, b"\n")
+    put_role(out, blob, index, look, info_of(order, r), i, w);
+    out.put(b"\n");
 }
 
-fn put_more(buf: &mut [u8; ROOM], o: Out, n: u32) -> Out {
+fn put_more(out: &mut Out, n: u32) {
     if n == 0 {
-        return o;
+        return;
     }
-    let o = put(buf, o, b"    ... ");
-    put_many(buf, o, n as u64, b" word left out\n", b" words left out\n")
+    out.put(b"    ... ");
+    put_many(out, n as u64, b" word left out\n", b" words left out\n");
 }
 
 // The words behind the head of the record at a place that the rule is about.
-pub fn put_tail(
-    buf: &mut [u8; ROOM],
-    o: Out,
-    blob: &[u8],
-    index: &[u32],
-    r: &[u8],
-    place: u32,
-    look: Look,
-) -> Out {
+pub fn put_tail(out: &mut Out, blob: &[u8], index: &[u32], r: &[u8], place: u32, look: Look) {
     let number = look.number;
     let order = words::order_of(blob);
     let kind = kind_of(info_of(order, r));
     let n = words_there(order, r);
-    let mut i = words_before(look, place, kind, n);
-    let mut o = put_more(buf, o, i);
+    let from = words_before(look, place, kind, n);
+    put_more(out, from);
     let mut left = MOST;
-    while i < n && 0 < left {
+    for i in from..n {
+        if left == 0 {
+            put_more(out, n - i);
+            return;
+        }
         let spot = spot_of(kind, i);
         if is_about(number, spot.role) {
-            o = put_behind(buf, o, blob, index, r, place, look, i);
+            put_behind(out, blob, index, r, place, look, i);
             left -= 1;
         }
-        i += 1;
     }
-    put_more(buf, o, n - i)
 }

@@ -3,7 +3,7 @@ use crate::Look;
 use crate::referents::put_referent;
 use fields::put_bytes;
 use kindrows::FUNC;
-use lines::{Out, ROOM, put, put_name, put_with};
+use lines::Out;
 use paper::NameOff;
 use rows::{
     entry_words, flag_allowed, flag_of, info_of, is_known, kind_of, name_of, size_rule,
@@ -12,15 +12,9 @@ use rows::{
 use titles::{put_kind, put_many};
 
 // A word of the record, up to what it is.
-pub(crate) fn put_word(
-    buf: &mut [u8; ROOM],
-    o: Out,
-    is_meant: bool,
-    blob: &[u8],
-    at: usize,
-) -> Out {
-    let o = put_bytes(buf, o, is_meant, blob, at, 4);
-    put(buf, o, b"  ")
+pub(crate) fn put_word(out: &mut Out, is_meant: bool, blob: &[u8], at: usize) {
+    put_bytes(out, is_meant, blob, at, 4);
+    out.put(b"  ");
 }
 
 // The bytes at a place are among those that break the rule.
@@ -29,60 +23,65 @@ pub(crate) fn is_meant(look: Look, at: usize) -> bool {
 }
 
 // "name offset N: the name".
-pub(crate) fn put_offset(buf: &mut [u8; ROOM], o: Out, blob: &[u8], at: NameOff) -> Out {
-    let o = put_with(buf, o, b"name offset ", at.0 as u64);
+pub(crate) fn put_offset(out: &mut Out, blob: &[u8], at: NameOff) {
+    out.put_with(b"name offset ", at.0 as u64);
     if header::nameless(blob, at) {
-        return put(buf, o, b", past the strings");
+        out.put(b", past the strings");
+        return;
     }
     let name = header::name(blob, at);
     if name.len() == 0 {
-        return put(buf, o, b", empty");
+        out.put(b", empty");
+        return;
     }
-    let o = put(buf, o, b": ");
-    put_name(buf, o, name)
+    out.put(b": ");
+    out.put_name(name);
 }
 
-fn put_known(buf: &mut [u8; ROOM], o: Out, kind: u32) -> Out {
+fn put_known(out: &mut Out, kind: u32) {
     if is_known(kind) {
-        return put_kind(buf, o, kind);
+        put_kind(out, kind);
+        return;
     }
-    let o = put_with(buf, o, b"kind ", kind as u64);
-    put(buf, o, b", which is none")
+    out.put_with(b"kind ", kind as u64);
+    out.put(b", which is none");
 }
 
 // What is said of a number that the kind may not have; a kind that is none has no rule.
-fn put_judged(buf: &mut [u8; ROOM], o: Out, kind: u32, is_allowed: bool) -> Out {
+fn put_judged(out: &mut Out, kind: u32, is_allowed: bool) {
     if is_allowed || !is_known(kind) {
-        return o;
+        return;
     }
-    put(buf, o, b" (not allowed)")
+    out.put(b" (not allowed)");
 }
 
 // What vlen is for the kind: how many entries, a FUNC's linkage, or nothing, and then it is told only where it is not 0.
-fn put_vlen(buf: &mut [u8; ROOM], o: Out, kind: u32, vlen: u32) -> Out {
+fn put_vlen(out: &mut Out, kind: u32, vlen: u32) {
     if entry_words(kind) != 0 {
-        let o = put(buf, o, b", ");
-        return put_many(buf, o, vlen as u64, b" entry", b" entries");
+        out.put(b", ");
+        put_many(out, vlen as u64, b" entry", b" entries");
+        return;
     }
     if kind == FUNC {
-        let o = put_with(buf, o, b", linkage ", vlen as u64);
-        return put_judged(buf, o, kind, vlen_allowed(kind, vlen));
+        out.put_with(b", linkage ", vlen as u64);
+        put_judged(out, kind, vlen_allowed(kind, vlen));
+        return;
     }
     if vlen == 0 {
-        return o;
+        return;
     }
-    let o = put_with(buf, o, b", vlen ", vlen as u64);
-    put_judged(buf, o, kind, vlen_allowed(kind, vlen))
+    out.put_with(b", vlen ", vlen as u64);
+    put_judged(out, kind, vlen_allowed(kind, vlen));
 }
 
-fn put_flag_bit(buf: &mut [u8; ROOM], o: Out, info: u32) -> Out {
+fn put_flag_bit(out: &mut Out, info: u32) {
     let flag = flag_of(info);
     if flag == 0 {
-        return o;
+        return;
     }
     let kind = kind_of(info);
-    let o = put(buf, o, b", kind_flag 1");
-    put_judged(buf, o, kind, flag_allowed(kind, flag))
+    out.put(b", kind_flag 1");
+    put_judged(out, kind, flag_allowed(kind, flag));
 }
 
 // Bits 16 to 23, 29 and 30 are 0.
@@ -90,21 +89,21 @@ fn is_spare_zero(info: u32) -> bool {
     info / 65536 % 256 == 0 && info / 536870912 % 4 == 0
 }
 
-fn put_spare(buf: &mut [u8; ROOM], o: Out, info: u32) -> Out {
+fn put_spare(out: &mut Out, info: u32) {
     if is_spare_zero(info) {
-        return o;
+        return;
     }
-    let o = put(buf, o, b", spare bits set");
-    put_judged(buf, o, kind_of(info), false)
+    out.put(b", spare bits set");
+    put_judged(out, kind_of(info), false);
 }
 
-fn put_info(buf: &mut [u8; ROOM], o: Out, info: u32) -> Out {
+fn put_info(out: &mut Out, info: u32) {
     let kind = kind_of(info);
-    let o = put_known(buf, o, kind);
-    let o = put_vlen(buf, o, kind, vlen_of(info));
-    let o = put_flag_bit(buf, o, info);
-    let o = put_spare(buf, o, info);
-    put(buf, o, b"\n")
+    put_known(out, kind);
+    put_vlen(out, kind, vlen_of(info));
+    put_flag_bit(out, info);
+    put_spare(out, info);
+    out.put(b"\n");
 }
 
 // The info word breaks the rule of the report: 7 is about its kind, 10 about its other fields.
@@ -120,74 +119,52 @@ fn is_info_wrong(number: u32, info: u32) -> bool {
 }
 
 // What the third word is for the kind: a type, a size, or nothing.
-fn put_third(
-    buf: &mut [u8; ROOM],
-    o: Out,
-    blob: &[u8],
-    index: &[u32],
-    look: Look,
-    kind: u32,
-    w: u32,
-) -> Out {
+fn put_third(out: &mut Out, blob: &[u8], index: &[u32], look: Look, kind: u32, w: u32) {
     if third_role(kind) != 0 {
-        let o = put_with(buf, o, b"type ", w as u64);
-        return put_referent(buf, o, blob, index, look, w);
+        out.put_with(b"type ", w as u64);
+        put_referent(out, blob, index, look, w);
+        return;
     }
     if size_rule(kind) == 2 {
-        let o = put_with(buf, o, b"size ", w as u64);
-        return put_judged(buf, o, kind, third_allowed(kind, w));
+        out.put_with(b"size ", w as u64);
+        put_judged(out, kind, third_allowed(kind, w));
+        return;
     }
-    let o = put_with(buf, o, b"third word ", w as u64);
-    put_judged(buf, o, kind, third_allowed(kind, w))
+    out.put_with(b"third word ", w as u64);
+    put_judged(out, kind, third_allowed(kind, w));
 }
 
 // The third word of a head, where it is there.
-fn put_last(
-    buf: &mut [u8; ROOM],
-    o: Out,
-    blob: &[u8],
-    index: &[u32],
-    r: &[u8],
-    at: usize,
-    look: Look,
-) -> Out {
+fn put_last(out: &mut Out, blob: &[u8], index: &[u32], r: &[u8], at: usize, look: Look) {
     let order = words::order_of(blob);
     if r.len() < 12 {
-        return o;
+        return;
     }
     let kind = kind_of(info_of(order, r));
     let w = third_of(order, r);
     let is_wrong = look.number == 10 && !third_allowed(kind, w);
-    let o = put_word(buf, o, is_wrong || is_meant(look, at), blob, at);
-    let o = put_third(buf, o, blob, index, look, kind, w);
-    put(buf, o, b"\n")
+    put_word(out, is_wrong || is_meant(look, at), blob, at);
+    put_third(out, blob, index, look, kind, w);
+    out.put(b"\n");
 }
 
 // The head of the record that stands at a place, of which `r` is there; as many of its words as are there.
-pub fn put_head(
-    buf: &mut [u8; ROOM],
-    o: Out,
-    blob: &[u8],
-    index: &[u32],
-    r: &[u8],
-    place: u32,
-    look: Look,
-) -> Out {
+pub fn put_head(out: &mut Out, blob: &[u8], index: &[u32], r: &[u8], place: u32, look: Look) {
     let order = words::order_of(blob);
     let first = place as usize;
     let second = first + 4;
     let third = first + 8;
     if r.len() < 4 {
-        return o;
+        return;
     }
-    let o = put_word(buf, o, is_meant(look, first), blob, first);
-    let o = put_offset(buf, o, blob, name_of(order, r));
-    let o = put(buf, o, b"\n");
+    put_word(out, is_meant(look, first), blob, first);
+    put_offset(out, blob, name_of(order, r));
+    out.put(b"\n");
     if r.len() < 8 {
-        return o;
+        return;
     }
     let info = info_of(order, r);
-    let o = put_word(buf, o, is_info_wrong(look.number, info), blob, second);
-    let o = put_info(buf, o, info);
-    put_last(buf, o, blob, index, r, third, look)
+    put_word(out, is_info_wrong(look.number, info), blob, second);
+    put_info(out, info);
+    put_last(out, blob, index, r, third, look);
 }

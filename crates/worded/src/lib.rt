@@ -13,7 +13,7 @@ pub use heads::put_head;
 // places are the same.
 #[derive(Clone, Copy)]
 pub struct Look {
-    pub number: u32,
+    pub number: u32, // as it is printed, by which rules and roles are picked from tables
     pub n: u32,
     pub from: usize,
     pub to: usize,

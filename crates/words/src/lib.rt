@@ -98,17 +98,6 @@ pub fn write(order: Order, b: &mut [u8], at: Place, w: u32)
     b[p + 3] = (v / 16777216 % 256) as u8;
 }
 
-fn copy(out: &mut [u8], at: usize, s: &[u8])
-    requires { at + length s.now ≤ length out.old }
-    ensures { out.new ≡ put out.old at s.now }
-{
-    let mut i = 0;
-    while i < s.len() {
-        out[at + i] = s[i];
-        i += 1;
-    }
-}
-
 // The bytes are laid over others, from a place on. Nothing changes where they do not fit behind it.
 pub fn lay(out: &mut [u8], at: usize, s: &[u8])
     ensures { out.new ≡ laid out.old at s.now }
@@ -119,5 +108,6 @@ pub fn lay(out: &mut [u8], at: usize, s: &[u8])
     if out.len() - at < s.len() {
         return;
     }
-    copy(out, at, s)
+    let end = at + s.len();
+    out[at..end].copy_from_slice(s);
 }

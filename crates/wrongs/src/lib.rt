@@ -2,59 +2,38 @@
 #![tactic(auto)]
 
 use files::{Status, arg, fail_output};
-use lines::{STDERR_FILENO, STDOUT_FILENO, flush, put, put_file};
+use lines::{Out, STDERR_FILENO, STDOUT_FILENO};
 use texts::{first_of, line};
 
-// Which line of the reasons.
-pub const UNKNOWN: u32 = 0;
-
-pub const TOO_FEW: u32 = 1;
-
-pub const TOO_MANY: u32 = 2;
-
-pub const NO_TYPE: u32 = 3;
-
-pub const NO_OFFSET: u32 = 4;
-
-pub const NO_OUT: u32 = 5;
-
-pub const TWO_DASHES: u32 = 6;
-
-pub const NO_TYPE_NAME: u32 = 7;
-
-pub const TWO_INPUTS: u32 = 8;
-
-pub const NO_EACH: u32 = 9;
-
-pub const NO_DIGITS: u32 = 10;
-
-pub const ODD_DIGITS: u32 = 11;
-
-pub const NO_BASE: u32 = 12;
-
-pub const NOT_BASED: u32 = 13;
-
-pub const TWO_BASES: u32 = 14;
-
-pub const FEW_TABLES: u32 = 15;
-
-pub const MANY_TABLES: u32 = 16;
-
-pub const ONE_INPUT: u32 = 17;
-
-pub const NO_OUTS: u32 = 18;
-
-pub const ONE_OUT: u32 = 19;
-
-pub const NO_COUNT: u32 = 20;
-
-pub const NO_LENGTH: u32 = 21;
-
-pub const TWO_TABLES: u32 = 22;
-
-pub const TWO_BESIDE: u32 = 23;
-
-pub const NO_SHOW: u32 = 24;
+// Why a word is wrong, in the order of the lines that say so.
+#[derive(Clone, Copy)]
+pub enum Wrong {
+    Unknown,
+    TooFew,
+    TooMany,
+    NoType,
+    NoOffset,
+    NoOut,
+    TwoDashes,
+    NoTypeName,
+    TwoInputs,
+    NoEach,
+    NoDigits,
+    OddDigits,
+    NoBase,
+    NotBased,
+    TwoBases,
+    FewTables,
+    ManyTables,
+    OneInput,
+    NoOuts,
+    OneOut,
+    NoCount,
+    NoLength,
+    TwoTables,
+    TwoBeside,
+    NoShow,
+}
 
 fn usage(fd: i32) -> bool {
     io::write_all(
@@ -97,7 +76,7 @@ pub fn help() -> Status {
 }
 
 // "scrieve: WORD: why", and the usage.
-fn put_wrong(word: &[u8], why: u32) {
+fn put_wrong(word: &[u8], why: Wrong) {
     let whys = b"there is no such verb\n\
         too few words behind it\n\
         too many words behind it\n\
@@ -123,17 +102,17 @@ fn put_wrong(word: &[u8], why: u32) {
         JOINED and FIRST cannot both be standard input\n\
         TABLE and SECTION cannot both be standard input\n\
         behind SECTION there may be --show, and nothing else\n";
-    let mut buf = [0u8; lines::ROOM];
-    let o = put(&mut buf, lines::to(STDERR_FILENO), b"scrieve: ");
-    let o = put_file(&mut buf, o, word);
-    let o = put(&mut buf, o, b": ");
-    let o = put(&mut buf, o, line(whys, why));
-    let o = put(&mut buf, o, b"\n");
-    flush(&mut buf, o);
+    let mut out = Out::to(STDERR_FILENO);
+    out.put(b"scrieve: ");
+    out.put_file(word);
+    out.put(b": ");
+    out.put(line(whys, why as u32));
+    out.put(b"\n");
+    out.flush();
 }
 
 // The argument of this number is wrong.
-pub fn wrong_at(rt: &HostRuntime, i: usize, why: u32) -> Status {
+pub fn wrong_at(rt: &HostRuntime, i: usize, why: Wrong) -> Status {
     let mut s = [0u8; 4096];
     let n = arg(rt, i, &mut s);
     put_wrong(first_of(&s, n), why);

@@ -3,10 +3,10 @@ use mathlib.Core.Path.{sym, ap, ◌∙◌}
 use Rattle.paper.specs.rules.Answer.{checked_as_paper}
 use Rattle.answers.proofs.of_checked.Goals as goal
 
-pub returns-in-Accepted : goal.returns-in-Accepted
+pub returns-in-Ok : goal.returns-in-Ok
 unfolding checked_as_paper
-returns-in-Accepted c = c.told.ensures ∙ sym (ap checked_as_paper c.in-Accepted.is)
+returns-in-Ok c = c.told.ensures ∙ sym (ap checked_as_paper c.in-Ok.is)
 
-pub returns-in-Refused : goal.returns-in-Refused
+pub returns-in-Err : goal.returns-in-Err
 unfolding checked_as_paper
-returns-in-Refused c = c.of_report.ensures ∙ sym (ap checked_as_paper c.in-Refused.is)
+returns-in-Err c = c.of_report.ensures ∙ sym (ap checked_as_paper c.in-Err.is)

@@ -1,20 +1,17 @@
 -- `idents::sixteen` meets its contract: so many bytes are an identifier's, if the answer stays true.
-use Prim.Native.Nat.{◌-◌}
-use mathlib.Core.Path.{◌≡◌}
+use Prim.Native.Nat.{◌+◌}
+use mathlib.Core.Path.{◌≡◌, refl}
 use native.Mathlib.Omega.{arith}
 use Rattle.idents.proofs.Passes.{surely-start, surely-next}
 use Rattle.idents.proofs.sixteen.Goals as goal
 
-pub loop-j-init : goal.loop-j-init
-loop-j-init c = (surely-start (omega arith) (omega arith), omega arith)
+pub loop-i-init : goal.loop-i-init
+loop-i-init c = surely-start refl (omega arith)
 
-pub loop-j-preserved : goal.loop-j-preserved
-loop-j-preserved c =
-    let inv = c.loop-j.invariant in
-    (surely-next inv.0 (omega arith) (omega arith) c.is_word-all.ensures, omega arith)
+pub loop-i-preserved : goal.loop-i-preserved
+loop-i-preserved c = surely-next c.loop-i.invariant (omega arith) (omega arith) c.is_word-all.ensures
 
 pub returns : goal.returns
 returns c =
-    let inv = c.loop-j.invariant in
-    let full : c.loop-j.j ≡ 16 = omega arith in
-    rw full at inv.0
+    let full : c.loop-i.i ≡ c.args.from + 16 = omega arith in
+    rw full at c.loop-i.invariant

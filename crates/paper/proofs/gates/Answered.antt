@@ -1,5 +1,7 @@
 -- From an answer back to what it says of a blob: the number is 0 exactly where nothing is refused, and else the answer is the refusal.
 -- Assumes nothing.
+use Rattle.std.specs.Prelude.{Err, Ok, Result, ℕ}
+use Rattle.paper.specs.declared.JoinError.{JoinError}
 use Prim.Native.Nat.{ℕ, ◌≤◌}
 use mathlib.Core.Path.{◌≡◌, refl, sym, ap, ◌∙◌}
 use mathlib.Core.Bool.{Bool, true, false, cond}
@@ -20,9 +22,6 @@ use Rattle.paper.specs.rules.Size.{Found, exactly, none_at, lost_at, too_far, an
 use Rattle.paper.specs.rules.Table.{count}
 use Rattle.paper.specs.rules.Walk.{table_of}
 use Rattle.paper.specs.declared.Report.{Report}
-use Rattle.paper.specs.declared.Checked.TheVariants.{Accepted, Refused}
-use Rattle.paper.specs.declared.Joined.{Joined}
-use Rattle.paper.specs.declared.Joined.TheVariants.{Whole}
 
 -- ── a refusal, or else an answer of number 0 ──
 
@@ -69,11 +68,11 @@ module _ (b : List ℕ) (places work : ℕ) where
       ∙ ap {B = Option Answer} some (sym (e ∙ gate-said))
 
   -- the same of the enum that code answers
-  pub checked-accepted : {n : ℕ} → checked_as_paper (Accepted n) ≡ (gate b places work).answer → (refusal b places work ≡ none) × (n ≡ count (table_of b))
+  pub checked-accepted : {n : ℕ} → checked_as_paper (Ok n) ≡ (gate b places work).answer → (refusal b places work ≡ none) × (n ≡ count (table_of b))
   unfolding checked_as_paper
   checked-accepted e = let s = answer-accepted e refl in (s.0, ap (λ (a : Answer). a.t) s.1)
 
-  pub checked_refused : (r : Report) → checked_as_paper (Refused r) ≡ (gate b places work).answer → refusal b places work ≡ some (report_as_paper r)
+  pub checked_refused : (r : Report) → checked_as_paper (Err r) ≡ (gate b places work).answer → refusal b places work ≡ some (report_as_paper r)
   unfolding checked_as_paper
   checked_refused r e = answer-refused e (report-number r)
 
@@ -91,7 +90,7 @@ module _ (a b : List ℕ) (places work : ℕ) (out : List ℕ) where
       go none = refl
       go (some x) = refl
 
-  pub joined-whole : {n : ℕ} → joined_as_paper (Whole n) ≡ (join a b places work out).answer
+  pub joined-whole : {n : ℕ} → joined_as_paper (Ok n) ≡ (join a b places work out).answer
       → (join_refusal a b places work (length out) ≡ none) × (n ≡ length (joined_bytes a b))
   unfolding joined_as_paper
   joined-whole e =
@@ -100,7 +99,7 @@ module _ (a b : List ℕ) (places work : ℕ) (out : List ℕ) where
       (ap (λ (x : Answer). x.number) (sym (e ∙ join-said))) in
       (s.0, ap (λ (x : Answer). x.p) (e ∙ join-said ∙ s.1))
 
-  pub joined-refused : (j : Joined) → ((joined_as_paper j).number ≡ 0 → ⊥) → joined_as_paper j ≡ (join a b places work out).answer
+  pub joined-refused : (j : Result ℕ JoinError) → ((joined_as_paper j).number ≡ 0 → ⊥) → joined_as_paper j ≡ (join a b places work out).answer
       → join_refusal a b places work (length out) ≡ some (joined_as_paper j)
   joined-refused j h e =
       said-some refused (value (length (joined_bytes a b))) refl (λ z. h (ap (λ (x : Answer). x.number) (e ∙ join-said) ∙ z))

@@ -1,17 +1,15 @@
 -- Every answer in the paper's numbers, and which numbers each case of each answer enum is. Promises speak through these.
-use Rattle.std.specs.Prelude.{ℕ, ◌+◌}
+use Rattle.paper.specs.declared.LeanError.TheVariants as leaned
+use Rattle.paper.specs.declared.JoinError.TheVariants.{FirstRefused, OrdersDiffer, OutputShort, SecondRefused, TooLong, TooMany}
+use Rattle.paper.specs.declared.JoinError.{JoinError}
+use Rattle.paper.specs.declared.LeanError.{LeanError}
+use Rattle.std.specs.Prelude.{ℕ, ◌+◌, Err, Ok, Result}
 use Rattle.paper.specs.rules.Limits.{type_limit}
 use Rattle.paper.specs.declared.Report.{Report}
 use Rattle.paper.specs.declared.Report.TheVariants.{Length, Opening, HeaderLength, Sections, Strings, RecordCut, UnknownKind, ManyTypes, SlicesShort}
 use Rattle.paper.specs.declared.Report.TheVariants.{Head, Named, Tail, Reference, Endless, Layout}
-use Rattle.paper.specs.declared.Checked.{Checked}
-use Rattle.paper.specs.declared.Checked.TheVariants.{Accepted, Refused}
 use Rattle.paper.specs.declared.Sized.{Sized}
 use Rattle.paper.specs.declared.Sized.TheVariants.{Exact, NoSize, Overflow, Lost, TooFar}
-use Rattle.paper.specs.declared.Joined.{Joined}
-use Rattle.paper.specs.declared.Joined.TheVariants.{Whole, FirstRefused, SecondRefused, OrdersDiffer, TooMany, TooLong, OutputShort}
-use Rattle.paper.specs.declared.Leaned.{Leaned}
-use Rattle.paper.specs.declared.Leaned.TheVariants as leaned
 
 -- the paper's number (0 where nothing is refused), the number of the report inside a join's refusal,
 -- the type count or the type that is named, and the exact size, the joined length or the place of the record that is named
@@ -56,9 +54,9 @@ report_as_paper (Reference t p) = report_at 13 t.0 p.0
 report_as_paper (Endless t p) = report_at 14 t.0 p.0
 report_as_paper (Layout t p) = report_at 15 t.0 p.0
 
-unfoldable pub checked_as_paper : Checked → Answer
-checked_as_paper (Accepted n) = accepted n
-checked_as_paper (Refused r) = report_as_paper r
+unfoldable pub checked_as_paper : Result ℕ Report → Answer
+checked_as_paper (Ok n) = accepted n
+checked_as_paper (Err r) = report_as_paper r
 
 -- an exact size is 0 with the size, no size is 1, overflow is 2
 unfoldable pub sized_as_paper : Sized → Answer
@@ -68,18 +66,18 @@ sized_as_paper Overflow = report 2 0
 sized_as_paper Lost = report 21 0
 sized_as_paper TooFar = report 22 0
 
-unfoldable pub joined_as_paper : Joined → Answer
-joined_as_paper (Whole n) = value n
-joined_as_paper (FirstRefused r) = inside 16 (report_as_paper r)
-joined_as_paper (SecondRefused r) = inside 17 (report_as_paper r)
-joined_as_paper OrdersDiffer = report 24 0
-joined_as_paper TooMany = report 18 0
-joined_as_paper TooLong = report 19 0
-joined_as_paper OutputShort = report 20 0
+unfoldable pub joined_as_paper : Result ℕ JoinError → Answer
+joined_as_paper (Ok n) = value n
+joined_as_paper (Err (FirstRefused r)) = inside 16 (report_as_paper r)
+joined_as_paper (Err (SecondRefused r)) = inside 17 (report_as_paper r)
+joined_as_paper (Err OrdersDiffer) = report 24 0
+joined_as_paper (Err TooMany) = report 18 0
+joined_as_paper (Err TooLong) = report 19 0
+joined_as_paper (Err OutputShort) = report 20 0
 
 -- "If the base is refused, answer 25 with its report inside"; 26, the two orders (order 7)
-unfoldable pub leaned_as_paper : Leaned → Answer
-leaned_as_paper (leaned.Accepted n) = accepted n
-leaned_as_paper (leaned.BaseRefused r) = inside 25 (report_as_paper r)
-leaned_as_paper leaned.OrdersDiffer = report 26 0
-leaned_as_paper (leaned.Refused r) = report_as_paper r
+unfoldable pub leaned_as_paper : Result ℕ LeanError → Answer
+leaned_as_paper (Ok n) = accepted n
+leaned_as_paper (Err (leaned.BaseRefused r)) = inside 25 (report_as_paper r)
+leaned_as_paper (Err leaned.OrdersDiffer) = report 26 0
+leaned_as_paper (Err (leaned.Refused r)) = report_as_paper r

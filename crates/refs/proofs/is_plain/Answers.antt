@@ -1,8 +1,9 @@
 -- `refs::is_plain` meets its contract: a known kind, and none of the four.
 use mathlib.Core.Bool.{not}
-use mathlib.Core.Path.{ap}
+use mathlib.Core.Path.{ap, ◌∙◌}
 use Rattle.refs.proofs.References.{plain-unknown, plain-variable, plain_other, plain-plain}
 use Rattle.refs.proofs.is_plain.Goals as goal
+use Rattle.refs.proofs.is_plain.Goals.{in-12, in_default}
 
 pub returns-then-not-is_known : goal.returns-then-not-is_known
 returns-then-not-is_known c = plain-unknown _ c.is_known.ensures (ap not c.if-not-is_known.true)
@@ -10,8 +11,8 @@ returns-then-not-is_known c = plain-unknown _ c.is_known.ensures (ap not c.if-no
 pub returns-then-kind-eq-VAR : goal.returns-then-kind-eq-VAR
 returns-then-kind-eq-VAR c = plain-variable _ c.is_known.ensures (ap not c.if-not-is_known.false) c.if-kind-eq-VAR.true
 
-pub returns-in-12 : goal.returns-in-12
-returns-in-12 c = plain_other _ c.is_known.ensures (ap not c.if-not-is_known.false) c.in-12.is
-
-pub returns-in_default : goal.returns-in_default
-returns-in_default c = plain-plain _ c.is_known.ensures (ap not c.if-not-is_known.false) c.if-kind-eq-VAR.false c.in_default.in_default-own.rest.1
+pub returns : goal.returns
+returns c = elim c.match-matches.branch [
+  | in-12 w ↦ ap not w.matches-is ∙ plain_other _ c.is_known.ensures (ap not c.if-not-is_known.false) w.in-12.is
+  | in_default w ↦ ap not w.matches-is ∙ plain-plain _ c.is_known.ensures (ap not c.if-not-is_known.false) c.if-kind-eq-VAR.false w.in_default.in_default-own.rest.1
+]

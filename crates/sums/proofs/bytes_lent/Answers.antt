@@ -1,18 +1,10 @@
 -- `sums::bytes_lent` meets its contract: the sum so far comes to the whole sum with what is left.
-use native.Mathlib.Omega.{arith}
-use Rattle.sums.proofs.Summing.{summing_start, summing-end, summing-lent, lent_none}
+use native.Mathlib.Nat.{sub-zero}
+use Rattle.sums.proofs.Summing.{summing_start, summing-lent}
 use Rattle.sums.proofs.bytes_lent.Goals as goal
 
-pub loop-left-init : goal.loop-left-init
-loop-left-init c = summing_start _
+pub loop-init : goal.loop-init
+loop-init c = rw sub-zero (summing_start _)
 
-pub loop-left-preserved : goal.loop-left-preserved
-loop-left-preserved c =
-    summing-lent {n = c.loop-left.left} (omega (arith, c.loop-left-test.true)) c.loop-left.invariant
-    c.add-sum.ensures.0 c.add-sum.ensures.1
-
-pub overflow_cast-result : goal.overflow_cast-result
-overflow_cast-result c = omega (arith, c.loop-left.invariant.small)
-
-pub returns : goal.returns
-returns c = summing-end (rw (lent_none {n = c.loop-left.left} (omega (arith, c.loop-left-test.false))) at c.loop-left.invariant)
+pub loop-preserved : goal.loop-preserved
+loop-preserved c = summing-lent c.loop-test.true c.loop.invariant c.add-sum.ensures.0 c.add-sum.ensures.1

@@ -3,10 +3,10 @@ use mathlib.Core.Path.{sym, ap, ◌∙◌}
 use Rattle.exts.specs.Entries.{found_as_paper}
 use Rattle.answers.proofs.sections.of_found.Goals as goal
 
-pub returns-in-At : goal.returns-in-At
+pub returns-in-Some : goal.returns-in-Some
 unfolding found_as_paper
-returns-in-At c = sym (ap found_as_paper c.in-At.is)
+returns-in-Some c = sym (ap found_as_paper c.in-Some.is)
 
-pub returns-in-Nowhere : goal.returns-in-Nowhere
+pub returns-in-None : goal.returns-in-None
 unfolding found_as_paper
-returns-in-Nowhere c = c.told.ensures ∙ sym (ap found_as_paper c.in-Nowhere.is)
+returns-in-None c = c.told.ensures ∙ sym (ap found_as_paper c.in-None.is)

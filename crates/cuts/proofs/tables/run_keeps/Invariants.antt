@@ -1,4 +1,3 @@
-use Prim.Native.Nat.{◌-◌}
 use mathlib.Core.List.{[]}
 use Rattle.cuts.proofs.Runs.{Running}
 use Rattle.cuts.specs.Sides.{keeps_to}
@@ -6,8 +5,5 @@ use Rattle.paper.specs.rules.Table.{every_word}
 use Rattle.views.specs.Shown.{table_by}
 use Rattle.cuts.proofs.tables.run_keeps.Given as goal
 
-abbrev pub invariant-loop-t : goal.invariant-loop-t
-invariant-loop-t l = Running (every_word (keeps_to l.cut)) (table_by [] l.b l.index l.view) l.from l.to l.t
-
-abbrev pub decreases-loop-t : goal.decreases-loop-t
-decreases-loop-t l = l.to - l.t
+abbrev pub invariant-loop-k : goal.invariant-loop-k
+invariant-loop-k l = Running (every_word (keeps_to l.cut)) (table_by [] l.b l.index l.view) l.from l.to l.k

@@ -4,12 +4,12 @@ use Rattle.gate.proofs.ReadOnce.{read-accepted, read-judged}
 use Rattle.paper.proofs.bytes.Bytes.{slice-bytes}
 use Rattle.gate.proofs.whole.by_later.Goals as goal
 
-pub returns-in-Nothing : goal.returns-in-Nothing
-returns-in-Nothing c =
+pub returns-in-Ok : goal.returns-in-Ok
+returns-in-Ok c =
     read-accepted _ _ _ c.requires (slice-bytes c.args.b.now c.shared_slice_known-1.given) _ refl c.order_of-order.ensures refl
-    c.later.result c.later.ensures.says c.in-Nothing.is
+    c.later.result c.later.ensures.says c.in-Ok.is
 
-pub returns-in-Says : goal.returns-in-Says
-returns-in-Says c =
+pub returns-in-Err : goal.returns-in-Err
+returns-in-Err c =
     read-judged _ _ _ c.requires (slice-bytes c.args.b.now c.shared_slice_known-1.given) _ refl c.order_of-order.ensures refl
-    c.later.result c.later.ensures.says c.in-Says.is c.clear.ensures
+    c.later.result c.later.ensures.says c.in-Err.is c.clear.ensures

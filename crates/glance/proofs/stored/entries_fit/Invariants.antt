@@ -1,9 +1,9 @@
+use Prim.Native.Nat.{ℕ, ◌+◌, ◌*◌, ◌/◌}
+use mathlib.Core.Path.{◌≡◌}
 use Rattle.glance.proofs.EntriesFit.{Entering}
 use Rattle.paper.specs.terms.Reading.{record_in}
 use Rattle.glance.proofs.stored.entries_fit.Given as goal
 
-abbrev pub invariant-loop-left : goal.invariant-loop-left
-invariant-loop-left l = Entering l.work (record_in l.order l.bytes) l.order l.bytes l.p l.left l.free
-
-abbrev pub decreases-loop-left : goal.decreases-loop-left
-decreases-loop-left l = l.left
+-- so many words are left
+abbrev pub invariant-loop-i : goal.invariant-loop-i
+invariant-loop-i l = (left : ℕ) × (l.i + left / 3 ≡ l.n) × Entering l.work (record_in l.order l.bytes) l.order l.bytes (12 + 12 * l.i) left l.free

@@ -1,4 +1,3 @@
-use Prim.Native.Nat.{◌-◌}
 use lib.ListN.{length}
 use Rattle.glance.proofs.Glances.{Sweeping}
 use Rattle.views.specs.Shown.{table_by}
@@ -6,6 +5,3 @@ use Rattle.glance.proofs.whole.sweep.Given as goal
 
 abbrev pub invariant-loop-k : goal.invariant-loop-k
 invariant-loop-k l = Sweeping (table_by l.base l.b l.index l.view) l.view.n l.back (length l.initial.work) l.k l.all l.work
-
-abbrev pub decreases-loop-k : goal.decreases-loop-k
-decreases-loop-k l = l.view.n - l.k

@@ -4,5 +4,5 @@ use Rattle.groups.proofs.asked.parts_whole.Goals as goal
 
 pub returns : goal.returns
 returns c =
-    let a = c.args in
-    parts-whole-is a.s.now a.from a.first a.second a.end c.part_whole.ensures c.part_whole-2.ensures c.part_whole-3.ensures
+    let f = c.args.front in
+    parts-whole-is c.args.s.now f.functions f.lines f.relocations f.end c.part_whole.ensures c.part_whole-2.ensures c.part_whole-3.ensures

@@ -1,81 +1,58 @@
 -- `join::whole::join` meets its contract: both checks, then what the limits leave.
-use Prim.Native.Nat.{ℕ}
-use mathlib.Core.Path.{ap, ◌∙◌, subst}
+use Rattle.std.specs.Prelude.{Err, Result, List, ℕ}
+use mathlib.Core.Path.{◌≡◌, ap, ◌∙◌, subst}
 use lib.ListN.{length}
 use Rattle.gate.specs.Check.{CheckOf}
 use Rattle.join.proofs.JoinAnswers.{first-refused, second-refused, both-accepted, limits-decide}
+use Rattle.paper.proofs.basics.Exits.{exit-same, mapped-err, mapped-ok}
 use Rattle.paper.proofs.bytes.Bytes.{slice-bytes}
+use Rattle.paper.specs.declared.JoinError.{JoinError}
+use Rattle.paper.specs.declared.Report.{Report}
 use Rattle.paper.specs.rules.Gate.{zeros}
-use Rattle.paper.specs.declared.Checked.{Checked}
 use Rattle.join.proofs.whole.join.Goals as goal
 
 -- the second check finds as many places lent as the first
-second : (c : goal.After-join_accepted-arg-1) →
-    let a = c.args in
-    CheckOf c.check-in-Accepted.result a.b.now (length a.index.now) (length a.work.now) c.check-in-Accepted.new.index c.check-in-Accepted.new.work
-second c =
-    let a = c.args in
-    subst (λ (w : ℕ). CheckOf c.check-in-Accepted.result a.b.now (length a.index.now) w c.check-in-Accepted.new.index c.check-in-Accepted.new.work)
-    c.check.auto.work
-    (subst (λ (p : ℕ). CheckOf c.check-in-Accepted.result a.b.now p (length c.check.new.work) c.check-in-Accepted.new.index c.check-in-Accepted.new.work)
-    c.check.auto.index c.check-in-Accepted.ensures)
-
--- the second check finds as many places lent as the first
-second-2 : (c : goal.In-Refused-check) →
-    let a = c.args in
-    CheckOf c.check-in-Accepted.result a.b.now (length a.index.now) (length a.work.now) c.check-in-Accepted.new.index c.check-in-Accepted.new.work
-second-2 c =
-    let a = c.args in
-    subst (λ (w : ℕ). CheckOf c.check-in-Accepted.result a.b.now (length a.index.now) w c.check-in-Accepted.new.index c.check-in-Accepted.new.work)
-    c.check.auto.work
-    (subst (λ (p : ℕ). CheckOf c.check-in-Accepted.result a.b.now p (length c.check.new.work) c.check-in-Accepted.new.index c.check-in-Accepted.new.work)
-    c.check.auto.index c.check-in-Accepted.ensures)
-
--- the second check finds as many places lent as the first
-second-3 : (c : goal.After-slice_known-in-Accepted-check-2-1) →
-    let a = c.args in
-    CheckOf c.check-in-Accepted.result a.b.now (length a.index.now) (length a.work.now) c.check-in-Accepted.new.index c.check-in-Accepted.new.work
-second-3 c =
-    let a = c.args in
-    subst (λ (w : ℕ). CheckOf c.check-in-Accepted.result a.b.now (length a.index.now) w c.check-in-Accepted.new.index c.check-in-Accepted.new.work)
-    c.check.auto.work
-    (subst (λ (p : ℕ). CheckOf c.check-in-Accepted.result a.b.now p (length c.check.new.work) c.check-in-Accepted.new.index c.check-in-Accepted.new.work)
-    c.check.auto.index c.check-in-Accepted.ensures)
+second : (b : List ℕ) (r : Result ℕ Report) {p w p' w' : ℕ} {x y : List ℕ} → p' ≡ p → w' ≡ w → CheckOf r b p' w' x y → CheckOf r b p w x y
+second b r {p} {w' = w'} {x} {y} i k h = subst (λ (n : ℕ). CheckOf r b p n x y) k (subst (λ (n : ℕ). CheckOf r b n w' x y) i h)
 
 pub join_accepted-requires : goal.join_accepted-requires
 join_accepted-requires c =
     let a = c.args in
     both-accepted a.a.now a.b.now _ _
-    (subst (λ (r : Checked). CheckOf r a.a.now (length a.index.now) (length a.work.now) c.check.new.index c.check.new.work)
-    c.in-Accepted.is c.check.ensures)
-    (subst (λ (r : Checked). CheckOf r a.b.now (length a.index.now) (length a.work.now) c.check-in-Accepted.new.index c.check-in-Accepted.new.work)
-    c.in-Accepted-check.is (second c))
+    (subst (λ (r : Result ℕ Report). CheckOf r a.a.now (length a.index.now) (length a.work.now) c.check.new.index c.check.new.work)
+    (mapped-ok _ c.check.result c.map_err.ensures.cases c.in_ok-n.was) c.check.ensures)
+    (subst (λ (r : Result ℕ Report). CheckOf r a.b.now (length a.index.now) (length a.work.now) c.check-2.new.index c.check-2.new.work)
+    (mapped-ok _ c.check-2.result c.map_err-2.ensures.cases c.in_ok-m.was) (second a.b.now c.check-2.result c.check.auto.index c.check.auto.work c.check-2.ensures))
     (slice-bytes a.a.now c.shared_slice_known-1.given)
     (slice-bytes a.b.now c.shared_slice_known-2-1.given)
 
-pub returns-in-Refused : goal.returns-in-Refused
-returns-in-Refused c =
+pub returns-in_err-n : goal.returns-in_err-n
+returns-in_err-n c =
     let a = c.args in
-    first-refused a.a.now a.b.now _ _ a.out.now
-    (subst (λ (r : Checked). CheckOf r a.a.now (length a.index.now) (length a.work.now) c.check.new.index c.check.new.work)
-    c.in-Refused.is c.check.ensures)
+    let (r, is, same) = mapped-err _ c.check.result c.map_err.ensures.cases c.in_err-n.was in
+    rw (exit-same c.from_residual.result c.from_residual.ensures.1 ∙ ap (λ (x : JoinError). Err x) same)
+    (first-refused a.a.now a.b.now _ _ a.out.now
+    (subst (λ (r : Result ℕ Report). CheckOf r a.a.now (length a.index.now) (length a.work.now) c.check.new.index c.check.new.work)
+    is c.check.ensures))
 
-pub returns-in-Refused-check : goal.returns-in-Refused-check
-returns-in-Refused-check c =
+pub returns-in_err-m : goal.returns-in_err-m
+returns-in_err-m c =
     let a = c.args in
-    second-refused a.a.now a.b.now _ _
-    (subst (λ (r : Checked). CheckOf r a.a.now (length a.index.now) (length a.work.now) c.check.new.index c.check.new.work)
-    c.in-Accepted.is c.check.ensures)
+    let (r, is, same) = mapped-err _ c.check-2.result c.map_err-2.ensures.cases c.in_err-m.was in
+    rw (exit-same c.from_residual-in_err-m.result c.from_residual-in_err-m.ensures.1 ∙ ap (λ (x : JoinError). Err x) same)
+    (second-refused a.a.now a.b.now _ _
+    (subst (λ (r : Result ℕ Report). CheckOf r a.a.now (length a.index.now) (length a.work.now) c.check.new.index c.check.new.work)
+    (mapped-ok _ c.check.result c.map_err.ensures.cases c.in_ok-n.was) c.check.ensures)
     a.out.now
-    (subst (λ (r : Checked). CheckOf r a.b.now (length a.index.now) (length a.work.now) c.check-in-Accepted.new.index c.check-in-Accepted.new.work)
-    c.in-Refused-check.is (second-2 c))
+    (subst (λ (r : Result ℕ Report). CheckOf r a.b.now (length a.index.now) (length a.work.now) c.check-2.new.index c.check-2.new.work)
+    is (second a.b.now c.check-2.result c.check.auto.index c.check.auto.work c.check-2.ensures)))
 
-pub returns-in-Accepted-check : goal.returns-in-Accepted-check
-returns-in-Accepted-check c =
+pub returns : goal.returns
+returns c =
     let a = c.args in
     limits-decide a.a.now a.b.now _ _
-    (subst (λ (r : Checked). CheckOf r a.a.now (length a.index.now) (length a.work.now) c.check.new.index c.check.new.work)
-    c.in-Accepted.is c.check.ensures)
-    (subst (λ (r : Checked). CheckOf r a.b.now (length a.index.now) (length a.work.now) c.check-in-Accepted.new.index c.check-in-Accepted.new.work)
-    c.in-Accepted-check.is (second-3 c))
-    (c.clear.ensures ∙ ap zeros (c.check-in-Accepted.auto.index ∙ c.check.auto.index)) c.join_accepted.ensures
+    (subst (λ (r : Result ℕ Report). CheckOf r a.a.now (length a.index.now) (length a.work.now) c.check.new.index c.check.new.work)
+    (mapped-ok _ c.check.result c.map_err.ensures.cases c.in_ok-n.was) c.check.ensures)
+    (subst (λ (r : Result ℕ Report). CheckOf r a.b.now (length a.index.now) (length a.work.now) c.check-2.new.index c.check-2.new.work)
+    (mapped-ok _ c.check-2.result c.map_err-2.ensures.cases c.in_ok-m.was) (second a.b.now c.check-2.result c.check.auto.index c.check.auto.work c.check-2.ensures))
+    (c.clear.ensures ∙ ap zeros (c.check-2.auto.index ∙ c.check.auto.index)) c.join_accepted.ensures

@@ -1,9 +1,6 @@
--- `joins::twins::twin_of` is safe and ends.
-use Prim.Native.Nat.{◌<◌, ◌-◌}
+-- `joins::twins::twin_of` is safe.
+use Prim.Native.Nat.{◌<◌}
 use Rattle.joins.proofs.twins.twin_of.Given as goal
 
-abbrev pub invariant-loop-u : goal.invariant-loop-u
-invariant-loop-u l = 0 < l.left
-
-abbrev pub decreases-loop-u : goal.decreases-loop-u
-decreases-loop-u l = l.last - l.u
+abbrev pub invariant-loop-k : goal.invariant-loop-k
+invariant-loop-k l = 0 < l.left

@@ -5,7 +5,6 @@ use Rattle.paper.specs.terms.Reading.{record_in}
 use Rattle.paper.specs.rules.Table.{record_at, kind_of}
 use Rattle.rows.proofs.RecordWords.{kind-read, third-read}
 use Rattle.layout.proofs.LayoutKinds.{layout-struct, layout-union, layout-array, layout-var, layout-func, layout-tag, layout-section, layout-other}
-use borrow.Author.Rules.{rules}
 use Rattle.layout.proofs.kinds.layout_ok.Goals as goal
 
 -- the kind that was read is that of the type's record

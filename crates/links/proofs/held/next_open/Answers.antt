@@ -1,5 +1,4 @@
 -- `links::held::next_open` meets its contract: all that is held by the slots that were passed is done.
-use Prim.Native.Nat.{◌-◌}
 use native.Mathlib.Omega.{arith}
 use Rattle.links.proofs.Looks.{looking-start, looking-few, looking-next, looking-found, looking-done, slots_read}
 use Rattle.links.proofs.held.next_open.Goals as goal

@@ -1,5 +1,5 @@
 -- `list::tables::list_len` meets its contract: record by record, what is counted and what is left are the list.
-use Prim.Native.Nat.{ℕ, ◌+◌, ◌-◌, ◌*◌}
+use Prim.Native.Nat.{ℕ, ◌+◌, ◌*◌}
 use mathlib.Core.Path.{sym, ap, ap₂, ◌∙◌, subst}
 use mathlib.Core.List.{List}
 use native.Mathlib.Omega.{arith}
@@ -7,7 +7,6 @@ use lib.ListN.{length}
 use Rattle.list.proofs.Walking.{Walking, Step, Sections, sections, walking_start, walking-step, walking-done}
 use Rattle.paper.proofs.bytes.Bytes.{part-rest}
 use Rattle.paper.specs.declared.Order.{Order}
-use Rattle.paper.specs.rules.Header.{order_of}
 use Rattle.paper.specs.rules.Word.{word_at}
 use Rattle.list.proofs.tables.list_len.Goals as goal
 

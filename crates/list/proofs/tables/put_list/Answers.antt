@@ -1,5 +1,5 @@
 -- `list::tables::put_list` meets its contract: record by record, what is laid and what is left are the list.
-use Prim.Native.Nat.{ℕ, ◌+◌, ◌-◌, ◌*◌}
+use Prim.Native.Nat.{ℕ, ◌+◌, ◌*◌}
 use mathlib.Core.Path.{ap, ap₂, ◌∙◌}
 use mathlib.Core.List.{List}
 use native.Mathlib.Omega.{arith}
@@ -7,7 +7,6 @@ use Rattle.list.proofs.Walking.{Sections, Step, laying-done, laying-long, laying
 use Rattle.lists.specs.List.{string_tag}
 use Rattle.paper.proofs.bytes.Bytes.{part-rest}
 use Rattle.paper.specs.declared.Order.{Order}
-use Rattle.paper.specs.rules.Header.{order_of}
 use Rattle.paper.specs.rules.Word.{word_at}
 use Rattle.list.proofs.tables.put_list.Goals as goal
 

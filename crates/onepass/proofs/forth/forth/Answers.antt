@@ -1,5 +1,4 @@
 -- `onepass::forth::forth` meets its contract. The loop's invariant: `Passing`.
-use Prim.Native.Nat.{◌-◌}
 use mathlib.Core.Path.{refl}
 use native.Mathlib.Omega.{arith}
 use Rattle.onepass.proofs.Passing.{passing-start, stepped-own, passing-further, passing-next, passing-done, passing-all}

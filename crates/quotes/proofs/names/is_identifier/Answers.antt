@@ -2,8 +2,8 @@
 use Rattle.quotes.proofs.Bare.{spelt-whole, spelt-none}
 use Rattle.quotes.proofs.names.is_identifier.Goals as goal
 
-pub returns-in-Bytes : goal.returns-in-Bytes
-returns-in-Bytes c = spelt-whole _ c.in-Bytes.is c.identifier.ensures
+pub returns-in-Some : goal.returns-in-Some
+returns-in-Some c = spelt-whole _ c.in-Some.is c.identifier.ensures
 
-pub returns-in-Not : goal.returns-in-Not
-returns-in-Not c = spelt-none _ c.in-Not.is c.identifier.ensures
+pub returns-in-None : goal.returns-in-None
+returns-in-None c = spelt-none _ c.in-None.is c.identifier.ensures

@@ -1,7 +1,5 @@
 -- `replay::given::places` meets its contract: what is passed is the words so far.
-use Prim.Native.Nat.{◌-◌}
 use native.Mathlib.Omega.{arith}
-use lib.ListN.{length, length-set}
 use Rattle.replay.proofs.Words.{filling-start, filling-inside, filling-next, filling-end}
 use Rattle.replay.proofs.given.places.Goals as goal
 
@@ -9,19 +7,13 @@ pub loop-i-init : goal.loop-i-init
 loop-i-init c = filling-start c.requires
 
 pub slice_bounds-read-count : goal.slice_bounds-read-count
-slice_bounds-read-count c = omega (arith, filling-inside c.loop-i.invariant c.loop-i-test.true)
+slice_bounds-read-count c = omega (arith, filling-inside c.loop-i.invariant (omega (arith, c.loop-i-test.true)))
 
 pub slice_bounds-read-start : goal.slice_bounds-read-start
-slice_bounds-read-start c = omega (arith, filling-inside c.loop-i.invariant c.loop-i-test.true)
-
-pub overflow_add-at : goal.overflow_add-at
-overflow_add-at c = omega (arith, filling-inside c.loop-i.invariant c.loop-i-test.true)
-
-pub loop-i-smaller : goal.loop-i-smaller
-loop-i-smaller c = simp length-set (omega arith)
+slice_bounds-read-start c = omega (arith, filling-inside c.loop-i.invariant (omega (arith, c.loop-i-test.true)))
 
 pub loop-i-preserved : goal.loop-i-preserved
-loop-i-preserved c = filling-next c.loop-i.invariant c.loop-i-test.true c.read.ensures
+loop-i-preserved c = filling-next c.loop-i.invariant (omega (arith, c.loop-i-test.true)) c.read.ensures
 
 pub returns : goal.returns
-returns c = filling-end c.loop-i.invariant c.loop-i-test.false
+returns c = filling-end c.loop-i.invariant (omega (arith, c.loop-i-test.false))

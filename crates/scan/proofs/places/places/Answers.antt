@@ -1,5 +1,5 @@
 -- `places::places` meets its contract: the places passed are written, and those of the records to come are as they were.
-use Prim.Native.Nat.{◌+◌, ◌-◌, ◌*◌, ◌≤◌}
+use Prim.Native.Nat.{◌+◌, ◌*◌, ◌≤◌}
 use mathlib.Core.Path.{◌≡◌, ap, ◌∙◌}
 use native.Mathlib.Omega.{arith}
 use Rattle.paper.specs.rules.Header.{order_of}

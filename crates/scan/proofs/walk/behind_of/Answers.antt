@@ -1,4 +1,5 @@
 -- `walk::behind_of` meets its contract: each of its answers is one of the ways of a step.
+use Rattle.std.specs.Prelude.{Ok}
 use mathlib.Core.Bool.{not}
 use Prim.Native.Nat.{ℕ, ◌+◌, ◌*◌}
 use mathlib.Core.Path.{◌≡◌, sym, ap, ◌∙◌}
@@ -6,7 +7,6 @@ use native.Mathlib.Omega.{arith}
 use borrow.Author.Tests.{not-true, not-false}
 use Rattle.paper.specs.rules.Table.{kind_in, tail_length}
 use Rattle.paper.specs.rules.Walk.{known}
-use Rattle.scan.specs.declared.walk.Behind.TheVariants.{Next}
 use Rattle.rows.proofs.RoleCodes.{tail_length-few}
 use Rattle.scan.proofs.WalkSteps.{next_place, known_at, way-behind_of, head-cut, unknown, tail-cut, onward}
 use Rattle.scan.proofs.walk.behind_of.Goals as goal
@@ -56,5 +56,5 @@ returns-then-room-tail c =
 pub returns : goal.returns
 returns c =
     let next = next_here-2 c in
-    ap (λ (p : ℕ). Next (record { 0 = p })) (sym next)
+    ap (λ (p : ℕ). Ok (record { 0 = p })) (sym next)
     ∙ sym (way-behind_of (onward (omega arith) (known-here-3 c ∙ not-false c.is_known.result (ap not c.if-not-is_known.false)) (omega arith)))

@@ -1,8 +1,8 @@
+use Prim.Native.Nat.{ℕ, ◌+◌, ◌*◌}
+use mathlib.Core.Path.{◌≡◌}
 use Rattle.shift.proofs.Entries.{Entering}
 use Rattle.shift.proofs.groups.raise_entries.Given as goal
 
-abbrev pub invariant-loop-left : goal.invariant-loop-left
-invariant-loop-left l = Entering l.by l.g l.bytes l.v l.initial.p l.initial.out l.p l.left l.out
-
-abbrev pub decreases-loop-left : goal.decreases-loop-left
-decreases-loop-left l = l.left
+-- so many are left
+abbrev pub invariant-loop-i : goal.invariant-loop-i
+invariant-loop-i l = (left : ℕ) × (l.i + left ≡ l.v) × Entering l.by l.g l.bytes l.v l.at.0 l.initial.out (l.at.0 + l.step * l.i) left l.out

@@ -1,8 +1,8 @@
+use Prim.Native.Nat.{ℕ, ◌+◌}
+use mathlib.Core.Path.{◌≡◌}
 use Rattle.shift.proofs.RaisedRecords.{Running}
 use Rattle.shift.proofs.records.raise_records.Given as goal
 
-abbrev pub invariant-loop-left : goal.invariant-loop-left
-invariant-loop-left l = Running l.by l.s l.n l.initial.out l.p l.left l.out
-
-abbrev pub decreases-loop-left : goal.decreases-loop-left
-decreases-loop-left l = l.left
+-- so many are left
+abbrev pub invariant-loop : goal.invariant-loop
+invariant-loop l = (left : ℕ) × (l.counter + left ≡ l.n) × Running l.by l.s l.n l.initial.out l.p left l.out

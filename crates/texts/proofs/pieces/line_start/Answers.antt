@@ -4,12 +4,12 @@ use Rattle.texts.proofs.Passed.{skipping-start, skipping-newline, skipping-last,
 use Rattle.texts.proofs.pieces.line_start.Goals as goal
 use Rattle.texts.proofs.pieces.line_start.Goals.{then-at-s, else-at-s}
 
-pub loop-i-init : goal.loop-i-init
-loop-i-init c = skipping-start _ _
+pub loop-init : goal.loop-init
+loop-init c = skipping-start _ _
 
-pub loop-i-preserved : goal.loop-i-preserved
-loop-i-preserved c =
-    let inv = c.loop-i.invariant in
+pub loop-preserved : goal.loop-preserved
+loop-preserved c =
+    let inv = c.loop.invariant in
     let end = c.line_end-at.ensures in
     elim c.if-at-s.branch [
       | then-at-s w ↦ skipping-newline inv (omega arith) end w.if-at-s.true w.at-is
@@ -17,4 +17,4 @@ loop-i-preserved c =
     ]
 
 pub returns : goal.returns
-returns c = skipping-done c.loop-i.invariant (omega arith)
+returns c = skipping-done c.loop.invariant (omega arith)

@@ -1,29 +1,29 @@
--- `values::numbers::few` meets its contract. What is passed is the number of the bytes from i on.
-use Prim.Native.Nat.{◌-◌, ◌<◌}
+-- `values::numbers::few` meets its contract. What is passed is the number of the last bytes.
 use native.Mathlib.Omega.{arith}
-use lib.ListN.{get_or}
-use Rattle.values.proofs.ReadBytes.{few-start, few-below, few-step, few-done}
+use lib.ListN.{length-reverse, length-append}
+use Rattle.std.proofs.lemmas.Iterator.Adapters.{YieldsList-from_rev_slice}
+use Rattle.std.proofs.lemmas.Iterator.Consumers.{YieldsList-turn, YieldsList-end}
+use Rattle.values.proofs.ReadBytes.{few-start, few-below, few-byte, few-turn, few-done}
 use Rattle.values.proofs.numbers.few.Goals as goal
 
-byte : (c : goal.After-shared_slice_known-1) → get_or c.args.s.now (c.loop-i.i - 1) 0 < 256
-byte c = (c.shared_slice_known-1.given (c.loop-i.i - 1)).fits
-
-pub loop-i-init : goal.loop-i-init
-loop-i-init c = few-start c.args.s.now
-
-pub overflow_sub-i : goal.overflow_sub-i
-overflow_sub-i c = c.loop-i-test.true
+pub loop-c-init : goal.loop-c-init
+loop-c-init c = few-start c.args.s.now (omega arith)
 
 pub overflow_mul-n : goal.overflow_mul-n
-overflow_mul-n c = let b = few-below c.args.s.now c.requires c.loop-i.invariant in omega arith
+overflow_mul-n c = let b = few-below c.args.s.now c.requires c.loop-c.invariant in omega arith
 
 pub overflow_add-n : goal.overflow_add-n
 overflow_add-n c =
-    let b = few-below c.args.s.now c.requires c.loop-i.invariant in
-    omega (arith, byte c)
+    let t = YieldsList-turn (YieldsList-from_rev_slice c.args.s.now (cc)) c.loop-c.yielded _ c.loop-c.yielded_by _ _ c.in-Some.c c.in-Some.is c.next.ensures.steps in
+    let b = few-below c.args.s.now c.requires c.loop-c.invariant in
+    omega (arith, few-byte c.args.s.now t (λ i. (c.type_inv.s i).fits))
 
-pub loop-i-preserved : goal.loop-i-preserved
-loop-i-preserved c = few-step c.args.s.now c.loop-i.invariant c.loop-i-test.true (byte c)
+pub loop-c-preserved : goal.loop-c-preserved
+loop-c-preserved c =
+    let t = YieldsList-turn (YieldsList-from_rev_slice c.args.s.now (cc)) c.loop-c.yielded _ c.loop-c.yielded_by _ _ c.in-Some.c c.in-Some.is c.next.ensures.steps in
+    few-turn c.args.s.now t (λ i. (c.type_inv.s i).fits) c.loop-c.invariant (length-append c.loop-c.yielded _)
 
 pub returns : goal.returns
-returns c = few-done c.args.s.now c.loop-i.invariant (omega arith)
+returns c =
+    let t = YieldsList-end (YieldsList-from_rev_slice c.args.s.now (cc)) c.loop-c.yielded _ c.loop-c.yielded_by _ _ c.in-None.is c.next.ensures.steps in
+    few-done c.args.s.now c.loop-c.invariant (omega (arith, t.1, length-reverse c.args.s.now))

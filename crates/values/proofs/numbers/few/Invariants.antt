@@ -1,9 +1,7 @@
 use Prim.Native.Nat.{◌-◌}
+use lib.ListN.{length}
 use Rattle.values.proofs.ReadBytes.{FewInv}
 use Rattle.values.proofs.numbers.few.Given as goal
 
-abbrev pub invariant-loop-i : goal.invariant-loop-i
-invariant-loop-i l = FewInv l.s l.n l.i
-
-abbrev pub decreases-loop-i : goal.decreases-loop-i
-decreases-loop-i l = l.i
+abbrev pub invariant-loop-c : goal.invariant-loop-c
+invariant-loop-c l = FewInv l.s l.n (length l.s - length l.yielded)

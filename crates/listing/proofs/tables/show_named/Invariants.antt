@@ -1,9 +1,0 @@
--- `listing::tables::show_named` is safe and ends.
-use Prim.Native.Nat.{◌-◌}
-use Rattle.listing.proofs.tables.show_named.Given as goal
-
-abbrev pub invariant-loop-t : goal.invariant-loop-t
-invariant-loop-t l = Unit {0}
-
-abbrev pub decreases-loop-t : goal.decreases-loop-t
-decreases-loop-t l = l.n - l.t

@@ -1,9 +1,0 @@
--- `reading::numbers::value_at` is safe and ends.
-use Prim.Native.Nat.{◌-◌}
-use Rattle.reading.proofs.numbers.value_at.Given as goal
-
-abbrev pub invariant-loop-i : goal.invariant-loop-i
-invariant-loop-i l = Unit {0}
-
-abbrev pub decreases-loop-i : goal.decreases-loop-i
-decreases-loop-i l = l.n - l.i
