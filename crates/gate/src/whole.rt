@@ -13,7 +13,11 @@ use views::View;
 fn by_phases(b: &[u8], index: &mut [u32], work: &mut [u32]) -> Result<u32, Report>
     ensures { AnswerOf result b.now (length index.old) (length work.old) index.new }
 {
-    let n = scan(b, index, work.len())?;
+    let n = match scan(b, index, work.len()) {
+        Ok(n) => n,
+        // no `?`: on an arm a wrong report can be planted alone (must-fail/check_one_report.edit)
+        Err(r) => return Err(r),
+    };
     let order = words::order_of(b);
     match judge(
         &b[..0],

@@ -35,11 +35,12 @@ fn name_bytes(blob: &[u8], at: u32) -> &[u8] {
 
 // Up to a zero byte, which both must have, two parts hold the same.
 fn same_until_zero(s: &[u8], z: &[u8]) -> bool {
-    for (a, b) in s.iter().zip(z) {
-        if *a != *b {
+    // by their places and no `zip`, whose two ends are asked for each byte: each type of one table meets each of the other here
+    for k in 0..s.len().min(z.len()) {
+        if s[k] != z[k] {
             return false;
         }
-        if *a == 0 {
+        if s[k] == 0 {
             return true;
         }
     }

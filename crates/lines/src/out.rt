@@ -9,7 +9,7 @@ const ROOM: usize = 65536;
 
 // Where it goes, whether every write has taken all its bytes, whether lines get a mark, how many bytes of records and of strings a base
 // has before the table whose places are told (no strings where there is no base), and the bytes that wait: the first of the buffer.
-#[derive(Drop)]
+#[derive(Clone, Copy)]
 pub struct Out {
     pub fd: i32,
     pub is_whole: bool,
@@ -18,8 +18,6 @@ pub struct Out {
     pub strings: u32,
     pub at: usize,
     pub buf: [u8; ROOM],
-    // No more wait than there is room for.
-    ghost inside: { at ≤ 65536 },
 }
 
 impl Out {
@@ -57,11 +55,13 @@ impl Out {
         self.is_whole = self.is_whole && io::write_all(self.fd, s);
     }
 
-    // What waits is written.
+    // What waits is written; nothing does in one that says more wait than there is room for.
     pub fn flush(&mut self)
         ensures { self.new.at ≡ 0 }
     {
-        self.is_whole = self.is_whole && io::write_all(self.fd, &self.buf[..self.at]);
+        if self.at <= ROOM {
+            self.is_whole = self.is_whole && io::write_all(self.fd, &self.buf[..self.at]);
+        }
         self.at = 0;
     }
 
@@ -76,7 +76,7 @@ impl Out {
 
     // One piece more. One that is longer than the buffer is written at once.
     pub fn put(&mut self, s: &[u8]) {
-        if s.len() <= ROOM - self.at {
+        if self.at <= ROOM && s.len() <= ROOM - self.at {
             return self.add(s);
         }
         self.flush();

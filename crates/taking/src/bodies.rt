@@ -37,7 +37,11 @@ fn carry(s: &[u8], tag: u32, first: usize) -> Result<Body, Fault>
     let mut end = 3 + first;
     // A while: a full field says that another follows, and nothing says how many.
     while last == MOST {
-        let next = take_field(&s[end..])?;
+        let next = match take_field(&s[end..]) {
+            Ok(next) => next,
+            // no `?`: on an arm a wrong fault can be planted alone (must-fail/later_fault_is_52.edit)
+            Err(f) => return Err(f),
+        };
         if next.tag != CARRY {
             return Err(Fault::OutOfPlace);
         }

@@ -98,6 +98,16 @@ pub fn write(order: Order, b: &mut [u8], at: Place, w: u32)
     b[p + 3] = (v / 16777216 % 256) as u8;
 }
 
+// A loop and no `copy_from_slice`: that is a call of `memmove`, and the archive for C needs `memset` alone (include/scrieve.h).
+fn copy(out: &mut [u8], at: usize, s: &[u8])
+    requires { at + length s.now ≤ length out.old }
+    ensures { out.new ≡ put out.old at s.now }
+{
+    for (i, b) in s.iter().enumerate() {
+        out[at + i] = *b;
+    }
+}
+
 // The bytes are laid over others, from a place on. Nothing changes where they do not fit behind it.
 pub fn lay(out: &mut [u8], at: usize, s: &[u8])
     ensures { out.new ≡ laid out.old at s.now }
@@ -108,6 +118,5 @@ pub fn lay(out: &mut [u8], at: usize, s: &[u8])
     if out.len() - at < s.len() {
         return;
     }
-    let end = at + s.len();
-    out[at..end].copy_from_slice(s);
+    copy(out, at, s)
 }

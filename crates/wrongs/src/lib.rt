@@ -33,6 +33,7 @@ pub enum Wrong {
     TwoTables,
     TwoBeside,
     NoShow,
+    Untold, // behind the last line: no reason is told
 }
 
 fn usage(fd: i32) -> bool {

@@ -36,4 +36,4 @@ loop-i-preserved c =
     (ap not c.if-not-three_ok.false) c.entry_words-step.ensures (omega arith)
 
 pub returns : goal.returns
-returns c = entering-done c.loop-i.invariant c.loop-i-test.false
+returns c = entering-done c.loop-i.invariant (omega arith)

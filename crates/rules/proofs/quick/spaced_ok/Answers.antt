@@ -19,4 +19,4 @@ loop-i-preserved c =
     (ap not c.if-not-optional_ok.false) (omega arith)
 
 pub returns : goal.returns
-returns c = entering-done c.loop-i.invariant c.loop-i-test.false
+returns c = entering-done c.loop-i.invariant (omega arith)
